@@ -1,0 +1,73 @@
+-- Routers, links and costs (01, Stations, links and limits; Order).
+-- Assumes nothing.
+use Prim.Native.Nat.{ℕ, zero, suc, _≤_, _<_}
+use mathlib.Core.Bool.{Bool, cond}
+use mathlib.Core.List.{List, [], _∷_, List·Memᴰ, map}
+use mathlib.Core.Path.{_≡_}
+use mathlib.Core.Logic.{_≢_}
+use lib.Dec.{eqb}
+use lib.ListN.{length, getD}
+use Rattle.network.specs.Lists.{Pairwise, Distinct, below}
+
+-- An arc is a link seen from one of its ends: the place of the neighbour that it leads to, the cost in that direction, and the link's number.
+pub record Arc : Type 0 where
+  pub to : ℕ
+  pub cost : ℕ
+  pub link : ℕ
+
+-- A network: the router IDs by place, for each place its arcs in the order of their link numbers, and how many links there are. A router's *place*
+-- is its turn in the stream, a link's number its turn among the links, both from 0 (01, Stations, links and limits).
+pub record Network : Type 0 where
+  pub ids : List ℕ
+  pub arcs : List (List Arc)
+  pub links : ℕ
+
+-- how many routers there are: N of 01
+unfoldable pub size : Network → ℕ
+size n = length (n .ids)
+
+-- the router ID of a place
+unfoldable pub idOf : Network → ℕ → ℕ
+idOf n u = getD (n .ids) u 0
+
+-- the arcs to the neighbours of u
+unfoldable pub arcsOf : Network → ℕ → List Arc
+arcsOf n u = getD (n .arcs) u []
+
+-- 01, Stations, links and limits: costs are at most 65,535
+unfoldable pub greatestCost : ℕ
+greatestCost = 65535
+
+pub record SoundArc (n : Network) (u : ℕ) (a : Arc) : Type 0 where
+  pub place : a .to < size n
+  pub other : a .to ≢ u
+  pub cost-least : 1 ≤ a .cost
+  pub cost-most : a .cost ≤ greatestCost
+  pub numbered : a .link < n .links
+
+-- What 01 demands of a topology, connection aside: IDs differ; every arc leads to another place below N, at a cost within the limits, over a link
+-- of the network; no two arcs of a router lead to one place or share a link.
+pub record WellFormed (n : Network) : Type 0 where
+  pub each-place : length (n .arcs) ≡ size n
+  pub ids-differ : Distinct (n .ids)
+  pub sound : (u : ℕ) (a : Arc) → List·Memᴰ a (arcsOf n u) → SoundArc n u a
+  pub places-differ : (u : ℕ) → Pairwise (λ a b. a .to ≢ b .to) (arcsOf n u)
+  pub links-differ : (u : ℕ) → Pairwise (λ a b. a .link ≢ b .link) (arcsOf n u)
+
+-- A link as 01 has it: two places and one cost, the same each way.
+pub record Link : Type 0 where
+  pub first : ℕ
+  pub second : ℕ
+  pub cost : ℕ
+
+-- the arcs of u among links, the first of which has the given number
+unfoldable pub arcsAmong : ℕ → ℕ → List Link → List Arc
+arcsAmong u number [] = []
+arcsAmong u number (l ∷ ls) =
+    cond (eqb (l .first) u) (record { to = l .second; cost = l .cost; link = number } ∷ arcsAmong u (suc number) ls)
+    (cond (eqb (l .second) u) (record { to = l .first; cost = l .cost; link = number } ∷ arcsAmong u (suc number) ls)
+    (arcsAmong u (suc number) ls))
+
+-- the network of a list of IDs and a list of links
+unfoldable pub linked : List ℕ → List Link → Network
+linked ids ls = record { ids = ids; arcs = map (λ u. arcsAmong u 0 ls) (below (length ids)); links = length ls }

@@ -1,0 +1,62 @@
+-- Routers that forward by their rows, to the first entry whose link is up (01, Packet, hop and schedule): the first instance of Forwarding.
+-- Assumes nothing.
+use Prim.Native.Nat.{ℕ, _+_}
+use mathlib.Core.Bool.{Bool, cond, _&&_}
+use mathlib.Core.List.{List, [], _∷_, map}
+use mathlib.Core.Option.{Option, none, some}
+use lib.Dec.{eqb, ltb, leb}
+use lib.ListN.{length, getD, replicate}
+use Rattle.network.specs.Lists.{below, every}
+use Rattle.network.specs.Network.{Arc, Network, size}
+use Rattle.network.specs.Distance.{distances}
+use Rattle.network.specs.Row.{row}
+use Rattle.network.specs.Forwarding.{Forwarding, longest}
+use Rattle.network.specs.Calls.{Tests}
+
+-- 01: link states are one byte per link, 1 up, 0 down
+unfoldable pub up : List ℕ → ℕ → Bool
+up states link = eqb (getD states link 0) 1
+
+-- one byte per link, none over 1
+unfoldable pub validStates : Network → List ℕ → Bool
+validStates n states = eqb (length states) (n .links) && every (λ b. leb b 1) states
+
+-- 01: the first entry of the row whose link is up
+unfoldable pub firstLive : List ℕ → List Arc → Option Arc
+firstLive states [] = none
+firstLive states (a ∷ rest) = cond (up states (a .link)) (some a) (firstLive states rest)
+
+-- the routers of a network under an order for d, with rows of at most `limit` entries
+abbrev pub routers : Network → ℕ → ℕ → List ℕ → Forwarding
+routers n d limit order =
+    record {
+      State = ℕ;
+      Entry = Arc;
+      States = List ℕ;
+      home = λ u. eqb u d;
+      row = λ u. row n (distances n d) limit order u;
+      next = λ a. a .to;
+      choose = λ states u. firstLive states (row n (distances n d) limit order u);
+    }
+
+-- 01: the greatest hop count of u, as computed
+unfoldable pub greatestHop : Network → ℕ → ℕ → List ℕ → ℕ → ℕ
+greatestHop n d limit order u = longest (routers n d limit order) (size n) u
+
+-- 01: for all places, the figures that we report
+unfoldable pub greatestHops : Network → ℕ → ℕ → List ℕ → List ℕ
+greatestHops n d limit order = map (greatestHop n d limit order) (below (size n))
+
+-- 01, Refusals, 15, 22 and 23: a start, a packet's station and its hops made are below N; link states are one byte per link, none over 1
+abbrev pub refusals : (n : Network) (d limit : ℕ) (order : List ℕ) → Tests (routers n d limit order)
+refusals n d limit order =
+    record { start-ok = λ u. ltb u (size n); hop-ok = λ states p. ltb (p .station) (size n) && ltb (p .hops) (size n) && validStates n states }
+
+-- a schedule of `rows` rows with all links up
+unfoldable pub allUp : Network → ℕ → List (List ℕ)
+allUp n rows = replicate rows (replicate (n .links) 1)
+
+-- the sum of the arcs' costs
+unfoldable pub costOf : List Arc → ℕ
+costOf [] = 0
+costOf (a ∷ rest) = a .cost + costOf rest

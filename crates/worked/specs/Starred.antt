@@ -1,0 +1,55 @@
+-- The starred facts of 01, Two networks by hand, as one list. A new fact is one line.
+-- Assumes nothing.
+use Prim.Native.Nat.{ℕ, _-_}
+use mathlib.Core.List.{List, [], _∷_, _++_}
+use lib.Dec.{T}
+use lib.ListN.{length, replicate}
+use Rattle.network.specs.Lists.{every}
+use Rattle.network.specs.Network.{Network, Link, linked}
+use Rattle.network.specs.Order.{Mode, shortest-path, free}
+use Rattle.worked.specs.Fact.{Fact, Claim, order-is, row-is, greatest-are, walk-ends, delivered, dropped, upBut, holds}
+
+unfoldable pub link : ℕ → ℕ → ℕ → Link
+link u v c = record { first = u; second = v; cost = c }
+
+-- 01: T has IDs 1, 2, 3; links 0-1 cost 1, 1-2 cost 1, 0-2 cost 3
+unfoldable pub T-network : Network
+T-network = linked (1 ∷ 2 ∷ 3 ∷ []) (link 0 1 1 ∷ link 1 2 1 ∷ link 0 2 3 ∷ [])
+
+-- 01: F has IDs 1 to 6, links numbered 0-1, 0-2, 1-2, 1-3, 2-4, 3-4, 3-5, 4-5, all cost 1
+unfoldable pub F-network : Network
+F-network =
+    linked (1 ∷ 2 ∷ 3 ∷ 4 ∷ 5 ∷ 6 ∷ [])
+    (link 0 1 1 ∷ link 0 2 1 ∷ link 1 2 1 ∷ link 1 3 1 ∷ link 2 4 1 ∷ link 3 4 1 ∷ link 3 5 1 ∷ link 4 5 1 ∷ [])
+
+-- 01: one router alone
+unfoldable pub alone : Network
+alone = linked (1 ∷ []) []
+
+unfoldable pub about : Network → ℕ → Mode → Claim → Fact
+about n d mode claim = record { network = n; destination = d; mode = mode; claim = claim }
+
+-- a schedule for F of N - 1 rows, five: the given ones, then rows with all links up
+unfoldable pub thenAllUp : List (List ℕ) → List (List ℕ)
+thenAllUp rows = rows ++ replicate (5 - length rows) (upBut F-network [])
+
+unfoldable pub starred : List Fact
+starred =
+    about T-network 0 shortest-path (order-is (0 ∷ 1 ∷ 2 ∷ []))
+    ∷ about T-network 1 shortest-path (order-is (1 ∷ 2 ∷ 0 ∷ []))
+    ∷ about T-network 2 shortest-path (order-is (2 ∷ 1 ∷ 0 ∷ []))
+    ∷ about T-network 0 free (order-is (0 ∷ 2 ∷ 1 ∷ []))
+    ∷ about T-network 0 free (row-is 16 1 (0 ∷ 2 ∷ []))
+    ∷ about F-network 0 shortest-path (order-is (0 ∷ 2 ∷ 1 ∷ 4 ∷ 3 ∷ 5 ∷ []))
+    ∷ about F-network 0 shortest-path (greatest-are 16 (0 ∷ 2 ∷ 1 ∷ 3 ∷ 2 ∷ 4 ∷ []))
+    ∷ about F-network 0 shortest-path (greatest-are 1 (0 ∷ 1 ∷ 1 ∷ 2 ∷ 2 ∷ 3 ∷ []))
+    ∷ about F-network 0 shortest-path (walk-ends 16 5 (thenAllUp []) (delivered 0 3))
+    ∷ about F-network 0 shortest-path (walk-ends 16 5 (replicate 5 (upBut F-network (1 ∷ []))) (dropped 2 2))
+    ∷ about F-network 0 shortest-path (walk-ends 16 5 (thenAllUp (upBut F-network (7 ∷ []) ∷ upBut F-network (3 ∷ []) ∷ [])) (delivered 0 4))
+    ∷ about alone 0 shortest-path (order-is (0 ∷ []))
+    ∷ about alone 0 shortest-path (walk-ends 16 0 [] (delivered 0 0))
+    ∷ []
+
+-- The one statement: every fact of the list holds, by computing it.
+abbrev pub StarredHold : Type 0
+StarredHold = T (every holds starred)
