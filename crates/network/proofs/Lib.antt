@@ -1,0 +1,4 @@
+pub mod Below
+pub mod Pigeon
+pub mod Least
+pub mod Distance
