@@ -1,13 +1,13 @@
 -- Routers, links and costs (01, Stations, links and limits; Order).
 -- Assumes nothing.
-use Prim.Native.Nat.{ℕ, zero, suc, _≤_, _<_}
-use mathlib.Core.Bool.{Bool, cond}
+use Prim.Native.Nat.{ℕ, suc, _≤_, _<_}
+use mathlib.Core.Bool.{Bool, true, cond, not, _&&_, _||_}
 use mathlib.Core.List.{List, [], _∷_, List·Memᴰ, map}
 use mathlib.Core.Path.{_≡_}
 use mathlib.Core.Logic.{_≢_}
-use lib.Dec.{eqb}
+use lib.Dec.{eqb, ltb, leb}
 use lib.ListN.{length, getD}
-use Rattle.network.specs.Lists.{Pairwise, Distinct, below}
+use Rattle.network.specs.Lists.{Pairwise, Distinct, below, every, any, distinct}
 
 -- An arc is a link seen from one of its ends: the place of the neighbour that it leads to, the cost in that direction, and the link's number.
 pub record Arc : Type 0 where
@@ -71,3 +71,20 @@ arcsAmong u number (l ∷ ls) =
 -- the network of a list of IDs and a list of links
 unfoldable pub linked : List ℕ → List Link → Network
 linked ids ls = record { ids = ids; arcs = map (λ u. arcsAmong u 0 ls) (below (length ids)); links = length ls }
+
+-- 01, Refusals, 5 to 7: a link joins two different places that are listed, at a cost within the limits
+unfoldable pub soundLink : ℕ → Link → Bool
+soundLink count l =
+    (ltb (l .first) count && ltb (l .second) count) && not (eqb (l .first) (l .second)) && (leb 1 (l .cost) && leb (l .cost) greatestCost)
+
+-- 01, Refusals, 8: two links join one pair, in either order
+unfoldable pub samePair : Link → Link → Bool
+samePair l k = (eqb (l .first) (k .first) && eqb (l .second) (k .second)) || (eqb (l .first) (k .second) && eqb (l .second) (k .first))
+
+unfoldable pub pairsDiffer : List Link → Bool
+pairsDiffer [] = true
+pairsDiffer (l ∷ ls) = not (any (samePair l) ls) && pairsDiffer ls
+
+-- IDs differ, every link is sound, and no pair is linked twice
+unfoldable pub soundLinks : List ℕ → List Link → Bool
+soundLinks ids ls = distinct ids && every (soundLink (length ids)) ls && pairsDiffer ls

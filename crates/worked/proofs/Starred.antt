@@ -1,15 +1,29 @@
 -- The prover computes every starred fact from the definitions.
 -- Assumes nothing.
-use Rattle.network.specs.Lists.{numbersFrom, below, keep, every, any, leastBy, greatestBy, ahead, foremost, insert, sort, member, wins}
-use Rattle.network.specs.Network.{size, idOf, arcsOf, greatestCost, arcsAmong, linked}
+use Rattle.network.specs.Lists.{numbersFrom, below, keep, every, any, leastBy, greatestBy, ahead, foremost, insert, sort, member, distinct, wins}
+use Rattle.network.specs.Network.{size, idOf, arcsOf, greatestCost, arcsAmong, linked, soundLink, samePair, pairsDiffer, soundLinks}
 use Rattle.network.specs.Distance.{absent, distanceIn, through, atFirst, round, rounds, distances}
-use Rattle.network.specs.Order.{reached, shortestNextHops, leadsInto, ready, candidate, placedNeighbours, preferred, select, continued, placing, build}
+use Rattle.network.specs.Order.{reached, shortestNextHops, leadsInto, ready, candidate, placedNeighbours, preferred, select, continued, placing}
+use Rattle.network.specs.Order.{build}
 use Rattle.network.specs.Row.{rank, sortsBefore, rankedBefore, fullRow, row}
 use Rattle.network.specs.Forwarding.{hopTo, hop, walkOn, walkEnd, walk, start, longest}
 use Rattle.network.specs.Routing.{up, firstLive, greatestHop, greatestHops}
+use Rattle.network.proofs.Linked.{linked-well-formed}
 use Rattle.worked.specs.Fact.{upBut, same, endsSo, claimHolds, holds}
-use Rattle.worked.specs.Starred.{link, T-network, F-network, alone, about, thenAllUp, starred, StarredHold}
+use Rattle.worked.specs.Starred.{link, T-network, F-network, alone, about, thenAllUp, starred, StarredHold, WorkedWellFormed}
 
 pub starred-hold : StarredHold
-unfolding numbersFrom below keep every any leastBy greatestBy ahead foremost insert sort member wins size idOf arcsOf greatestCost arcsAmong linked absent distanceIn through atFirst round rounds distances reached shortestNextHops leadsInto ready candidate placedNeighbours preferred select continued placing build rank sortsBefore rankedBefore fullRow row hopTo hop walkOn walkEnd walk start longest up firstLive greatestHop greatestHops upBut same endsSo claimHolds holds link T-network F-network alone about thenAllUp starred
+unfolding numbersFrom below keep every any leastBy greatestBy ahead foremost insert sort member wins
+    size idOf arcsOf greatestCost arcsAmong linked
+    absent distanceIn through atFirst round rounds distances
+    reached shortestNextHops leadsInto ready candidate placedNeighbours preferred select continued placing build
+    rank sortsBefore rankedBefore fullRow row
+    hopTo hop walkOn walkEnd walk start longest
+    up firstLive greatestHop greatestHops
+    upBut same endsSo claimHolds holds
+    link T-network F-network alone about thenAllUp starred
 starred-hold = tt
+
+pub worked-well-formed : WorkedWellFormed
+unfolding every any member distinct greatestCost soundLink samePair pairsDiffer soundLinks link T-network F-network alone
+worked-well-formed = (linked-well-formed _ _ tt, linked-well-formed _ _ tt, linked-well-formed _ _ tt)

@@ -9,7 +9,7 @@ use Rattle.network.specs.Network.{Network}
 use Rattle.network.specs.Distance.{distances}
 use Rattle.network.specs.Order.{Mode, build}
 use Rattle.network.specs.Row.{row}
-use Rattle.network.specs.Forwarding.{Packet, Walk, delivered-at, dropped-at, unfinished-at, walk, start}
+use Rattle.network.specs.Forwarding.{Walk, delivered-at, dropped-at, unfinished-at, walk, start}
 use Rattle.network.specs.Routing.{routers, greatestHops}
 
 -- Which end a walk is expected to have, at which station, after how many hops.

@@ -5,7 +5,7 @@ use mathlib.Core.List.{List, [], _∷_, _++_}
 use lib.Dec.{T}
 use lib.ListN.{length, replicate}
 use Rattle.network.specs.Lists.{every}
-use Rattle.network.specs.Network.{Network, Link, linked}
+use Rattle.network.specs.Network.{Network, Link, WellFormed, linked}
 use Rattle.network.specs.Order.{Mode, shortest-path, free}
 use Rattle.worked.specs.Fact.{Fact, Claim, order-is, row-is, greatest-are, walk-ends, delivered, dropped, upBut, holds}
 
@@ -53,3 +53,7 @@ starred =
 -- The one statement: every fact of the list holds, by computing it.
 abbrev pub StarredHold : Type 0
 StarredHold = T (every holds starred)
+
+-- The three networks are well formed, so every theorem of the crate network holds of them.
+abbrev pub WorkedWellFormed : Type 0
+WorkedWellFormed = WellFormed T-network × WellFormed F-network × WellFormed alone
