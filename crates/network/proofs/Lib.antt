@@ -1,7 +1,12 @@
 pub mod Tests
 pub mod Lists
+pub mod Sort
 pub mod Below
 pub mod Pigeon
 pub mod Least
 pub mod Distance
 pub mod Linked
+pub mod NextHop
+pub mod Candidate
+pub mod Selection
+pub mod Order
