@@ -10,3 +10,6 @@ pub mod NextHop
 pub mod Candidate
 pub mod Selection
 pub mod Order
+pub mod Rank
+pub mod Row
+pub mod Filled

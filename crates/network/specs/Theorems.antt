@@ -1,3 +1,4 @@
 pub mod Network
 pub mod Distance
 pub mod Order
+pub mod Row
