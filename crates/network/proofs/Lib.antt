@@ -4,6 +4,7 @@ pub mod Sort
 pub mod Below
 pub mod Pigeon
 pub mod Least
+pub mod Greatest
 pub mod Distance
 pub mod Linked
 pub mod NextHop
@@ -13,3 +14,5 @@ pub mod Order
 pub mod Rank
 pub mod Row
 pub mod Filled
+pub mod Forwarding
+pub mod Calls

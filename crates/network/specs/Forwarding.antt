@@ -80,6 +80,11 @@ module _ (f : Forwarding) where
   route [] s = []
   route (x ∷ xs) s = routeOn (f .home s) (f .choose x s) (route xs)
 
+  -- the station that entries lead to from a station, one after the other
+  unfoldable pub endOf : f .State → List (f .Entry) → f .State
+  endOf s [] = s
+  endOf s (e ∷ es) = endOf (f .next e) es
+
   -- The longest way down the rows from a station, in at most `left` hops.
   unfoldable pub longest : ℕ → f .State → ℕ
   longest zero s = 0

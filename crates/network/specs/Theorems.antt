@@ -2,3 +2,5 @@ pub mod Network
 pub mod Distance
 pub mod Order
 pub mod Row
+pub mod Forwarding
+pub mod Calls

@@ -1,0 +1,183 @@
+-- Each hop goes down one entry and so takes at least 1 from the station's figure; a way down the rows that attains the figure can be walked.
+-- Assumes nothing.
+use Prim.Native.Nat.{ℕ, zero, suc, _+_, _-_, _≤_, _<_}
+use mathlib.Core.Bool.{Bool, true, false}
+use mathlib.Core.List.{List, [], _∷_, _++_, List·Memᴰ, List·Memᴰ·head, List·Memᴰ·tail, List·Memᴰ·not-nil, List·Memᴰ·append-cases}
+use mathlib.Core.Logic.{⊎-elim}
+use mathlib.Core.Option.{Option, none, some}
+use mathlib.Core.Path.{_≡_, refl, sym, _∙_, ap, subst}
+use native.Mathlib.Nat.{add-zero}
+use native.Mathlib.Numerals.{add-one}
+use native.Mathlib.Omega.{arith}
+use lib.Dec.{T}
+use lib.ListN.{length, drop, replicate, length-append, length-replicate}
+use lib.Seq.{drop-drop}
+use Rattle.network.specs.Lists.{greatestBy}
+use Rattle.network.specs.Forwarding.{Forwarding, Packet, Hop, delivered, moved, dropped, Walk, delivered-at, packetOf, hopTo, hop, walkOn}
+use Rattle.network.specs.Forwarding.{walkEnd, walk, start, hopsMade, routeOn, route, endOf, longest}
+use Rattle.network.specs.Theorems.Forwarding.{Lawful, Ended, at-home, nothing-live, Exact, WalksExact, RoutesWalked}
+use Rattle.network.proofs.Greatest.{at-most-greatest, greatest-attained, greatest-same}
+
+-- what a hop answers, and why
+pub data Hopped (f : Forwarding) (x : f .States) (p : Packet (f .State)) : Hop (f .State) → Type 0 where
+  stays-home : T (f .home (p .station)) → Hopped f x p delivered
+  stuck : (T (f .home (p .station)) → ⊥) → f .choose x (p .station) ≡ none → Hopped f x p dropped
+  went : (e : f .Entry) → f .choose x (p .station) ≡ some e → Hopped f x p (moved (record { station = f .next e; hops = suc (p .hops) }))
+
+pub hopped : (f : Forwarding) (x : f .States) (p : Packet (f .State)) → Hopped f x p (hop f x p)
+unfolding hop hopTo
+hopped f x p = go (f .home (p .station)) refl (f .choose x (p .station)) refl
+  where
+    go : (b : Bool) → f .home (p .station) ≡ b → (c : Option (f .Entry)) → f .choose x (p .station) ≡ c → Hopped f x p (hopTo f p b c)
+    go true h c e = stays-home (rw h tt)
+    go false h none e = stuck (λ t. rw h at t) e
+    go false h (some y) e = went y e
+
+-- Under the rows of states xs, all of them valid, each hop from s goes down one entry.
+pub data Way (f : Forwarding) (valid : f .States → Type 0) : f .State → List (f .States) → Type 0 where
+  stop : {s : f .State} → Way f valid s []
+  down : {s : f .State} {x : f .States} {xs : List (f .States)} (e : f .Entry) →
+      valid x → f .choose x s ≡ some e → Way f valid (f .next e) xs → Way f valid s (x ∷ xs)
+
+all-valid : {f : Forwarding} {valid : f .States → Type 0} {s : f .State} {xs : List (f .States)} → Way f valid s xs →
+    (x : f .States) → List·Memᴰ x xs → valid x
+all-valid stop x m = absurd (List·Memᴰ·not-nil m)
+all-valid (down e v c w) x (List·Memᴰ·head h) = rw h v
+all-valid (down e v c w) x (List·Memᴰ·tail m) = all-valid w x m
+
+mem-replicate : {A : Type 0} {a x : A} (n : ℕ) → List·Memᴰ x (replicate n a) → x ≡ a
+mem-replicate zero m = absurd (List·Memᴰ·not-nil m)
+mem-replicate (suc n) (List·Memᴰ·head e) = e
+mem-replicate (suc n) (List·Memᴰ·tail m) = mem-replicate n m
+
+-- a walk from p takes no hop back, and makes at most as many more as the figure of the station
+abbrev Within : (f : Forwarding) → ℕ → Packet (f .State) → Walk (f .State) → Type 0
+Within f left p w = (p .hops ≤ packetOf w .hops) × (packetOf w .hops ≤ p .hops + longest f left (p .station))
+
+module _ (f : Forwarding) (rank : f .State → ℕ) (valid : f .States → Type 0) (law : Lawful f rank valid) where
+  -- the figure does not depend on `left` once that is at least the rank: below an entry the same holds, and a station of rank 0 has no entries
+  pub settled : (left : ℕ) (s : f .State) → rank s ≤ left → longest f (suc left) s ≡ longest f left s
+  unfolding longest greatestBy
+  settled zero s r = rw (law .home-row s (law .rank-zero s (omega arith)))
+  settled (suc left) s r = greatest-same _ _ (f .row s) (λ e m. ap suc (settled left (f .next e) (omega (arith, law .falls s e m))))
+
+  -- down an entry the figure falls
+  pub lower : (left : ℕ) (s : f .State) (e : f .Entry) → rank s ≤ left → List·Memᴰ e (f .row s) → longest f left (f .next e) < longest f left s
+  unfolding longest
+  lower left s e r m = rw (← settled left s r) (at-most-greatest (λ y. suc (longest f left (f .next y))) m)
+
+  -- some way attains the figure: down the entry that is greatest, and on from there
+  pub longest-way : (left : ℕ) (s : f .State) → rank s ≤ left → (xs : List (f .States)) × Way f valid s xs × (length xs ≡ longest f left s)
+  unfolding longest
+  longest-way zero s r = ([], stop, refl)
+  longest-way (suc left) s r = ⊎-elim
+      (λ empty. ([], stop, sym (empty .1)))
+      (λ top.
+      let pick = law .choosable s (top .0) (top .1) in
+      let rest = longest-way left (f .next (top .0)) (omega (arith, law .falls s (top .0) (top .1))) in
+      (pick .0 ∷ rest .0, down (top .0) (pick .1) (pick .2) (rest .1), ap suc (rest .2) ∙ sym (top .2)))
+      (greatest-attained (λ e. suc (longest f left (f .next e))) (f .row s))
+
+  -- a way is no longer than the rank
+  pub way-falls : {s : f .State} {xs : List (f .States)} → Way f valid s xs → length xs ≤ rank s
+  way-falls stop = omega arith
+  way-falls (down e v c w) = let below = way-falls w in omega (arith, law .falls _ e (law .chosen _ _ e c))
+
+  -- where an entry is chosen the hop goes down it
+  pub hop-down : (x : f .States) (p : Packet (f .State)) (e : f .Entry) → f .choose x (p .station) ≡ some e →
+      hop f x p ≡ moved (record { station = f .next e; hops = suc (p .hops) })
+  hop-down x p e c = go (hopped f x p)
+    where
+      go : {o : Hop (f .State)} → Hopped f x p o → o ≡ moved (record { station = f .next e; hops = suc (p .hops) })
+      go (stays-home h) = absurd (List·Memᴰ·not-nil (rw (law .home-row (p .station) h) at (law .chosen x (p .station) e c)))
+      go (stuck h d) = cc
+      go (went y d) = cc
+
+  within : (left : ℕ) (xs : List (f .States)) (p : Packet (f .State)) → rank (p .station) ≤ left → Within f left p (walk f xs p)
+  unfolding walk walkOn walkEnd packetOf
+  within left [] p r = go (f .home (p .station))
+    where
+      go : (b : Bool) → Within f left p (walkEnd f p b)
+      go true = omega arith
+      go false = omega arith
+  within left (x ∷ xs) p r = go (hopped f x p) (λ q. within left xs q)
+    where
+      go : {o : Hop (f .State)} → Hopped f x p o →
+          ((q : Packet (f .State)) → rank (q .station) ≤ left → Within f left q (walk f xs q)) → Within f left p (walkOn f p o (walk f xs))
+      go (stays-home h) rest = omega arith
+      go (stuck h d) rest = omega arith
+      go (went e c) rest =
+          let m = law .chosen x (p .station) e c in
+          let below = rest (record { station = f .next e; hops = suc (p .hops) }) (omega (arith, law .falls _ e m)) in
+          omega (arith, lower left _ e r m)
+
+  -- a walk goes all of a way, whatever rows follow
+  over-way : {s : f .State} {xs : List (f .States)} → Way f valid s xs → (ys : List (f .States)) (h : ℕ) →
+      h + length xs ≤ packetOf (walk f (xs ++ ys) (record { station = s; hops = h })) .hops
+  unfolding walk walkOn
+  over-way {s} stop ys h = omega (arith, within (rank s) ys (record { station = s; hops = h }) (omega arith))
+  over-way {s} (down e v c w) ys h = rw (hop-down _ (record { station = s; hops = h }) e c) (omega (arith, over-way w ys (suc h)))
+
+  -- A walk over zs from s that has come to the packet p, with xs left of zs, ends if xs has at least as many rows as the rank.
+  ending : (zs : List (f .States)) (s : f .State) (xs : List (f .States)) (p : Packet (f .State)) →
+      walk f zs (start f s) ≡ walk f xs p → drop (p .hops) zs ≡ xs → rank (p .station) ≤ length xs → Ended f zs s
+  unfolding walk walkOn walkEnd
+  ending zs s [] p same left r = at-home p (same ∙ go (f .home (p .station)) home) home
+    where
+      home : T (f .home (p .station))
+      home = law .rank-zero (p .station) (omega arith)
+
+      go : (b : Bool) → T b → walkEnd f p b ≡ delivered-at p
+      go true h = refl
+      go false h = absurd h
+  ending zs s (x ∷ xs) p same left r = go (hopped f x p) same (λ q. ending zs s xs q)
+    where
+      go : {o : Hop (f .State)} → Hopped f x p o → walk f zs (start f s) ≡ walkOn f p o (walk f xs) →
+          ((q : Packet (f .State)) → walk f zs (start f s) ≡ walk f xs q → drop (q .hops) zs ≡ xs → rank (q .station) ≤ length xs → Ended f zs s) →
+          Ended f zs s
+      go (stays-home h) e rest = at-home p e h
+      go (stuck h d) e rest = nothing-live p e h x xs left d
+      go (went y c) e rest =
+          rest _ e (subst (λ (n : ℕ). drop n zs ≡ xs) (add-one (p .hops)) (sym (drop-drop 1 (p .hops) zs) ∙ ap (drop 1) left))
+          (omega (arith, law .falls _ y (law .chosen _ _ y c)))
+
+  exact : (left : ℕ) (s : f .State) → rank s ≤ left → Exact f rank valid s (longest f left s)
+  unfolding hopsMade start
+  exact left s r =
+      record {
+        never-passed = λ xs. omega (arith, within left xs (start f s) r);
+        reached = λ rows enough.
+            let more = rows - length (way .0) in
+            let xs = way .0 ++ replicate more (law .some-valid .0) in (
+              xs,
+              simp (length-append, length-replicate) (omega (arith, way-falls (way .1))),
+              λ x m. ⊎-elim (all-valid (way .1) x) (λ n. subst valid (sym (mem-replicate more n)) (law .some-valid .1)) (List·Memᴰ·append-cases (way .0) m),
+              omega (arith, way .2, within left xs (start f s) r, over-way (way .1) (replicate more (law .some-valid .0)) 0),
+            );
+        at-most-rank = omega (arith, way .2, way-falls (way .1));
+        ends = λ xs. ending xs s xs (start f s) refl refl;
+      }
+    where
+      way : (xs : List (f .States)) × Way f valid s xs × (length xs ≡ longest f left s)
+      way = longest-way left s r
+
+pub walks-exact : WalksExact
+walks-exact = exact
+
+pub routes-walked : RoutesWalked
+unfolding walk walkEnd walkOn hop hopTo packetOf route routeOn endOf
+routes-walked f [] p = go (f .home (p .station))
+  where
+    go : (b : Bool) → packetOf (walkEnd f p b) ≡ record { station = p .station; hops = p .hops + 0 }
+    go true = rw add-zero
+    go false = rw add-zero
+routes-walked f (x ∷ xs) p = go (f .home (p .station)) (f .choose x (p .station)) (routes-walked f xs)
+  where
+    go : (b : Bool) (c : Option (f .Entry)) →
+        ((q : Packet (f .State)) → packetOf (walk f xs q)
+        ≡ record { station = endOf f (q .station) (route f xs (q .station)); hops = q .hops + length (route f xs (q .station)) }) →
+        packetOf (walkOn f p (hopTo f p b c) (walk f xs))
+        ≡ record { station = endOf f (p .station) (routeOn f b c (route f xs)); hops = p .hops + length (routeOn f b c (route f xs)) }
+    go true c rest = rw add-zero
+    go false none rest = rw add-zero
+    go false (some e) rest = rest _ ∙ ap (λ (h : ℕ). record { station = endOf f (f .next e) (route f xs (f .next e)); hops = h }) (omega arith)
