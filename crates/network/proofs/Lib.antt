@@ -16,3 +16,6 @@ pub mod Row
 pub mod Filled
 pub mod Forwarding
 pub mod Calls
+pub mod Live
+pub mod Routing
+pub mod ShortestWalk

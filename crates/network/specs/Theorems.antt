@@ -4,3 +4,4 @@ pub mod Order
 pub mod Row
 pub mod Forwarding
 pub mod Calls
+pub mod Routing

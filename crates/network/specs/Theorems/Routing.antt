@@ -1,0 +1,90 @@
+-- What is proved of routers that forward by their rows, over every well-formed network, every destination in it, every limit K and every order
+-- accepted for it.
+-- Assumes nothing.
+use Prim.Native.Nat.{ℕ, suc, _≤_, _<_}
+use mathlib.Core.List.{List, _∷_, _++_, List·Memᴰ}
+use mathlib.Core.Logic.{_↔_, _≢_, _⊎_}
+use mathlib.Core.Path.{_≡_}
+use lib.Dec.{T}
+use lib.ListN.{length, getD, drop}
+use Rattle.network.specs.Network.{Arc, Network, size}
+use Rattle.network.specs.Distance.{PathTo, distances, distance}
+use Rattle.network.specs.Order.{shortest-path, free, accepted}
+use Rattle.network.specs.Row.{row, rank}
+use Rattle.network.specs.Forwarding.{Packet, delivered, moved, dropped, delivered-at, dropped-at, hop, walk, route, start}
+use Rattle.network.specs.Routing.{up, validStates, routers, greatestHop, greatestHops, refusals, allUp, costOf}
+use Rattle.network.specs.Theorems.Order.{OfOrders}
+use Rattle.network.specs.Theorems.Forwarding.{Lawful, Exact}
+use Rattle.network.specs.Theorems.Calls.{CallsBounded}
+
+-- a claim of every well-formed network, every destination in it, every limit and every order accepted for it
+abbrev pub OfTables : (Network → ℕ → ℕ → List ℕ → Type 0) → Type 0
+OfTables claim = OfOrders (λ n d. (limit : ℕ) (order : List ℕ) → T (accepted n d free order) → claim n d limit order)
+
+-- no link to an entry of the row is up
+abbrev pub AllDown : List ℕ → List Arc → Type 0
+AllDown states entries = (a : Arc) → List·Memᴰ a entries → T (up states (a .link)) → ⊥
+
+-- a is the first entry whose link is up
+pub record FirstLive (states : List ℕ) (entries : List Arc) (a : Arc) : Type 0 where
+  pub before : List Arc
+  pub after : List Arc
+  pub stands : entries ≡ before ++ (a ∷ after)
+  pub down : AllDown states before
+  pub live : T (up states (a .link))
+
+-- Demand 3, last sentence: a hop drops the packet exactly when it is short of its destination and no link to a listed next hop is up; else, off d,
+-- it goes to the first entry whose link is up, and makes one hop more.
+pub record HopRule (n : Network) (d limit : ℕ) (order states : List ℕ) (p : Packet ℕ) : Type 0 where
+  pub delivers : (hop (routers n d limit order) states p ≡ delivered) ↔ (p .station ≡ d)
+  pub drops : (hop (routers n d limit order) states p ≡ dropped) ↔ ((p .station ≢ d) × AllDown states (row n (distances n d) limit order (p .station)))
+  pub moves : (a : Arc) → p .station ≢ d → FirstLive states (row n (distances n d) limit order (p .station)) a →
+      hop (routers n d limit order) states p ≡ moved (record { station = a .to; hops = suc (p .hops) })
+  pub else-moves : p .station ≢ d → (hop (routers n d limit order) states p ≡ dropped)
+      ⊎ ((a : Arc) × FirstLive states (row n (distances n d) limit order (p .station)) a)
+
+abbrev pub HopsByRule : Type 0
+HopsByRule = OfTables (λ n d limit order. (states : List ℕ) (p : Packet ℕ) → HopRule n d limit order states p)
+
+-- First-live obeys the laws, so the figures are exact.
+abbrev pub RoutersLawful : Type 0
+RoutersLawful = OfTables (λ n d limit order. Lawful (routers n d limit order) (rank order) (λ states. T (validStates n states)))
+
+-- Demand 3, for walks
+abbrev pub RoutersExact : Type 0
+RoutersExact =
+    OfTables (λ n d limit order. (u : ℕ) →
+    Exact (routers n d limit order) (rank order) (λ states. T (validStates n states)) u (greatestHop n d limit order u))
+
+-- How a walk ends: delivered at d, or dropped off d where the states for that hop have no link to an entry of the row up.
+pub data WalkEnd (n : Network) (d limit : ℕ) (order : List ℕ) (xs : List (List ℕ)) (u : ℕ) : Type 0 where
+  delivers : (p : Packet ℕ) → walk (routers n d limit order) xs (start (routers n d limit order) u) ≡ delivered-at p → p .station ≡ d →
+      WalkEnd n d limit order xs u
+  drops : (p : Packet ℕ) → walk (routers n d limit order) xs (start (routers n d limit order) u) ≡ dropped-at p → p .station ≢ d →
+      (states : List ℕ) (rest : List (List ℕ)) → drop (p .hops) xs ≡ states ∷ rest →
+      AllDown states (row n (distances n d) limit order (p .station)) →
+      WalkEnd n d limit order xs u
+
+abbrev pub WalksEnd : Type 0
+WalksEnd = OfTables (λ n d limit order. (xs : List (List ℕ)) (u : ℕ) → rank order u ≤ length xs → WalkEnd n d limit order xs u)
+
+-- Demand 3, hop by hop
+abbrev pub RoutersCalls : Type 0
+RoutersCalls = OfTables (λ n d limit order. CallsBounded (routers n d limit order) (refusals n d limit order) (greatestHop n d limit order))
+
+-- 01: for all places it is N bytes, place by place
+abbrev pub FiguresByPlace : Type 0
+FiguresByPlace =
+    (n : Network) (d limit : ℕ) (order : List ℕ) → (length (greatestHops n d limit order) ≡ size n)
+    × ((u : ℕ) → u < size n → getD (greatestHops n d limit order) u 0 ≡ greatestHop n d limit order u)
+
+-- Demand 2, last clause: in shortest-path mode, with all links up, the walk is delivered and the arcs it took cost the distance.
+pub record ShortestWalk (n : Network) (d limit : ℕ) (order : List ℕ) (u rows : ℕ) : Type 0 where
+  pub arrives : (p : Packet ℕ) × (walk (routers n d limit order) (allUp n rows) (start (routers n d limit order) u) ≡ delivered-at p)
+      × (p .station ≡ d)
+  pub shortest : costOf (route (routers n d limit order) (allUp n rows) u) ≡ distance n d u
+
+abbrev pub ShortestWalks : Type 0
+ShortestWalks =
+    OfOrders (λ n d. (limit : ℕ) (order : List ℕ) → T (accepted n d shortest-path order) → 1 ≤ limit → (u : ℕ) → PathTo n d u → (rows : ℕ) →
+    rank order u ≤ rows → ShortestWalk n d limit order u rows)
