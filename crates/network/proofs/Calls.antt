@@ -32,12 +32,12 @@ module _ (f : Forwarding) (rank : f .State → ℕ) (valid : f .States → Type 
   unfolding setBy afterCall afterHop start
   kept (setting s) last p k = go (tests .start-ok s) refl
     where
-      go : (b : Bool) → tests .start-ok s ≡ b → Kept f tests left (cond b s last) (cond b (start f s) p)
+      go : (b : Bool) → tests .start-ok s ≡ b → Kept f tests left (cond b s last) (cond b (start s) p)
       go true e = (rw e tt, omega arith)
       go false e = k
   kept (hopping x) last p k = go (tests .hop-ok x p) (hopped f x p)
     where
-      go : (b : Bool) {o : Hop (f .State)} → Hopped f x p o → Kept f tests left last (cond b (afterHop f tests p o) p)
+      go : (b : Bool) {o : Hop (f .State)} → Hopped f x p o → Kept f tests left last (cond b (afterHop p o) p)
       go false h = k
       go true (stays-home h) = k
       go true (stuck h d) = k
@@ -58,7 +58,7 @@ module _ (f : Forwarding) (rank : f .State → ℕ) (valid : f .States → Type 
   unfolding afterCall afterHop
   call-down x p e c ok = go (tests .hop-ok x p) ok
     where
-      go : (b : Bool) → T b → cond b (afterHop f tests p (hop f x p)) p ≡ record { station = f .next e; hops = suc (p .hops) }
+      go : (b : Bool) → T b → cond b (afterHop p (hop f x p)) p ≡ record { station = f .next e; hops = suc (p .hops) }
       go true t = rw (hop-down f rank valid law x p e c)
       go false t = absurd t
 
@@ -76,7 +76,7 @@ module _ (f : Forwarding) (rank : f .State → ℕ) (valid : f .States → Type 
   unfolding start
   bounded =
       record {
-        never-passed = λ first ok cs. never cs first (start f first) (ok, omega arith);
+        never-passed = λ first ok cs. never cs first (start first) (ok, omega arith);
         reached = λ s ok.
             let r = admits .ranked s ok in
             let way = longest-way f rank valid law left s r in

@@ -97,13 +97,13 @@ module _ (f : Forwarding) (rank : f .State → ℕ) (valid : f .States → Type 
   unfolding walk walkOn walkEnd packetOf
   within left [] p r = go (f .home (p .station))
     where
-      go : (b : Bool) → Within f left p (walkEnd f p b)
+      go : (b : Bool) → Within f left p (walkEnd p b)
       go true = omega arith
       go false = omega arith
   within left (x ∷ xs) p r = go (hopped f x p) (λ q. within left xs q)
     where
       go : {o : Hop (f .State)} → Hopped f x p o →
-          ((q : Packet (f .State)) → rank (q .station) ≤ left → Within f left q (walk f xs q)) → Within f left p (walkOn f p o (walk f xs))
+          ((q : Packet (f .State)) → rank (q .station) ≤ left → Within f left q (walk f xs q)) → Within f left p (walkOn p o (walk f xs))
       go (stays-home h) rest = omega arith
       go (stuck h d) rest = omega arith
       go (went e c) rest =
@@ -120,20 +120,20 @@ module _ (f : Forwarding) (rank : f .State → ℕ) (valid : f .States → Type 
 
   -- A walk over zs from s that has come to the packet p, with xs left of zs, ends if xs has at least as many rows as the rank.
   ending : (zs : List (f .States)) (s : f .State) (xs : List (f .States)) (p : Packet (f .State)) →
-      walk f zs (start f s) ≡ walk f xs p → drop (p .hops) zs ≡ xs → rank (p .station) ≤ length xs → Ended f zs s
+      walk f zs (start s) ≡ walk f xs p → drop (p .hops) zs ≡ xs → rank (p .station) ≤ length xs → Ended f zs s
   unfolding walk walkOn walkEnd
   ending zs s [] p same left r = at-home p (same ∙ go (f .home (p .station)) home) home
     where
       home : T (f .home (p .station))
       home = law .rank-zero (p .station) (omega arith)
 
-      go : (b : Bool) → T b → walkEnd f p b ≡ delivered-at p
+      go : (b : Bool) → T b → walkEnd p b ≡ delivered-at p
       go true h = refl
       go false h = absurd h
   ending zs s (x ∷ xs) p same left r = go (hopped f x p) same (λ q. ending zs s xs q)
     where
-      go : {o : Hop (f .State)} → Hopped f x p o → walk f zs (start f s) ≡ walkOn f p o (walk f xs) →
-          ((q : Packet (f .State)) → walk f zs (start f s) ≡ walk f xs q → drop (q .hops) zs ≡ xs → rank (q .station) ≤ length xs → Ended f zs s) →
+      go : {o : Hop (f .State)} → Hopped f x p o → walk f zs (start s) ≡ walkOn p o (walk f xs) →
+          ((q : Packet (f .State)) → walk f zs (start s) ≡ walk f xs q → drop (q .hops) zs ≡ xs → rank (q .station) ≤ length xs → Ended f zs s) →
           Ended f zs s
       go (stays-home h) e rest = at-home p e h
       go (stuck h d) e rest = nothing-live p e h x xs left d
@@ -145,17 +145,17 @@ module _ (f : Forwarding) (rank : f .State → ℕ) (valid : f .States → Type 
   unfolding hopsMade start
   exact left s r =
       record {
-        never-passed = λ xs. omega (arith, within left xs (start f s) r);
+        never-passed = λ xs. omega (arith, within left xs (start s) r);
         reached = λ rows enough.
             let more = rows - length (way .0) in
             let xs = way .0 ++ replicate more (law .some-valid .0) in (
               xs,
               simp (length-append, length-replicate) (omega (arith, way-falls (way .1))),
               λ x m. ⊎-elim (all-valid (way .1) x) (λ n. subst valid (sym (mem-replicate more n)) (law .some-valid .1)) (List·Memᴰ·append-cases (way .0) m),
-              omega (arith, way .2, within left xs (start f s) r, over-way (way .1) (replicate more (law .some-valid .0)) 0),
+              omega (arith, way .2, within left xs (start s) r, over-way (way .1) (replicate more (law .some-valid .0)) 0),
             );
         at-most-rank = omega (arith, way .2, way-falls (way .1));
-        ends = λ xs. ending xs s xs (start f s) refl refl;
+        ends = λ xs. ending xs s xs (start s) refl refl;
       }
     where
       way : (xs : List (f .States)) × Way f valid s xs × (length xs ≡ longest f left s)
@@ -168,7 +168,7 @@ pub routes-walked : RoutesWalked
 unfolding walk walkEnd walkOn hop hopTo packetOf route routeOn endOf
 routes-walked f [] p = go (f .home (p .station))
   where
-    go : (b : Bool) → packetOf (walkEnd f p b) ≡ record { station = p .station; hops = p .hops + 0 }
+    go : (b : Bool) → packetOf (walkEnd p b) ≡ record { station = p .station; hops = p .hops + 0 }
     go true = rw add-zero
     go false = rw add-zero
 routes-walked f (x ∷ xs) p = go (f .home (p .station)) (f .choose x (p .station)) (routes-walked f xs)
@@ -176,7 +176,7 @@ routes-walked f (x ∷ xs) p = go (f .home (p .station)) (f .choose x (p .statio
     go : (b : Bool) (c : Option (f .Entry)) →
         ((q : Packet (f .State)) → packetOf (walk f xs q)
         ≡ record { station = endOf f (q .station) (route f xs (q .station)); hops = q .hops + length (route f xs (q .station)) }) →
-        packetOf (walkOn f p (hopTo f p b c) (walk f xs))
+        packetOf (walkOn p (hopTo f p b c) (walk f xs))
         ≡ record { station = endOf f (p .station) (routeOn f b c (route f xs)); hops = p .hops + length (routeOn f b c (route f xs)) }
     go true c rest = rw add-zero
     go false none rest = rw add-zero

@@ -1,4 +1,5 @@
--- Lists of any element: tests over them, what stands first or is least in them, and what holds of each two elements.
+-- Plain lists: tests over them, what stands first or is least in them, and what holds of each two elements. Every section of 01 speaks of such lists;
+-- only the rule for ties is a rule of 01.
 -- Assumes nothing.
 use Prim.Native.Nat.{ℕ, zero, suc, min, max}
 use mathlib.Core.Bool.{Bool, true, false, cond, _&&_, _||_}
@@ -22,10 +23,12 @@ module _ {A : Type 0} where
   keep f [] = []
   keep f (x ∷ xs) = cond (f x) (x ∷ keep f xs) (keep f xs)
 
+  -- every element passes the test
   unfoldable pub every : (A → Bool) → List A → Bool
   every f [] = true
   every f (x ∷ xs) = f x && every f xs
 
+  -- some element passes the test
   unfoldable pub any : (A → Bool) → List A → Bool
   any f [] = false
   any f (x ∷ xs) = f x || any f xs
@@ -55,6 +58,7 @@ module _ {A : Type 0} where
   insert precedes x [] = x ∷ []
   insert precedes x (y ∷ ys) = cond (precedes x y) (x ∷ y ∷ ys) (y ∷ insert precedes x ys)
 
+  -- the elements, sorted: each put in its place among those after it
   unfoldable pub sort : (A → A → Bool) → List A → List A
   sort precedes [] = []
   sort precedes (x ∷ xs) = insert precedes x (sort precedes xs)
@@ -68,6 +72,7 @@ module _ {A : Type 0} where
   abbrev pub Distinct : List A → Type 0
   Distinct xs = Pairwise (λ x y. x ≢ y) xs
 
+-- u stands in the list
 unfoldable pub member : ℕ → List ℕ → Bool
 member u us = any (eqb u) us
 
@@ -76,6 +81,6 @@ unfoldable pub distinct : List ℕ → Bool
 distinct [] = true
 distinct (u ∷ us) = cond (member u us) false (distinct us)
 
--- The one rule for ties (01, Order and Rows: ties go to the higher router ID): x is less than y, or they are equal and the ID i is higher than j.
+-- 01, Order, and Rows and tables, ties by the higher router ID: x is less than y, or they are equal and the ID i is higher than the ID j
 unfoldable pub wins : ℕ → ℕ → ℕ → ℕ → Bool
 wins x y i j = ltb x y || (eqb x y && ltb j i)

@@ -9,7 +9,8 @@ use lib.Dec.{eqb, ltb, leb}
 use lib.ListN.{length, getD}
 use Rattle.network.specs.Lists.{Pairwise, Distinct, below, every, any, distinct}
 
--- An arc is a link seen from one of its ends: the place of the neighbour that it leads to, the cost in that direction, and the link's number.
+-- An arc is a link seen from one of its ends (01, Stations, links and limits): the place of the neighbour that it leads to, the cost in that
+-- direction, and the link's number.
 pub record Arc : Type 0 where
   pub to : ℕ
   pub cost : ℕ
@@ -22,15 +23,15 @@ pub record Network : Type 0 where
   pub arcs : List (List Arc)
   pub links : ℕ
 
--- how many routers there are: N of 01
+-- 01, Stations, links and limits: how many routers there are, N
 unfoldable pub size : Network → ℕ
 size n = length (n .ids)
 
--- the router ID of a place
+-- 01, Stations, links and limits: the router ID of a place
 unfoldable pub idOf : Network → ℕ → ℕ
 idOf n u = getD (n .ids) u 0
 
--- the arcs to the neighbours of u
+-- 01, Stations, links and limits: the arcs to the neighbours of u
 unfoldable pub arcsOf : Network → ℕ → List Arc
 arcsOf n u = getD (n .arcs) u []
 
@@ -38,6 +39,8 @@ arcsOf n u = getD (n .arcs) u []
 unfoldable pub greatestCost : ℕ
 greatestCost = 65535
 
+-- 01, Refusals, 5 to 7, and Stations, links and limits: an arc of u leads to another place below N, at a cost from 1 to 65,535, over a link of the
+-- network
 pub record SoundArc (n : Network) (u : ℕ) (a : Arc) : Type 0 where
   pub place : a .to < size n
   pub other : a .to ≢ u
@@ -45,8 +48,8 @@ pub record SoundArc (n : Network) (u : ℕ) (a : Arc) : Type 0 where
   pub cost-most : a .cost ≤ greatestCost
   pub numbered : a .link < n .links
 
--- What 01 demands of a topology, connection aside: IDs differ; every arc leads to another place below N, at a cost within the limits, over a link
--- of the network; no two arcs of a router lead to one place or share a link.
+-- What 01, Stations, links and limits, asks of a topology, its numbers of routers, links and neighbours aside: IDs differ, every arc is sound, and no
+-- two arcs of a router lead to one place or share a link.
 pub record WellFormed (n : Network) : Type 0 where
   pub each-place : length (n .arcs) ≡ size n
   pub ids-differ : Distinct (n .ids)
@@ -54,13 +57,13 @@ pub record WellFormed (n : Network) : Type 0 where
   pub places-differ : (u : ℕ) → Pairwise (λ a b. a .to ≢ b .to) (arcsOf n u)
   pub links-differ : (u : ℕ) → Pairwise (λ a b. a .link ≢ b .link) (arcsOf n u)
 
--- A link as 01 has it: two places and one cost, the same each way.
+-- 01, From links to hops: a link is undirected and has one cost, the same each way
 pub record Link : Type 0 where
   pub first : ℕ
   pub second : ℕ
   pub cost : ℕ
 
--- the arcs of u among links, the first of which has the given number
+-- 01, From links to hops: the arcs of u among links, the first of which has the given number
 unfoldable pub arcsAmong : ℕ → ℕ → List Link → List Arc
 arcsAmong u number [] = []
 arcsAmong u number (l ∷ ls) =
@@ -68,7 +71,7 @@ arcsAmong u number (l ∷ ls) =
     (cond (eqb (l .second) u) (record { to = l .first; cost = l .cost; link = number } ∷ arcsAmong u (suc number) ls)
     (arcsAmong u (suc number) ls))
 
--- the network of a list of IDs and a list of links
+-- 01, Stations, links and limits: the network of the IDs by place and the links by number
 unfoldable pub linked : List ℕ → List Link → Network
 linked ids ls = record { ids = ids; arcs = map (λ u. arcsAmong u 0 ls) (below (length ids)); links = length ls }
 
@@ -81,10 +84,11 @@ soundLink count l =
 unfoldable pub samePair : Link → Link → Bool
 samePair l k = (eqb (l .first) (k .first) && eqb (l .second) (k .second)) || (eqb (l .first) (k .second) && eqb (l .second) (k .first))
 
+-- 01, Refusals, 8: no pair is linked twice
 unfoldable pub pairsDiffer : List Link → Bool
 pairsDiffer [] = true
 pairsDiffer (l ∷ ls) = not (any (samePair l) ls) && pairsDiffer ls
 
--- IDs differ, every link is sound, and no pair is linked twice
+-- 01, Refusals, 3 and 5 to 8: IDs differ, every link is sound, and no pair is linked twice
 unfoldable pub soundLinks : List ℕ → List Link → Bool
 soundLinks ids ls = distinct ids && every (soundLink (length ids)) ls && pairsDiffer ls

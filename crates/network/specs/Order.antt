@@ -15,7 +15,7 @@ use Rattle.network.specs.Distance.{absent, distanceIn, through, distance
 pub data Mode : Type 0 where
   shortest-path free : Mode
 
--- u has a distance
+-- 01, Order: u has a distance, that is, a path to the destination
 unfoldable pub reached : Network → List ℕ → ℕ → Bool
 reached n ds u = ltb (distanceIn n ds u) (absent n)
 
@@ -23,7 +23,7 @@ reached n ds u = ltb (distanceIn n ds u) (absent n)
 unfoldable pub shortestNextHops : Network → List ℕ → ℕ → List Arc
 shortestNextHops n ds u = keep (λ a. eqb (through n ds a) (distanceIn n ds u)) (arcsOf n u)
 
--- the neighbour that the arc leads to is placed
+-- 01, Order: the neighbour that the arc leads to is placed
 unfoldable pub leadsInto : List ℕ → Arc → Bool
 leadsInto placed a = member (a .to) placed
 
@@ -36,7 +36,7 @@ ready n ds free placed u = any (leadsInto placed) (arcsOf n u)
 unfoldable pub candidate : Network → List ℕ → Mode → List ℕ → ℕ → Bool
 candidate n ds mode placed u = reached n ds u && not (member u placed) && ready n ds mode placed u
 
--- how many of its neighbours are placed: c[u] of 001, 5.1
+-- 001, 5.1: c[u], how many of its neighbours are placed
 unfoldable pub placedNeighbours : Network → List ℕ → ℕ → ℕ
 placedNeighbours n placed u = length (keep (leadsInto placed) (arcsOf n u))
 
@@ -44,10 +44,11 @@ placedNeighbours n placed u = length (keep (leadsInto placed) (arcsOf n u))
 unfoldable pub preferred : Network → List ℕ → ℕ → ℕ → Bool
 preferred n placed u v = wins (placedNeighbours n placed v) (placedNeighbours n placed u) (idOf n u) (idOf n v)
 
--- the candidate that takes the next rank, if there is a candidate
+-- 01, Order: the candidate that takes the next rank, if there is one (001, section 4, Select)
 unfoldable pub select : Network → List ℕ → Mode → List ℕ → Option ℕ
 select n ds mode placed = foremost (preferred n placed) (keep (candidate n ds mode placed) (below (size n)))
 
+-- 01, Order: the router that takes the next rank, and on from there; where there is none, the order ends
 unfoldable pub continued : Option ℕ → (ℕ → List ℕ) → List ℕ
 continued none rest = []
 continued (some u) rest = u ∷ rest u
@@ -61,19 +62,21 @@ placing n ds mode (suc left) placed = continued (select n ds mode placed) (λ u.
 unfoldable pub build : Network → ℕ → Mode → List ℕ
 build n d mode = d ∷ placing n (distances n d) mode (pred (size n)) (d ∷ [])
 
--- each of the routers is a candidate when it is placed, after those placed already and those before it
+-- 01, Order, on proposals: each of the routers is a candidate when it is placed, after those placed already and those before it
 unfoldable pub candidatesInTurn : Network → List ℕ → Mode → List ℕ → List ℕ → Bool
 candidatesInTurn n ds mode placed [] = true
 candidatesInTurn n ds mode placed (u ∷ us) = candidate n ds mode placed u && candidatesInTurn n ds mode (placed ++ (u ∷ [])) us
 
--- each router that has a distance stands in the order once, and nothing else does
+-- 01, Order, on proposals: each router that has a distance stands in the order once, and nothing else does
 unfoldable pub holdsEachOnce : Network → List ℕ → List ℕ → Bool
 holdsEachOnce n ds order = distinct order && every (reached n ds) order && every (λ u. member u order) (keep (reached n ds) (below (size n)))
 
+-- 01, Order, on proposals: d is first
 unfoldable pub firstIs : ℕ → List ℕ → Bool
 firstIs d [] = false
 firstIs d (u ∷ us) = eqb u d
 
+-- 01, Order, on proposals: every router but the first is a candidate when placed
 unfoldable pub othersInTurn : Network → List ℕ → Mode → List ℕ → Bool
 othersInTurn n ds mode [] = true
 othersInTurn n ds mode (u ∷ us) = candidatesInTurn n ds mode (u ∷ []) us

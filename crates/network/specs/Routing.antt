@@ -13,20 +13,20 @@ use Rattle.network.specs.Row.{row}
 use Rattle.network.specs.Forwarding.{Forwarding, longest}
 use Rattle.network.specs.Calls.{Tests}
 
--- 01: link states are one byte per link, 1 up, 0 down
+-- 01, Packet, hop and schedule: link states are one byte per link, 1 up, 0 down
 unfoldable pub up : List ℕ → ℕ → Bool
 up states link = eqb (getD states link 0) 1
 
--- one byte per link, none over 1
+-- 01, Refusals, 22 and 23: one byte per link, none over 1
 unfoldable pub validStates : Network → List ℕ → Bool
 validStates n states = eqb (length states) (n .links) && every (λ b. leb b 1) states
 
--- 01: the first entry of the row whose link is up
+-- 01, Packet, hop and schedule: the first entry of the row whose link is up
 unfoldable pub firstLive : List ℕ → List Arc → Option Arc
 firstLive states [] = none
 firstLive states (a ∷ rest) = cond (up states (a .link)) (some a) (firstLive states rest)
 
--- the routers of a network under an order for d, with rows of at most `limit` entries
+-- 01, Packet, hop and schedule: the routers of a network under an order for d, with rows of at most `limit` entries
 abbrev pub routers : Network → ℕ → ℕ → List ℕ → Forwarding
 routers n d limit order =
     record {
@@ -39,11 +39,11 @@ routers n d limit order =
       choose = λ states u. firstLive states (row n (distances n d) limit order u);
     }
 
--- 01: the greatest hop count of u, as computed
+-- 01, Packet, hop and schedule: the greatest hop count of u, as it is computed
 unfoldable pub greatestHop : Network → ℕ → ℕ → List ℕ → ℕ → ℕ
 greatestHop n d limit order u = longest (routers n d limit order) (size n) u
 
--- 01: for all places, the figures that we report
+-- 01, Packet, hop and schedule: for all places, the figures that we report
 unfoldable pub greatestHops : Network → ℕ → ℕ → List ℕ → List ℕ
 greatestHops n d limit order = map (greatestHop n d limit order) (below (size n))
 
@@ -52,11 +52,11 @@ abbrev pub refusals : (n : Network) (d limit : ℕ) (order : List ℕ) → Tests
 refusals n d limit order =
     record { start-ok = λ u. ltb u (size n); hop-ok = λ states p. ltb (p .station) (size n) && ltb (p .hops) (size n) && validStates n states }
 
--- a schedule of `rows` rows with all links up
+-- 01, Packet, hop and schedule: a schedule of `rows` rows with all links up
 unfoldable pub allUp : Network → ℕ → List (List ℕ)
 allUp n rows = replicate rows (replicate (n .links) 1)
 
--- the sum of the arcs' costs
+-- 01, Order: the sum of the arcs' costs
 unfoldable pub costOf : List Arc → ℕ
 costOf [] = 0
 costOf (a ∷ rest) = a .cost + costOf rest

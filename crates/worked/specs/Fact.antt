@@ -56,7 +56,7 @@ unfoldable pub claimHolds : Network → ℕ → List ℕ → Claim → Bool
 claimHolds n d order (order-is expected) = same order expected
 claimHolds n d order (row-is limit u expected) = same (map (λ a. a .to) (row n (distances n d) limit order u)) expected
 claimHolds n d order (greatest-are limit expected) = same (greatestHops n d limit order) expected
-claimHolds n d order (walk-ends limit u schedule expected) = endsSo expected (walk (routers n d limit order) schedule (start (routers n d limit order) u))
+claimHolds n d order (walk-ends limit u schedule expected) = endsSo expected (walk (routers n d limit order) schedule (start u))
 
 unfoldable pub holds : Fact → Bool
 holds fact = claimHolds (fact .network) (fact .destination) (build (fact .network) (fact .destination) (fact .mode)) (fact .claim)

@@ -12,10 +12,10 @@ use Rattle.network.specs.Theorems.Forwarding.{Lawful}
 pub record CallsBounded (f : Forwarding) (tests : Tests f) (figure : f .State → ℕ) : Type 0 where
   -- the packet never has more hops made than the figure of the station it was last set at
   pub never-passed : (first : f .State) → T (tests .start-ok first) → (cs : List (Call f)) →
-      (afterCalls f tests cs (start f first)) .hops ≤ figure (lastSet f tests cs first)
+      (afterCalls f tests cs (start first)) .hops ≤ figure (lastSet f tests cs first)
   -- for each station some list that last sets it there reaches that figure
   pub reached : (s : f .State) → T (tests .start-ok s) → (cs : List (Call f)) × (lastSet f tests cs s ≡ s)
-      × ((afterCalls f tests cs (start f s)) .hops ≡ figure s)
+      × ((afterCalls f tests cs (start s)) .hops ≡ figure s)
 
 -- What the tests must let pass for the figure to be reached: a start whose rank is at most `left`, and with it what its entries lead to; a hop under
 -- valid states from such a station while fewer than `left` hops are made.

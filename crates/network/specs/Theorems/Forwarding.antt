@@ -20,8 +20,8 @@ pub record Lawful (f : Forwarding) (rank : f .State → ℕ) (valid : f .States 
 
 -- how a walk ended: at home, or off home where the row of states for that hop left nothing to choose
 pub data Ended (f : Forwarding) (xs : List (f .States)) (s : f .State) : Type 0 where
-  at-home : (p : Packet (f .State)) → walk f xs (start f s) ≡ delivered-at p → T (f .home (p .station)) → Ended f xs s
-  nothing-live : (p : Packet (f .State)) → walk f xs (start f s) ≡ dropped-at p → (T (f .home (p .station)) → ⊥) →
+  at-home : (p : Packet (f .State)) → walk f xs (start s) ≡ delivered-at p → T (f .home (p .station)) → Ended f xs s
+  nothing-live : (p : Packet (f .State)) → walk f xs (start s) ≡ dropped-at p → (T (f .home (p .station)) → ⊥) →
       (x : f .States) (rest : List (f .States)) → drop (p .hops) xs ≡ x ∷ rest → f .choose x (p .station) ≡ none → Ended f xs s
 
 -- Demand 3, for walks: the figure of a station is exactly the greatest hop count of a walk from there.

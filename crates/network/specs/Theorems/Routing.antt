@@ -58,9 +58,9 @@ RoutersExact =
 
 -- How a walk ends: delivered at d, or dropped off d where the states for that hop have no link to an entry of the row up.
 pub data WalkEnd (n : Network) (d limit : ℕ) (order : List ℕ) (xs : List (List ℕ)) (u : ℕ) : Type 0 where
-  delivers : (p : Packet ℕ) → walk (routers n d limit order) xs (start (routers n d limit order) u) ≡ delivered-at p → p .station ≡ d →
+  delivers : (p : Packet ℕ) → walk (routers n d limit order) xs (start u) ≡ delivered-at p → p .station ≡ d →
       WalkEnd n d limit order xs u
-  drops : (p : Packet ℕ) → walk (routers n d limit order) xs (start (routers n d limit order) u) ≡ dropped-at p → p .station ≢ d →
+  drops : (p : Packet ℕ) → walk (routers n d limit order) xs (start u) ≡ dropped-at p → p .station ≢ d →
       (states : List ℕ) (rest : List (List ℕ)) → drop (p .hops) xs ≡ states ∷ rest →
       AllDown states (row n (distances n d) limit order (p .station)) →
       WalkEnd n d limit order xs u
@@ -80,7 +80,7 @@ FiguresByPlace =
 
 -- Demand 2, last clause: in shortest-path mode, with all links up, the walk is delivered and the arcs it took cost the distance.
 pub record ShortestWalk (n : Network) (d limit : ℕ) (order : List ℕ) (u rows : ℕ) : Type 0 where
-  pub arrives : (p : Packet ℕ) × (walk (routers n d limit order) (allUp n rows) (start (routers n d limit order) u) ≡ delivered-at p)
+  pub arrives : (p : Packet ℕ) × (walk (routers n d limit order) (allUp n rows) (start u) ≡ delivered-at p)
       × (p .station ≡ d)
   pub shortest : costOf (route (routers n d limit order) (allUp n rows) u) ≡ distance n d u
 
