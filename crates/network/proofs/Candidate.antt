@@ -14,17 +14,19 @@ use Rattle.network.specs.Order.{Mode, shortest-path, free, reached, shor
 use Rattle.network.specs.Theorems.Order.{Ready, Candidate}
 use Rattle.network.proofs.Tests.{three, and-three}
 use Rattle.network.proofs.Lists.{every-all, all-every, every-or, any-some, some-any, member-mem, mem-member}
-use Rattle.network.proofs.NextHop.{path-reached, reached-path, next-arc, next-nearer, next-path, some-next}
+use Rattle.network.proofs.NextHop.{path-reached, reached-path, next-arc, next-via, next-nearer, next-path, is-next, some-next}
 
 module _ (n : Network) (wf : WellFormed n) (d : ℕ) (in-network : d < size n) where
   ready-fact : (mode : Mode) (placed : List ℕ) (u : ℕ) → T (ready n (distances n d) mode placed u) → Ready n d mode placed u
   unfolding ready leadsInto
-  ready-fact shortest-path placed u t = λ a m. member-mem (a .to) placed (every-all _ (shortestNextHops n (distances n d) u) t a m)
+  ready-fact shortest-path placed u t = λ a (m, e).
+      member-mem (a .to) placed (every-all _ (shortestNextHops n (distances n d) u) t a (is-next n wf d in-network u a m e))
   ready-fact free placed u t = let (a, m, s) = any-some (leadsInto placed) (arcsOf n u) t in (a, m, member-mem (a .to) placed s)
 
   fact-ready : (mode : Mode) (placed : List ℕ) (u : ℕ) → Ready n d mode placed u → T (ready n (distances n d) mode placed u)
   unfolding ready leadsInto
-  fact-ready shortest-path placed u h = all-every _ (shortestNextHops n (distances n d) u) (λ a m. mem-member (a .to) placed (h a m))
+  fact-ready shortest-path placed u h = all-every _ (shortestNextHops n (distances n d) u)
+      (λ a m. mem-member (a .to) placed (h a (next-arc n wf d in-network u m, next-via n wf d in-network u m)))
   fact-ready free placed u (a, m, k) = some-any _ (arcsOf n u) m (mem-member (a .to) placed k)
 
   pub candidate-fact : (mode : Mode) (placed : List ℕ) (u : ℕ) → T (candidate n (distances n d) mode placed u) → Candidate n d mode placed u
@@ -48,7 +50,8 @@ module _ (n : Network) (wf : WellFormed n) (d : ℕ) (in-network : d < size n) w
   pub also-free : (placed : List ℕ) (u : ℕ) → List·Memᴰ d placed → Candidate n d shortest-path placed u → Candidate n d free placed u
   also-free placed u m c =
       let (a, k) = some-next n wf d in-network (c .path) (λ e. c .unplaced (Memᴰ·cast e m)) in
-      record { path = c .path; unplaced = c .unplaced; next-hops = (a, next-arc n wf d in-network u k, c .next-hops a k) }
+      let m′ = next-arc n wf d in-network u k in
+      record { path = c .path; unplaced = c .unplaced; next-hops = (a, m′, c .next-hops a (m′, next-via n wf d in-network u k)) }
 
   nearest : (placed : List ℕ) (bound u : ℕ) → distance n d u < bound → PathTo n d u → (List·Memᴰ u placed → ⊥) → (v : ℕ) × Candidate n d shortest-path placed v
   unfolding ready leadsInto

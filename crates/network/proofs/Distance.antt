@@ -18,7 +18,7 @@ use Rattle.network.specs.Distance.{PathTo, arrived, along, pathCost, pat
 use Rattle.network.specs.Distance.{distance}
 use Rattle.network.specs.Theorems.Distance.{DistanceExact, DistancesExact, RoundsEnd, RoundsSettle}
 use Rattle.network.proofs.Below.{getD-below, getD-past, length-map-below}
-use Rattle.network.proofs.Pigeon.{at-most, member?, one-more}
+use Rattle.network.proofs.Pigeon.{at-most, member?, distinct-cons}
 use Rattle.network.proofs.Least.{OneOf, least-start, least-each, least-from}
 
 -- the routers that a path visits, its ends among them
@@ -47,12 +47,12 @@ part-from {n} {d} {u} {v} {c} (along a l p) le dist m =
 
 simple : {n : Network} {d u : ℕ} (p : PathTo n d u) → Simple n d (pathCost p) u
 unfolding visited Simple pathCost
-simple (arrived e) = (arrived e, le-refl 0, one-more List·Memᴰ·not-nil nothing)
+simple (arrived e) = (arrived e, le-refl 0, distinct-cons List·Memᴰ·not-nil nothing)
 simple {n} {d} {u} (along a m p) = let r = simple p in cut r (member? u (visited (r .0)))
   where
     cut : (r : Simple n d (pathCost p) (a .to)) → Dec (List·Memᴰ u (visited (r .0))) → Simple n d (pathCost (along a m p)) u
     cut r (yes v) = part-from (r .0) (omega (arith, r .1)) (r .2) v
-    cut r (no nv) = (along a m (r .0), omega (arith, r .1), one-more nv (r .2))
+    cut r (no nv) = (along a m (r .0), omega (arith, r .1), distinct-cons nv (r .2))
 
 module _ (n : Network) (w : WellFormed n) (d : ℕ) (d-in : d < size n) where
   no-arcs : {u : ℕ} → size n ≤ u → arcsOf n u ≡ []
@@ -185,6 +185,7 @@ module _ (n : Network) (w : WellFormed n) (d : ℕ) (d-in : d < size n) where
   ends : RoundsEnd n d
   ends =
       record {
+        by-place = rounds-length;
         settled = settled;
         still = still;
         stopped = λ k e. sym (still k e (pred (size n))) ∙ ap (rounds n d) (add-comm k (pred (size n))) ∙ settled k;

@@ -15,7 +15,8 @@ use lib.Seq.{drop-drop}
 use Rattle.network.specs.Lists.{greatestBy}
 use Rattle.network.specs.Forwarding.{Forwarding, Packet, Hop, delivered, moved, dropped, Walk, delivered-at, packetOf, hopTo, hop, walkOn}
 use Rattle.network.specs.Forwarding.{walkEnd, walk, start, hopsMade, routeOn, route, endOf, longest}
-use Rattle.network.specs.Theorems.Forwarding.{Lawful, Ended, at-home, nothing-live, Exact, WalksExact, RoutesWalked}
+use Rattle.network.specs.Theorems.Forwarding.{Lawful, Ended, at-home, nothing-live, Exact, WalksExact, WalksFinish, WalksByHops, RoutesWalked}
+use Rattle.network.proofs.Lists.{empty}
 use Rattle.network.proofs.Greatest.{at-most-greatest, greatest-attained, greatest-same}
 
 -- what a hop answers, and why
@@ -58,7 +59,7 @@ module _ (f : Forwarding) (rank : f .State → ℕ) (valid : f .States → Type 
   -- the figure does not depend on `left` once that is at least the rank: below an entry the same holds, and a station of rank 0 has no entries
   pub settled : (left : ℕ) (s : f .State) → rank s ≤ left → longest f (suc left) s ≡ longest f left s
   unfolding longest greatestBy
-  settled zero s r = rw (law .home-row s (law .rank-zero s (omega arith)))
+  settled zero s r = rw (empty (f .row s) (λ e m. omega (arith, law .falls s e m)))
   settled (suc left) s r = greatest-same _ _ (f .row s) (λ e m. ap suc (settled left (f .next e) (omega (arith, law .falls s e m))))
 
   -- down an entry the figure falls
@@ -118,28 +119,29 @@ module _ (f : Forwarding) (rank : f .State → ℕ) (valid : f .States → Type 
   over-way {s} stop ys h = omega (arith, within (rank s) ys (record { station = s; hops = h }) (omega arith))
   over-way {s} (down e v c w) ys h = rw (hop-down _ (record { station = s; hops = h }) e c) (omega (arith, over-way w ys (suc h)))
 
-  -- A walk over zs from s that has come to the packet p, with xs left of zs, ends if xs has at least as many rows as the rank.
-  ending : (zs : List (f .States)) (s : f .State) (xs : List (f .States)) (p : Packet (f .State)) →
-      walk f zs (start s) ≡ walk f xs p → drop (p .hops) zs ≡ xs → rank (p .station) ≤ length xs → Ended f zs s
-  unfolding walk walkOn walkEnd
-  ending zs s [] p same left r = at-home p (same ∙ go (f .home (p .station)) home) home
-    where
-      home : T (f .home (p .station))
-      home = law .rank-zero (p .station) (omega arith)
+  module _ (only-home : (s : f .State) → rank s ≡ 0 → T (f .home s)) where
+    -- A walk over zs from s that has come to the packet p, with xs left of zs, ends if xs has at least as many rows as the rank.
+    ending : (zs : List (f .States)) (s : f .State) (xs : List (f .States)) (p : Packet (f .State)) →
+        walk f zs (start s) ≡ walk f xs p → drop (p .hops) zs ≡ xs → rank (p .station) ≤ length xs → Ended f zs s
+    unfolding walk walkOn walkEnd
+    ending zs s [] p same left r = at-home p (same ∙ go (f .home (p .station)) home) home
+      where
+        home : T (f .home (p .station))
+        home = only-home (p .station) (omega arith)
 
-      go : (b : Bool) → T b → walkEnd p b ≡ delivered-at p
-      go true h = refl
-      go false h = absurd h
-  ending zs s (x ∷ xs) p same left r = go (hopped f x p) same (λ q. ending zs s xs q)
-    where
-      go : {o : Hop (f .State)} → Hopped f x p o → walk f zs (start s) ≡ walkOn p o (walk f xs) →
-          ((q : Packet (f .State)) → walk f zs (start s) ≡ walk f xs q → drop (q .hops) zs ≡ xs → rank (q .station) ≤ length xs → Ended f zs s) →
-          Ended f zs s
-      go (stays-home h) e rest = at-home p e h
-      go (stuck h d) e rest = nothing-live p e h x xs left d
-      go (went y c) e rest =
-          rest _ e (subst (λ (n : ℕ). drop n zs ≡ xs) (add-one (p .hops)) (sym (drop-drop 1 (p .hops) zs) ∙ ap (drop 1) left))
-          (omega (arith, law .falls _ y (law .chosen _ _ y c)))
+        go : (b : Bool) → T b → walkEnd p b ≡ delivered-at p
+        go true h = refl
+        go false h = absurd h
+    ending zs s (x ∷ xs) p same left r = go (hopped f x p) same (λ q. ending zs s xs q)
+      where
+        go : {o : Hop (f .State)} → Hopped f x p o → walk f zs (start s) ≡ walkOn p o (walk f xs) →
+            ((q : Packet (f .State)) → walk f zs (start s) ≡ walk f xs q → drop (q .hops) zs ≡ xs → rank (q .station) ≤ length xs → Ended f zs s) →
+            Ended f zs s
+        go (stays-home h) e rest = at-home p e h
+        go (stuck h d) e rest = nothing-live p e h x xs left d
+        go (went y c) e rest =
+            rest _ e (subst (λ (n : ℕ). drop n zs ≡ xs) (add-one (p .hops)) (sym (drop-drop 1 (p .hops) zs) ∙ ap (drop 1) left))
+            (omega (arith, law .falls _ y (law .chosen _ _ y c)))
 
   exact : (left : ℕ) (s : f .State) → rank s ≤ left → Exact f rank valid s (longest f left s)
   unfolding hopsMade start
@@ -155,7 +157,6 @@ module _ (f : Forwarding) (rank : f .State → ℕ) (valid : f .States → Type 
               omega (arith, way .2, within left xs (start s) r, over-way (way .1) (replicate more (law .some-valid .0)) 0),
             );
         at-most-rank = omega (arith, way .2, way-falls (way .1));
-        ends = λ xs. ending xs s xs (start s) refl refl;
       }
     where
       way : (xs : List (f .States)) × Way f valid s xs × (length xs ≡ longest f left s)
@@ -163,6 +164,19 @@ module _ (f : Forwarding) (rank : f .State → ℕ) (valid : f .States → Type 
 
 pub walks-exact : WalksExact
 walks-exact = exact
+
+pub walks-finish : WalksFinish
+unfolding start
+walks-finish f rank valid law only-home xs s = ending f rank valid law only-home xs s xs (start s) refl refl
+
+pub walks-by-hops : WalksByHops
+unfolding walk walkOn
+walks-by-hops f x xs p =
+    record {
+      delivers = ap (λ (o : Hop (f .State)). walkOn p o (walk f xs));
+      drops = ap (λ (o : Hop (f .State)). walkOn p o (walk f xs));
+      goes-on = λ q. ap (λ (o : Hop (f .State)). walkOn p o (walk f xs));
+    }
 
 pub routes-walked : RoutesWalked
 unfolding walk walkEnd walkOn hop hopTo packetOf route routeOn endOf

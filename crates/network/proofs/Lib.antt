@@ -6,11 +6,15 @@ pub mod Pigeon
 pub mod Least
 pub mod Greatest
 pub mod Distance
+pub mod Arcs
 pub mod Linked
 pub mod NextHop
 pub mod Candidate
 pub mod Selection
+pub mod Splits
+pub mod Placing
 pub mod Order
+pub mod Build
 pub mod Rank
 pub mod Row
 pub mod Filled

@@ -44,6 +44,11 @@ module _ {A : Type 0} where
   mem-take (suc k) [] m = absurd (List·Memᴰ·not-nil m)
   mem-take (suc k) (x ∷ xs) m = ⊎-elim (λ e. List·Memᴰ·head e) (λ m′. List·Memᴰ·tail (mem-take k xs m′)) (List·Memᴰ·cases-cons m)
 
+  -- a list in which nothing stands
+  pub empty : (xs : List A) → ((x : A) → List·Memᴰ x xs → ⊥) → xs ≡ []
+  empty [] h = refl
+  empty (x ∷ xs) h = absurd (h x (List·Memᴰ·head refl))
+
   -- a list from an element that stands in it on, and what stands before
   pub split : {u : A} {xs : List A} → List·Memᴰ u xs → (before after : List A) × (xs ≡ before ++ (u ∷ after))
   split (List·Memᴰ·head {xs} e) = ([], xs, ap (λ (v : A). v ∷ xs) (sym e))

@@ -14,26 +14,18 @@ use Rattle.network.specs.Lists.{below, every, Pairwise}
 use Rattle.network.specs.Network.{Arc, Network}
 use Rattle.network.specs.Routing.{up, validStates, firstLive}
 use Rattle.network.specs.Theorems.Routing.{AllDown, FirstLive}
-use Rattle.network.proofs.Tests.{and, truth, eq-test}
+use Rattle.network.proofs.Tests.{and, truth, passes, fails, eq-test}
 use Rattle.network.proofs.Lists.{split, pairwise-split}
 use Rattle.network.proofs.Below.{getD-below, length-map-below}
 
 module _ (states : List ℕ) where
   pub live-up : (a : Arc) (rest : List Arc) → T (up states (a .link)) → firstLive states (a ∷ rest) ≡ some a
   unfolding firstLive
-  live-up a rest t = step (up states (a .link)) t
-    where
-      step : (b : Bool) → T b → cond b (some a) (firstLive states rest) ≡ some a
-      step true s = refl
-      step false s = absurd s
+  live-up a rest t = passes (up states (a .link)) t (some a) (firstLive states rest)
 
   live-down : (a : Arc) (rest : List Arc) → (T (up states (a .link)) → ⊥) → firstLive states (a ∷ rest) ≡ firstLive states rest
   unfolding firstLive
-  live-down a rest o = step (up states (a .link)) o
-    where
-      step : (b : Bool) → (T b → ⊥) → cond b (some a) (firstLive states rest) ≡ firstLive states rest
-      step true s = absurd (s tt)
-      step false s = refl
+  live-down a rest o = fails (up states (a .link)) o (some a) (firstLive states rest)
 
   pub live-mem : (entries : List Arc) (a : Arc) → firstLive states entries ≡ some a → List·Memᴰ a entries
   unfolding firstLive

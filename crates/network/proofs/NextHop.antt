@@ -11,6 +11,7 @@ use Rattle.network.specs.Network.{Arc, Network, size, arcsOf, WellFormed
 use Rattle.network.specs.Distance.{PathTo, arrived, along, pathCost, absent, through, distances, distance}
 use Rattle.network.specs.Order.{reached, shortestNextHops}
 use Rattle.network.specs.Theorems.Distance.{DistanceExact}
+use Rattle.network.specs.Theorems.Order.{via}
 use Rattle.network.proofs.Distance.{distances-exact}
 use Rattle.network.proofs.Lists.{mem-keep, keep-mem}
 use Rattle.network.proofs.Tests.{eq-test}
@@ -39,8 +40,8 @@ module _ (n : Network) (wf : WellFormed n) (d : ℕ) (in-network : d < size n) w
       cases (no h) = let e : distance n d u ≡ absent n = exact u .missing (λ p. h (exact u .present p)) in omega arith
 
   -- no neighbour offers less than the distance
-  pub no-less : (u : ℕ) (a : Arc) → List·Memᴰ a (arcsOf n u) → distance n d u ≤ through n (distances n d) a
-  unfolding through distance pathCost
+  pub no-less : (u : ℕ) (a : Arc) → List·Memᴰ a (arcsOf n u) → distance n d u ≤ via n d a
+  unfolding pathCost
   no-less u a m = cases (decLt (distance n d (a .to)) (absent n))
     where
       cases : Dec (distance n d (a .to) < absent n) → distance n d u ≤ a .cost + distance n d (a .to)
@@ -52,25 +53,28 @@ module _ (n : Network) (wf : WellFormed n) (d : ℕ) (in-network : d < size n) w
     unfolding shortestNextHops
     next-arc = mem-keep _ (arcsOf n u) m .0
 
-    pub next-through : through n (distances n d) a ≡ distance n d u
-    unfolding shortestNextHops distance
-    next-through = eqb→eq _ _ (mem-keep _ (arcsOf n u) m .1)
+    pub next-via : via n d a ≡ distance n d u
+    unfolding shortestNextHops through distance
+    next-via = eqb→eq _ _ (mem-keep _ (arcsOf n u) m .1)
 
     pub next-nearer : distance n d (a .to) < distance n d u
-    unfolding through distance
-    next-nearer = omega (arith, next-through, wf .sound u a next-arc .cost-least)
+    next-nearer = omega (arith, next-via, wf .sound u a next-arc .cost-least)
 
     pub next-path : PathTo n d u → PathTo n d (a .to)
     next-path p = exact (a .to) .attained (omega (arith, next-nearer, exact u .present p)) .0
 
-  pub is-next : (u : ℕ) (a : Arc) → List·Memᴰ a (arcsOf n u) → through n (distances n d) a ≡ distance n d u →
-      List·Memᴰ a (shortestNextHops n (distances n d) u)
-  unfolding shortestNextHops distance
+  pub is-next : (u : ℕ) (a : Arc) → List·Memᴰ a (arcsOf n u) → via n d a ≡ distance n d u → List·Memᴰ a (shortestNextHops n (distances n d) u)
+  unfolding shortestNextHops through distance
   is-next u a m e = keep-mem _ (arcsOf n u) m (eq-test e)
+
+  -- a router with a shortest next hop has a path: what lies behind the arc has a distance, so it has a path
+  pub through-path : (u : ℕ) (a : Arc) → List·Memᴰ a (arcsOf n u) → via n d a ≡ distance n d u → PathTo n d u
+  through-path u a m e =
+      along a m (exact (a .to) .attained (omega (arith, at-most-absent u, wf .sound u a m .cost-least)) .0)
 
   -- a shortest path begins with a shortest next hop
   pub some-next : {u : ℕ} → PathTo n d u → u ≢ d → (a : Arc) × List·Memᴰ a (shortestNextHops n (distances n d) u)
-  unfolding pathCost through distance
+  unfolding pathCost
   some-next {u} p other = first (exact u .attained (exact u .present p))
     where
       first : ((q : PathTo n d u) × (pathCost q ≡ distance n d u)) → (a : Arc) × List·Memᴰ a (shortestNextHops n (distances n d) u)

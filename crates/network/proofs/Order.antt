@@ -1,7 +1,7 @@
 -- Building and acceptance. Placing goes on while there is a candidate, which there is while a router with a path is unplaced; with room for every
 -- place it ends with all of them. Each router is a candidate when placed, which is what `accepted` asks.
 -- Assumes nothing.
-use Prim.Native.Nat.{ℕ, zero, suc, pred, _+_, _≤_, _<_}
+use Prim.Native.Nat.{ℕ, zero, suc, _+_, _≤_, _<_}
 use mathlib.Core.Bool.{true, false}
 use mathlib.Core.List.{List, [], _∷_, _++_, List·Memᴰ, List·Memᴰ·head, List·Memᴰ·cases-cons, List·Memᴰ·not-nil}
 use mathlib.Core.List.{append-nil, nil≢cons, head-eq-of-cons-eq, tail-eq-of-cons-eq, Memᴰ·append-left, List·Memᴰ·append-cases}
@@ -22,34 +22,30 @@ use Rattle.network.specs.Theorems.Order.{Candidate, Accepted, Acceptance
 use Rattle.network.proofs.Tests.{both, and, three, and-three, eq-test}
 use Rattle.network.proofs.Lists.{mem-keep, keep-mem, every-all, all-every, member-mem, mem-member, distinct-fact, fact-distinct}
 use Rattle.network.proofs.Below.{mem-below, below-lt, below-distinct, length-below}
-use Rattle.network.proofs.Pigeon.{no-longer, at-most, member?, all-there, one-more, distinct-snoc}
+use Rattle.network.proofs.Pigeon.{no-longer, at-most, member?, all-there, distinct-cons, distinct-snoc}
 use Rattle.network.proofs.Distance.{starts-in}
 use Rattle.network.proofs.NextHop.{path-reached, reached-path}
 use Rattle.network.proofs.Candidate.{candidate-fact, fact-candidate, also-free, some-candidate}
 use Rattle.network.proofs.Selection.{selection-right}
+use Rattle.network.proofs.Splits.{Splits, no-more, one-more, head-of, tail-of}
+use Rattle.network.proofs.Placing.{placing-next}
 
 module _ (n : Network) (wf : WellFormed n) (d : ℕ) (in-network : d < size n) (mode : Mode) where
-  -- every split of `rest` shows a candidate behind `placed` and what stands before it
-  InTurn : List ℕ → List ℕ → Type 0
-  InTurn placed rest = (before : List ℕ) (u : ℕ) (after : List ℕ) → rest ≡ before ++ (u ∷ after) → Candidate n d mode (placed ++ before) u
+  -- the test at each place of a list is a fact at each split of it
+  turn-fact : (placed rest : List ℕ) → T (candidatesInTurn n (distances n d) mode placed rest) → Splits (Candidate n d mode) placed rest
+  unfolding candidatesInTurn
+  turn-fact placed [] t = no-more (Candidate n d mode) placed
+  turn-fact placed (v ∷ rest) t =
+      let (c, r) = both (candidate n (distances n d) mode placed v) (candidatesInTurn n (distances n d) mode (placed ++ (v ∷ [])) rest) t in
+      one-more (Candidate n d mode) placed v rest (candidate-fact n wf d in-network mode placed v c) (turn-fact (placed ++ (v ∷ [])) rest r)
 
-  turn-fact : (placed rest : List ℕ) → T (candidatesInTurn n (distances n d) mode placed rest) → InTurn placed rest
-  unfolding InTurn candidatesInTurn
-  turn-fact placed [] t [] u after e = absurd (nil≢cons e)
-  turn-fact placed [] t (w ∷ before) u after e = absurd (nil≢cons e)
-  turn-fact placed (v ∷ rest) t [] u after e =
-      rw (append-nil, ← head-eq-of-cons-eq e) (candidate-fact n wf d in-network mode placed v (both (candidate n (distances n d) mode placed v) _ t .0))
-  turn-fact placed (v ∷ rest) t (w ∷ before) u after e =
-      rw (← head-eq-of-cons-eq e, ← append-snoc placed v before)
-      (turn-fact (placed ++ (v ∷ [])) rest (both (candidate n (distances n d) mode placed v) _ t .1) before u after (tail-eq-of-cons-eq e))
-
-  fact-turn : (placed rest : List ℕ) → InTurn placed rest → T (candidatesInTurn n (distances n d) mode placed rest)
-  unfolding InTurn candidatesInTurn
+  fact-turn : (placed rest : List ℕ) → Splits (Candidate n d mode) placed rest → T (candidatesInTurn n (distances n d) mode placed rest)
+  unfolding candidatesInTurn
   fact-turn placed [] h = tt
   fact-turn placed (v ∷ rest) h =
       and (candidate n (distances n d) mode placed v) (candidatesInTurn n (distances n d) mode (placed ++ (v ∷ [])) rest)
-      (fact-candidate n wf d in-network mode placed v (rw append-nil at (h [] v rest refl)))
-      (fact-turn (placed ++ (v ∷ [])) rest (λ before u after e. rw (append-snoc placed v before) (h (v ∷ before) u after (ap (λ (l : List ℕ). v ∷ l) e))))
+      (fact-candidate n wf d in-network mode placed v (head-of (Candidate n d mode) placed v rest h))
+      (fact-turn (placed ++ (v ∷ [])) rest (tail-of (Candidate n d mode) placed v rest h))
 
   -- candidates in turn differ from one another and from what was placed, and have paths
   turn-distinct : (placed rest : List ℕ) → T (candidatesInTurn n (distances n d) mode placed rest) → Distinct placed → Distinct (placed ++ rest)
@@ -67,18 +63,8 @@ module _ (n : Network) (wf : WellFormed n) (d : ℕ) (in-network : d < size n) (
       ⊎-elim (λ e. rw e (candidate-fact n wf d in-network mode placed u c .path)) (turn-paths (placed ++ (u ∷ [])) rest r v) (List·Memᴰ·cases-cons m)
 
   placing-turn : (left : ℕ) (placed : List ℕ) → T (candidatesInTurn n (distances n d) mode placed (placing n (distances n d) mode left placed))
-  unfolding placing continued candidatesInTurn
-  placing-turn zero placed = tt
-  placing-turn (suc left) placed = step (select n (distances n d) mode placed) refl (λ u. placing-turn left (placed ++ (u ∷ [])))
-    where
-      more : ℕ → List ℕ
-      more u = placing n (distances n d) mode left (placed ++ (u ∷ []))
-
-      step : (o : Option ℕ) → select n (distances n d) mode placed ≡ o → ((u : ℕ) → T (candidatesInTurn n (distances n d) mode (placed ++ (u ∷ [])) (more u))) →
-          T (candidatesInTurn n (distances n d) mode placed (continued o more))
-      step none e rest = tt
-      step (some u) e rest =
-          and (candidate n (distances n d) mode placed u) _ (selection-right n wf d in-network mode placed .taken u e) (rest u)
+  placing-turn left placed =
+      fact-turn placed _ (λ before u after e. selection-right n wf d in-network mode (placed ++ before) .taken u (placing-next n d mode left placed before u after e))
 
   -- with room for every place, placing leaves out no router that has a path
   placing-all : (left : ℕ) (placed : List ℕ) → List·Memᴰ d placed → Distinct placed → ((v : ℕ) → List·Memᴰ v placed → v < size n) →
@@ -98,9 +84,9 @@ module _ (n : Network) (wf : WellFormed n) (d : ℕ) (in-network : d < size n) (
       step none e rest (yes k) = Memᴰ·append-left [] k
       step none e rest (no out) =
           let (v, c) = some-candidate n wf d in-network mode placed m u path out in
-          absurd (selection-right n wf d in-network mode placed .stuck e v (fact-candidate n wf d in-network mode placed v c))
+          absurd (selection-right n wf d in-network mode placed .stuck e v c)
       step (some w) e rest k =
-          let c = candidate-fact n wf d in-network mode placed w (selection-right n wf d in-network mode placed .taken w e) in
+          let c = selection-right n wf d in-network mode placed .taken w e in
           rw append-snoc at
           (rest w (Memᴰ·append-left (w ∷ []) m) (distinct-snoc p (c .unplaced))
           (λ v l. ⊎-elim (h v) (λ j. let e′ : v ≡ w = List·Memᴰ·eq-of-singleton j in rw e′ (starts-in n wf d in-network (c .path)))
@@ -129,7 +115,7 @@ module _ (n : Network) (wf : WellFormed n) (d : ℕ) (in-network : d < size n) (
       (λ u m. mem-member u order (all u (reached-path n wf d in-network u (mem-keep _ (below (size n)) m .1)))))
 
   accepted-fact : (order : List ℕ) → T (accepted n d mode order) → Accepted n d mode order
-  unfolding accepted firstIs othersInTurn InTurn
+  unfolding accepted firstIs othersInTurn
   accepted-fact [] t = absurd (three (holdsEachOnce n (distances n d) []) false true t .1)
   accepted-fact (w ∷ rest) t =
       let (holds, first, turn) = three (holdsEachOnce n (distances n d) (w ∷ rest)) _ (candidatesInTurn n (distances n d) mode (w ∷ []) rest) t in
@@ -143,25 +129,29 @@ module _ (n : Network) (wf : WellFormed n) (d : ℕ) (in-network : d < size n) (
       }
 
   fact-accepted : (order : List ℕ) → Accepted n d mode order → T (accepted n d mode order)
-  unfolding accepted firstIs othersInTurn InTurn
+  unfolding accepted firstIs othersInTurn
   fact-accepted [] a = absurd (nil≢cons (a .first .1))
   fact-accepted (w ∷ rest) a =
       and-three (holdsEachOnce n (distances n d) (w ∷ rest)) _ (candidatesInTurn n (distances n d) mode (w ∷ []) rest)
       (fact-holds (w ∷ rest) (a .once) (a .all) (a .only)) (eq-test (head-eq-of-cons-eq (a .first .1)))
       (fact-turn (w ∷ []) rest (λ before u after e. a .in-turn w before u after (ap (λ (l : List ℕ). w ∷ l) e)))
 
-  built : T (accepted n d mode (build n d mode))
-  unfolding build accepted firstIs othersInTurn
-  built =
-      let turn = placing-turn (pred (size n)) (d ∷ []) in
-      let order = build n d mode in
-      let alone : Distinct (d ∷ []) = one-more List·Memᴰ·not-nil nothing in
+  -- an order with room for every place is accepted
+  built-with : (left : ℕ) → size n ≤ left + 1 → T (accepted n d mode (d ∷ placing n (distances n d) mode left (d ∷ [])))
+  unfolding accepted firstIs othersInTurn
+  built-with left room =
+      let turn = placing-turn left (d ∷ []) in
+      let order = d ∷ placing n (distances n d) mode left (d ∷ []) in
+      let alone : Distinct (d ∷ []) = distinct-cons List·Memᴰ·not-nil nothing in
       and-three (holdsEachOnce n (distances n d) order) _ _
       (fact-holds order (turn-distinct (d ∷ []) _ turn alone)
-      (placing-all (pred (size n)) (d ∷ []) (List·Memᴰ·head refl) alone
-      (λ v m. let e : v ≡ d = List·Memᴰ·eq-of-singleton m in rw e in-network) (omega arith))
+      (placing-all left (d ∷ []) (List·Memᴰ·head refl) alone (λ v m. let e : v ≡ d = List·Memᴰ·eq-of-singleton m in rw e in-network) room)
       (λ u m. ⊎-elim (λ e. arrived e) (turn-paths (d ∷ []) _ turn u) (List·Memᴰ·cases-cons m)))
       (eqb-refl d) turn
+
+  built : T (accepted n d mode (build n d mode))
+  unfolding build
+  built = built-with _ (omega arith)
 
   -- an accepted order is no longer than N
   pub order-fits : {order : List ℕ} → Accepted n d mode order → length order ≤ size n

@@ -47,8 +47,8 @@ member? u (x ∷ xs) = step (ℕ-discrete u x) (member? u xs)
     step (no ne) (no nm) = no (λ m. ⊎-elim ne nm (List·Memᴰ·cases-cons m))
 
 -- one more can be put before different elements if it is not among them
-pub one-more : {u : ℕ} {xs : List ℕ} → (List·Memᴰ u xs → ⊥) → Distinct xs → Distinct (u ∷ xs)
-one-more nm dist = then (λ y m e. nm (Memᴰ·cast e m)) dist
+pub distinct-cons : {u : ℕ} {xs : List ℕ} → (List·Memᴰ u xs → ⊥) → Distinct xs → Distinct (u ∷ xs)
+distinct-cons nm dist = then (λ y m e. nm (Memᴰ·cast e m)) dist
 
 -- n of them leave none of the numbers below n out
 pub all-there : (n : ℕ) (xs : List ℕ) → Distinct xs → ((x : ℕ) → List·Memᴰ x xs → x < n) → n ≤ length xs → (u : ℕ) → u < n → List·Memᴰ u xs
@@ -56,4 +56,4 @@ all-there n xs dist h full u lt = step (member? u xs)
   where
     step : Dec (List·Memᴰ u xs) → List·Memᴰ u xs
     step (yes m) = m
-    step (no nm) = absurd (omega (arith, at-most n (u ∷ xs) (one-more nm dist) (λ x m. ⊎-elim (λ e. rw e lt) (h x) (List·Memᴰ·cases-cons m))))
+    step (no nm) = absurd (omega (arith, at-most n (u ∷ xs) (distinct-cons nm dist) (λ x m. ⊎-elim (λ e. rw e lt) (h x) (List·Memᴰ·cases-cons m))))

@@ -15,6 +15,7 @@ use Rattle.network.specs.Distance.{PathTo}
 use Rattle.network.specs.Order.{Mode}
 use Rattle.network.specs.Row.{rank}
 use Rattle.network.specs.Theorems.Order.{Candidate, Accepted}
+use Rattle.network.specs.Theorems.Row.{RankIsTurn}
 use Rattle.network.proofs.Lists.{split}
 
 -- a router ranks at most behind all
@@ -46,6 +47,15 @@ unfolding rank
 rank-at [] u after out = rw (eq-eqb u u refl)
 rank-at (w ∷ before) u after out =
     rw (ne-eqb w u (λ e. out (List·Memᴰ·head (sym e)))) (ap suc (rank-at before u after (λ m. out (List·Memᴰ·tail m))))
+
+rank-past : (order : List ℕ) (u : ℕ) → (List·Memᴰ u order → ⊥) → rank order u ≡ length order
+unfolding rank
+rank-past [] u out = refl
+rank-past (w ∷ order) u out =
+    rw (ne-eqb w u (λ e. out (List·Memᴰ·head (sym e)))) (ap suc (rank-past order u (λ m. out (List·Memᴰ·tail m))))
+
+pub rank-is-turn : RankIsTurn
+rank-is-turn u = (λ before after. rank-at before u after, λ order. rank-past order u)
 
 -- d has rank 0, and nothing else has
 pub rank-of-d : {n : Network} {d : ℕ} {mode : Mode} {order : List ℕ} → Accepted n d mode order → rank order d ≡ 0

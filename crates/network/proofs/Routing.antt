@@ -6,29 +6,45 @@ use mathlib.Core.Logic.{_≢_, inl, inr, ⊎-elim}
 use mathlib.Core.Path.{_≡_}
 use native.Mathlib.Omega.{arith}
 use borrow.Author.Tests.{eq-eqb, ne-eqb}
-use lib.Dec.{T, ltb, eqb→eq, lt→ltb}
+use lib.Dec.{T, eqb, ltb, leb, eqb→eq, ltb→lt, lt→ltb, leb→le, le→leb}
 use lib.ListN.{length}
+use Rattle.network.specs.Lists.{every}
 use Rattle.network.specs.Network.{Arc, Network, size, arcsOf, WellFormed}
 use Rattle.network.specs.Distance.{distances}
 use Rattle.network.specs.Order.{free, accepted}
 use Rattle.network.specs.Row.{rank, row}
 use Rattle.network.specs.Forwarding.{Packet, Hop, delivered, dropped, hopTo, hop}
-use Rattle.network.specs.Routing.{validStates, routers, greatestHop, greatestHops, refusals}
+use Rattle.network.specs.Routing.{validStates, routers, greatestHop, greatestHops, callTests}
 use Rattle.network.specs.Theorems.Order.{Accepted}
 use Rattle.network.specs.Theorems.Forwarding.{Lawful, Exact, Ended, at-home, nothing-live}
 use Rattle.network.specs.Theorems.Calls.{CallsBounded}
 use Rattle.network.specs.Theorems.Routing.{AllDown, HopRule, HopsByRule, RoutersLawful, RoutersExact, WalkEnd, delivers, drops, WalksEnd}
-use Rattle.network.specs.Theorems.Routing.{RoutersCalls, FiguresByPlace}
-use Rattle.network.proofs.Tests.{and-three, eq-test}
-use Rattle.network.proofs.Lists.{mem-take}
+use Rattle.network.specs.Theorems.Routing.{RoutersCalls, FiguresByPlace, TestsRight}
+use Rattle.network.proofs.Tests.{both, and, three, and-three, eq-test}
+use Rattle.network.proofs.Lists.{mem-take, every-all, all-every}
 use Rattle.network.proofs.Below.{getD-below, length-map-below}
 use Rattle.network.proofs.Order.{acceptance-exact, order-fits}
 use Rattle.network.proofs.Rank.{rank-most, rank-zero}
 use Rattle.network.proofs.Row.{full-row-exact, rows-sound}
 use Rattle.network.proofs.Filled.{rows-filled}
 use Rattle.network.proofs.Live.{live-mem, first-live, down-or-live, none-live, down-none, alone-live, onlyUp, only-valid, only-up, others-down}
-use Rattle.network.proofs.Forwarding.{walks-exact, Hopped, stays-home, stuck, went, hopped, hop-down}
+use Rattle.network.proofs.Forwarding.{walks-exact, walks-finish, Hopped, stays-home, stuck, went, hopped, hop-down}
 use Rattle.network.proofs.Calls.{calls-exact}
+
+pub tests-right : TestsRight
+unfolding validStates
+tests-right n d limit order = (
+  λ u. (ltb→lt u (size n), lt→ltb u (size n)),
+  λ states p. (
+    λ t.
+        let (station, hops, valid) = three (ltb (p .station) (size n)) (ltb (p .hops) (size n)) (validStates n states) t in
+        let (long, bits) = both (eqb (length states) (n .links)) (every (λ b. leb b 1) states) valid in
+        (ltb→lt _ _ station, ltb→lt _ _ hops, (eqb→eq _ _ long, λ b m. leb→le b 1 (every-all _ states bits b m))),
+    λ (station, hops, (long, bits)).
+        and-three (ltb (p .station) (size n)) (ltb (p .hops) (size n)) (validStates n states) (lt→ltb _ _ station) (lt→ltb _ _ hops)
+        (and (eqb (length states) (n .links)) (every (λ b. leb b 1) states) (eq-test long) (all-every _ states (λ b m. le→leb b 1 (bits b m)))),
+  ),
+)
 
 module _ (n : Network) (wf : WellFormed n) (d : ℕ) (in-network : d < size n) (limit : ℕ) (order : List ℕ) (t : T (accepted n d free order)) where
   as-accepted : Accepted n d free order
@@ -43,7 +59,6 @@ module _ (n : Network) (wf : WellFormed n) (d : ℕ) (in-network : d < size n) (
   lawful =
       record {
         home-row = λ u h. let e : u ≡ d = eqb→eq u d h in rw e (rows-filled n wf d in-network limit order t .no-entry);
-        rank-zero = λ u e. eq-test (rank-zero as-accepted u e);
         falls = λ u a m. rows-sound n wf d in-network limit order u .lower a m;
         chosen = λ states u a e. live-mem states (row n (distances n d) limit order u) a e;
         choosable = λ u a m. (
@@ -64,7 +79,8 @@ module _ (n : Network) (wf : WellFormed n) (d : ℕ) (in-network : d < size n) (
   exact u = walks-exact (routers n d limit order) (rank order) _ lawful (size n) u (rank-fits u)
 
   walk-end : (xs : List (List ℕ)) (u : ℕ) → rank order u ≤ length xs → WalkEnd n d limit order xs u
-  walk-end xs u h = step (exact u .ends xs h)
+  walk-end xs u h =
+      step (walks-finish (routers n d limit order) (rank order) _ lawful (λ v e. eq-test (rank-zero as-accepted v e)) xs u h)
     where
       step : Ended (routers n d limit order) xs u → WalkEnd n d limit order xs u
       step (at-home p e home) = delivers p e (eqb→eq _ _ home)
@@ -94,10 +110,10 @@ module _ (n : Network) (wf : WellFormed n) (d : ℕ) (in-network : d < size n) (
       off-d (stuck h c) e = (λ same. h (eq-test same), none-live states _ c)
       off-d (went a c) e = let never : _≡_ {A = ℕ} 0 1 = cc in absurd (omega arith)
 
-  calls : CallsBounded (routers n d limit order) (refusals n d limit order) (greatestHop n d limit order)
+  calls : CallsBounded (routers n d limit order) (callTests n d limit order) (greatestHop n d limit order)
   unfolding greatestHop
   calls =
-      calls-exact (routers n d limit order) (rank order) _ lawful (refusals n d limit order) (size n)
+      calls-exact (routers n d limit order) (rank order) _ lawful (callTests n d limit order) (size n)
       record {
         ranked = λ u ok. rank-fits u;
         stays = λ u ok a m. lt→ltb (a .to) (size n) (wf .sound u a (entry-arc u a m) .place);

@@ -6,11 +6,13 @@ use mathlib.Core.Logic.{_↔_, _≢_, _⊎_, inl, inr, ⊎-elim}
 use mathlib.Core.Path.{_≡_, sym, _∙_, ap, subst}
 use native.Mathlib.Decide.{ℕ-discrete}
 use native.Mathlib.Omega.{arith}
+use lib.ListN.{drop, take-append-drop, length-take}
 use lib.Dec.{T, ltb→lt, lt→ltb}
 use Rattle.network.specs.Lists.{Pairwise, nothing, then}
 use Rattle.network.specs.Network.{Arc, Network, size, arcsOf, WellFormed}
-use Rattle.network.specs.Distance.{through, distances}
+use Rattle.network.specs.Distance.{through, distances, distance}
 use Rattle.network.specs.Row.{rank, sortsBefore, rankedBefore, fullRow, row}
+use Rattle.network.specs.Theorems.Order.{via}
 use Rattle.network.specs.Theorems.Row.{Before, FullRow, FullRowExact, Row, RowSound}
 use Rattle.network.proofs.Tests.{wins-fact, fact-wins, ties-trans, wins-either}
 use Rattle.network.proofs.Lists.{mem-keep, keep-mem, mem-take, pairwise-keep, pairwise-take}
@@ -32,10 +34,10 @@ module _ (n : Network) (wf : WellFormed n) (d : ℕ) (in-network : d < size n) (
   ds : List ℕ
   ds = distances n d
 
-  before-trans : (a b c : Arc) → Before n ds a b → Before n ds b c → Before n ds a c
-  before-trans a b c = ties-trans (through n ds a) (through n ds b) (through n ds c) (λ h k. omega arith)
+  before-trans : (a b c : Arc) → Before n d a b → Before n d b c → Before n d a c
+  before-trans a b c = ties-trans (via n d a) (via n d b) (via n d c) (λ h k. omega arith)
 
-  never-before-itself : (a : Arc) → Before n ds a a → ⊥
+  never-before-itself : (a : Arc) → Before n d a a → ⊥
   never-before-itself a h = ⊎-elim (λ l. omega arith) (λ l. omega arith) h
 
   holds : (a : Arc) → List·Memᴰ a (fullRow n ds order u) ↔ (List·Memᴰ a (arcsOf n u) × (rank order (a .to) < rank order u))
@@ -57,8 +59,8 @@ module _ (n : Network) (wf : WellFormed n) (d : ℕ) (in-network : d < size n) (
           inr (wins-either _ _ _ _
           (omega (arith, ids-apart wf (a .to) (b .to) (wf .sound u a (arc m) .place) (wf .sound u b (arc k) .place) apart)))
 
-  rising : Pairwise (Before n ds) (fullRow n ds order u)
-  unfolding fullRow rankedBefore sortsBefore
+  rising : Pairwise (Before n d) (fullRow n ds order u)
+  unfolding ds fullRow rankedBefore sortsBefore through distance
   rising =
       pairwise-map (λ a b m k t. wins-fact _ _ _ _ t)
       (sort-rising (sortsBefore n ds)
@@ -68,7 +70,7 @@ module _ (n : Network) (wf : WellFormed n) (d : ℕ) (in-network : d < size n) (
   -- what differs between the arcs of a router differs between the entries of its row
   differ : {B : Type 0} (f : Arc → B) → Pairwise (λ a b. f a ≢ f b) (arcsOf n u) → Pairwise (λ a b. f a ≢ f b) (fullRow n ds order u)
   differ f p =
-      pairwise-map (λ a b m k h e. never-before-itself a (subst (Before n ds a) (sym (same-by f p (holds a .0 m .0) (holds b .0 k .0) e)) h)) rising
+      pairwise-map (λ a b m k h e. never-before-itself a (subst (Before n d a) (sym (same-by f p (holds a .0 m .0) (holds b .0 k .0) e)) h)) rising
 
   full-row : FullRow n d order u
   unfolding ds
@@ -84,6 +86,8 @@ module _ (n : Network) (wf : WellFormed n) (d : ℕ) (in-network : d < size n) (
   unfolding row ds
   row-sound limit =
       record {
+        how-many = length-take limit (fullRow n ds order u);
+        cut = (drop limit (fullRow n ds order u), sym (take-append-drop limit (fullRow n ds order u)));
         lower = λ a m. holds a .0 (mem-take limit (fullRow n ds order u) m) .1;
         links-differ = pairwise-take limit (differ (λ a. a .link) (wf .links-differ u));
       }

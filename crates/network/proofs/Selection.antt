@@ -5,21 +5,22 @@ use mathlib.Core.List.{List, [], _∷_, List·Memᴰ, List·Memᴰ·head, List·
 use mathlib.Core.Logic.{_≢_, _⊎_, inl, inr, ⊎-elim}
 use mathlib.Core.Path.{_≡_, refl, sym, ap}
 use native.Mathlib.Decide.{ℕ-discrete}
-use native.Mathlib.Nat.{not-suc-le-zero, le-of-suc-le-suc}
+use native.Mathlib.Nat.{not-suc-le-zero, le-of-suc-le-suc, le-antisymm}
 use native.Mathlib.Omega.{arith}
 use lib.Dec.{T}
 use lib.ListN.{length, getD}
 use Rattle.network.specs.Lists.{below, keep, Distinct, nothing, then}
-use Rattle.network.specs.Network.{Network, size, idOf, WellFormed}
+use Rattle.network.specs.Network.{Arc, Network, size, idOf, arcsOf, WellFormed}
 use Rattle.network.specs.Distance.{distances}
-use Rattle.network.specs.Order.{Mode, candidate, placedNeighbours, preferred, select}
-use Rattle.network.specs.Theorems.Order.{Selected, SelectionRight}
+use Rattle.network.specs.Order.{Mode, leadsInto, candidate, placedNeighbours, preferred, select}
+use Rattle.network.specs.Theorems.Order.{Candidate, Selected, SelectionRight, ArcsInto, NeighboursCounted}
 use Rattle.network.proofs.Tests.{wins-fact, fact-wins, ties-trans, wins-either}
-use Rattle.network.proofs.Lists.{mem-keep, keep-mem}
-use Rattle.network.proofs.Sort.{Decides, foremost-right, foremost-none}
+use Rattle.network.proofs.Lists.{mem-keep, keep-mem, pairwise-keep, member-mem, mem-member}
+use Rattle.network.proofs.Sort.{pairwise-map, Decides, foremost-right, foremost-none}
 use Rattle.network.proofs.Below.{mem-below, below-lt}
+use Rattle.network.proofs.Pigeon.{no-longer}
 use Rattle.network.proofs.Distance.{starts-in}
-use Rattle.network.proofs.Candidate.{candidate-fact}
+use Rattle.network.proofs.Candidate.{candidate-fact, fact-candidate}
 
 getD-mem : {A : Type 0} (xs : List A) (i : ℕ) (z : A) → i < length xs → List·Memᴰ (getD xs i z) xs
 getD-mem [] i z h = absurd (not-suc-le-zero h)
@@ -60,20 +61,39 @@ module _ (n : Network) (wf : WellFormed n) (d : ℕ) (in-network : d < size n) (
       step (yes e) = inl e
       step (no apart) = inr (wins-either _ _ _ _ (omega (arith, ids-apart wf u v (place m) (place k) apart)))
 
-  among : (v : ℕ) → T (candidate n (distances n d) mode placed v) → List·Memᴰ v candidates
+  among : (v : ℕ) → Candidate n d mode placed v → List·Memᴰ v candidates
   unfolding candidates
-  among v t = keep-mem _ (below (size n)) (mem-below (starts-in n wf d in-network (candidate-fact n wf d in-network mode placed v t .path))) t
+  among v c = keep-mem _ (below (size n)) (mem-below (starts-in n wf d in-network (c .path))) (fact-candidate n wf d in-network mode placed v c)
 
   right : Selected n d mode placed
   unfolding select candidates preferred
   right =
       record {
-        taken = λ u e. mem-keep _ (below (size n)) (foremost-right (preferred n placed) preferred-trans candidates decides u e .0) .1;
-        others = λ u e v t apart.
+        taken = λ u e.
+            candidate-fact n wf d in-network mode placed u
+            (mem-keep _ (below (size n)) (foremost-right (preferred n placed) preferred-trans candidates decides u e .0) .1);
+        others = λ u e v c apart.
             ⊎-elim (λ same. absurd (apart same)) (λ s. wins-fact _ _ _ _ s)
-            (foremost-right (preferred n placed) preferred-trans candidates decides u e .1 v (among v t));
-        stuck = λ e v t. foremost-none (preferred n placed) candidates e v (among v t);
+            (foremost-right (preferred n placed) preferred-trans candidates decides u e .1 v (among v c));
+        stuck = λ e v c. foremost-none (preferred n placed) candidates e v (among v c);
       }
 
 pub selection-right : SelectionRight
 selection-right = right
+
+-- the arcs that lead into what is placed, each once, are those that are counted
+pub neighbours-counted : NeighboursCounted
+unfolding placedNeighbours leadsInto
+neighbours-counted n wf placed u = ((into, into-right), λ arcs (p, same). le-antisymm (no-longer arcs (into-right .0) (λ a m. same a .1 (into-right .1 a .0 m))) (no-longer into p (λ a m. into-right .1 a .1 (same a .0 m))))
+  where
+    into : List Arc
+    into = keep (leadsInto placed) (arcsOf n u)
+
+    into-right : ArcsInto n placed u into
+    into-right = (
+      pairwise-keep _ (pairwise-map (λ a b m k apart e. apart (ap (λ (c : Arc). c .to) e)) (wf .places-differ u)),
+      λ a. (
+        λ m. let (k, t) = mem-keep _ (arcsOf n u) m in (k, member-mem (a .to) placed t),
+        λ (k, l). keep-mem _ (arcsOf n u) k (mem-member (a .to) placed l),
+      ),
+    )

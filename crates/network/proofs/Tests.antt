@@ -1,9 +1,9 @@
 -- A test that passes, as a fact: conjunction, negation and the comparisons of numbers, each read off the test's value.
 -- Assumes nothing.
 use Prim.Native.Nat.{ℕ, _<_}
-use mathlib.Core.Bool.{Bool, true, false, _&&_, _||_}
+use mathlib.Core.Bool.{Bool, true, false, cond, _&&_, _||_}
 use mathlib.Core.Logic.{_≢_, _⊎_, inl, inr}
-use mathlib.Core.Path.{_≡_, subst}
+use mathlib.Core.Path.{_≡_, refl, subst}
 use native.Mathlib.Decide.{decLt}
 use native.Mathlib.Omega.{arith}
 use lib.Dec.{T, eqb, ltb, eqb→eq, eqb-refl, ltb→lt, lt→ltb}
@@ -42,6 +42,15 @@ or-right false b t = t
 pub truth : (b : Bool) → T b ⊎ (T b → ⊥)
 truth true = inl tt
 truth false = inr (λ t. t)
+
+-- what a test picks
+pub passes {ℓ} : {A : Type ℓ} (b : Bool) → T b → (x y : A) → cond b x y ≡ x
+passes true t x y = refl
+passes false t x y = absurd t
+
+pub fails {ℓ} : {A : Type ℓ} (b : Bool) → (T b → ⊥) → (x y : A) → cond b x y ≡ y
+fails true o x y = absurd (o tt)
+fails false o x y = refl
 
 pub eq-test : {m n : ℕ} → m ≡ n → T (eqb m n)
 eq-test {m} e = subst (λ (k : ℕ). T (eqb m k)) e (eqb-refl m)

@@ -5,7 +5,7 @@ use mathlib.Core.Bool.{Bool, cond, _&&_}
 use mathlib.Core.List.{List, [], _∷_, map}
 use mathlib.Core.Option.{Option, none, some}
 use lib.Dec.{eqb, ltb, leb}
-use lib.ListN.{length, getD, replicate}
+use lib.ListN.{length, getD}
 use Rattle.network.specs.Lists.{below, every}
 use Rattle.network.specs.Network.{Arc, Network, size}
 use Rattle.network.specs.Distance.{distances}
@@ -47,14 +47,11 @@ greatestHop n d limit order u = longest (routers n d limit order) (size n) u
 unfoldable pub greatestHops : Network → ℕ → ℕ → List ℕ → List ℕ
 greatestHops n d limit order = map (greatestHop n d limit order) (below (size n))
 
--- 01, Refusals, 15, 22 and 23: a start, a packet's station and its hops made are below N; link states are one byte per link, none over 1
-abbrev pub refusals : (n : Network) (d limit : ℕ) (order : List ℕ) → Tests (routers n d limit order)
-refusals n d limit order =
+-- 01, Refusals, 15, 22 and 23, for what is not refused: a start, a packet's station and its hops made are below N; link states are one byte per
+-- link, none over 1
+abbrev pub callTests : (n : Network) (d limit : ℕ) (order : List ℕ) → Tests (routers n d limit order)
+callTests n d limit order =
     record { start-ok = λ u. ltb u (size n); hop-ok = λ states p. ltb (p .station) (size n) && ltb (p .hops) (size n) && validStates n states }
-
--- 01, Packet, hop and schedule: a schedule of `rows` rows with all links up
-unfoldable pub allUp : Network → ℕ → List (List ℕ)
-allUp n rows = replicate rows (replicate (n .links) 1)
 
 -- 01, Order: the sum of the arcs' costs
 unfoldable pub costOf : List Arc → ℕ

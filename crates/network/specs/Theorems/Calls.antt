@@ -1,21 +1,39 @@
 -- What is proved of lists of calls, over any rows, any rule of choice that obeys the laws and any tests that refuse.
 -- Assumes nothing.
-use Prim.Native.Nat.{ℕ, _≤_, _<_}
-use mathlib.Core.List.{List, List·Memᴰ}
+use Prim.Native.Nat.{ℕ, _+_, _≤_, _<_}
+use mathlib.Core.List.{List, _∷_, List·Memᴰ}
+use mathlib.Core.Logic.{_⊎_}
 use mathlib.Core.Path.{_≡_}
 use lib.Dec.{T}
-use Rattle.network.specs.Forwarding.{Forwarding, Packet, start, longest}
-use Rattle.network.specs.Calls.{Call, Tests, afterCalls, lastSet}
+use Rattle.network.specs.Forwarding.{Forwarding, Packet, delivered, moved, dropped, hop, start, longest}
+use Rattle.network.specs.Calls.{Call, setting, hopping, Tests, afterCall, afterCalls, setBy, lastSet}
 use Rattle.network.specs.Theorems.Forwarding.{Lawful}
 
--- Demand 3, hop by hop. A list begins with an accepted setting at `first`; since the claim is of every list, it holds after every prefix of one.
+-- What one call does: a refused one changes nothing; a setting sets the packet to its start with 0 hops made; a hop goes by the rule for it, and only
+-- moved changes the packet.
+pub record CallRule (f : Forwarding) (tests : Tests f) (p : Packet (f .State)) (last : f .State) : Type 0 where
+  pub sets : (s : f .State) → T (tests .start-ok s) → (afterCall f tests (setting s) p ≡ start s) × (setBy f tests (setting s) last ≡ s)
+  pub set-refused : (s : f .State) → (T (tests .start-ok s) → ⊥) → (afterCall f tests (setting s) p ≡ p) × (setBy f tests (setting s) last ≡ last)
+  pub hop-refused : (x : f .States) → (T (tests .hop-ok x p) → ⊥) → afterCall f tests (hopping x) p ≡ p
+  pub hops : (x : f .States) → T (tests .hop-ok x p) → (q : Packet (f .State)) → hop f x p ≡ moved q → afterCall f tests (hopping x) p ≡ q
+  pub stays : (x : f .States) → T (tests .hop-ok x p) → (hop f x p ≡ delivered) ⊎ (hop f x p ≡ dropped) → afterCall f tests (hopping x) p ≡ p
+  pub hop-sets-nothing : (x : f .States) → setBy f tests (hopping x) last ≡ last
+
+abbrev pub CallsByRule : Type 1
+CallsByRule = (f : Forwarding) (tests : Tests f) (p : Packet (f .State)) (last : f .State) → CallRule f tests p last
+
+-- Demand 3, hop by hop. A list begins with an accepted setting at `first`, whatever the packet held; since the claim is of every list, it holds after
+-- every prefix of one.
 pub record CallsBounded (f : Forwarding) (tests : Tests f) (figure : f .State → ℕ) : Type 0 where
-  -- the packet never has more hops made than the figure of the station it was last set at
-  pub never-passed : (first : f .State) → T (tests .start-ok first) → (cs : List (Call f)) →
-      (afterCalls f tests cs (start first)) .hops ≤ figure (lastSet f tests cs first)
+  -- hops made plus the figure of where the packet is never exceed the figure of where it was last set
+  pub invariant : (p : Packet (f .State)) (first : f .State) → T (tests .start-ok first) → (cs : List (Call f)) →
+      (afterCalls f tests (setting first ∷ cs) p) .hops + figure ((afterCalls f tests (setting first ∷ cs) p) .station) ≤ figure (lastSet f tests cs first)
+  -- so the packet never has more hops made than the figure of the station it was last set at
+  pub never-passed : (p : Packet (f .State)) (first : f .State) → T (tests .start-ok first) → (cs : List (Call f)) →
+      (afterCalls f tests (setting first ∷ cs) p) .hops ≤ figure (lastSet f tests cs first)
   -- for each station some list that last sets it there reaches that figure
-  pub reached : (s : f .State) → T (tests .start-ok s) → (cs : List (Call f)) × (lastSet f tests cs s ≡ s)
-      × ((afterCalls f tests cs (start s)) .hops ≡ figure s)
+  pub reached : (p : Packet (f .State)) (s : f .State) → T (tests .start-ok s) → (cs : List (Call f)) × (lastSet f tests cs s ≡ s)
+      × ((afterCalls f tests (setting s ∷ cs) p) .hops ≡ figure s)
 
 -- What the tests must let pass for the figure to be reached: a start whose rank is at most `left`, and with it what its entries lead to; a hop under
 -- valid states from such a station while fewer than `left` hops are made.

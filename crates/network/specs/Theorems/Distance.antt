@@ -2,6 +2,7 @@
 -- Assumes nothing.
 use Prim.Native.Nat.{ℕ, suc, pred, _+_, _≤_, _<_}
 use mathlib.Core.Path.{_≡_}
+use lib.ListN.{length}
 use Rattle.network.specs.Network.{Network, size, WellFormed}
 use Rattle.network.specs.Distance.{PathTo, pathCost, absent, rounds, distances, distance}
 
@@ -15,8 +16,9 @@ pub record DistanceExact (n : Network) (d u : ℕ) : Type 0 where
 abbrev pub DistancesExact : Type 0
 DistancesExact = (n : Network) → WellFormed n → (d : ℕ) → d < size n → (u : ℕ) → DistanceExact n d u
 
--- No round past N - 1 changes a distance; after a round that changes none no later one does, so whoever computes them may stop there.
+-- Every round has a distance for each place, and no more. No round past N - 1 changes one; after a round that changes none no later one does, so whoever computes them may stop there.
 pub record RoundsEnd (n : Network) (d : ℕ) : Type 0 where
+  pub by-place : (k : ℕ) → length (rounds n d k) ≡ size n
   pub settled : (k : ℕ) → rounds n d (pred (size n) + k) ≡ distances n d
   pub still : (k : ℕ) → rounds n d (suc k) ≡ rounds n d k → (j : ℕ) → rounds n d (k + j) ≡ rounds n d k
   pub stopped : (k : ℕ) → rounds n d (suc k) ≡ rounds n d k → rounds n d k ≡ distances n d

@@ -6,23 +6,16 @@ use mathlib.Core.Option.{none, some}
 use mathlib.Core.Path.{_≡_}
 use lib.Dec.{T}
 use lib.ListN.{length, drop}
-use Rattle.network.specs.Forwarding.{Forwarding, Packet, delivered-at, dropped-at, packetOf, walk, start, hopsMade, route, endOf, longest}
+use Rattle.network.specs.Forwarding.{Forwarding, Packet, delivered, moved, dropped, delivered-at, dropped-at, packetOf, hop, walk, start, hopsMade, route, endOf, longest}
 
--- The laws that exactness needs. Of the rows: home has none, ranks fall along entries, and rank 0 is home. Of the rule of choice, two: what is chosen
--- stands in the row, and each entry of a row is chosen under some valid states. Some row of states is valid, so that schedules can be any length.
+-- The laws that exactness needs. Of the rows: home has none, and ranks fall along entries. Of the rule of choice, two: what is chosen stands in the
+-- row, and each entry of a row is chosen under some valid states. Some row of states is valid, so that schedules can be any length.
 pub record Lawful (f : Forwarding) (rank : f .State → ℕ) (valid : f .States → Type 0) : Type 0 where
   pub home-row : (s : f .State) → T (f .home s) → f .row s ≡ []
-  pub rank-zero : (s : f .State) → rank s ≡ 0 → T (f .home s)
   pub falls : (s : f .State) (e : f .Entry) → List·Memᴰ e (f .row s) → rank (f .next e) < rank s
   pub chosen : (x : f .States) (s : f .State) (e : f .Entry) → f .choose x s ≡ some e → List·Memᴰ e (f .row s)
   pub choosable : (s : f .State) (e : f .Entry) → List·Memᴰ e (f .row s) → (x : f .States) × valid x × (f .choose x s ≡ some e)
   pub some-valid : (x : f .States) × valid x
-
--- how a walk ended: at home, or off home where the row of states for that hop left nothing to choose
-pub data Ended (f : Forwarding) (xs : List (f .States)) (s : f .State) : Type 0 where
-  at-home : (p : Packet (f .State)) → walk f xs (start s) ≡ delivered-at p → T (f .home (p .station)) → Ended f xs s
-  nothing-live : (p : Packet (f .State)) → walk f xs (start s) ≡ dropped-at p → (T (f .home (p .station)) → ⊥) →
-      (x : f .States) (rest : List (f .States)) → drop (p .hops) xs ≡ x ∷ rest → f .choose x (p .station) ≡ none → Ended f xs s
 
 -- Demand 3, for walks: the figure of a station is exactly the greatest hop count of a walk from there.
 pub record Exact (f : Forwarding) (rank : f .State → ℕ) (valid : f .States → Type 0) (s : f .State) (figure : ℕ) : Type 0 where
@@ -33,14 +26,33 @@ pub record Exact (f : Forwarding) (rank : f .State → ℕ) (valid : f .States �
       × ((x : f .States) → List·Memᴰ x xs → valid x) × (hopsMade f xs s ≡ figure)
   -- it never exceeds the rank
   pub at-most-rank : figure ≤ rank s
-  -- with at least rank many rows a walk ends delivered or dropped
-  pub ends : (xs : List (f .States)) → rank s ≤ length xs → Ended f xs s
 
 -- The longest way is that figure, in any number of hops allowed that is at least the rank.
 abbrev pub WalksExact : Type 1
 WalksExact =
     (f : Forwarding) (rank : f .State → ℕ) (valid : f .States → Type 0) → Lawful f rank valid → (left : ℕ) (s : f .State) → rank s ≤ left →
     Exact f rank valid s (longest f left s)
+
+-- how a walk ended: at home, or off home where the row of states for that hop left nothing to choose
+pub data Ended (f : Forwarding) (xs : List (f .States)) (s : f .State) : Type 0 where
+  at-home : (p : Packet (f .State)) → walk f xs (start s) ≡ delivered-at p → T (f .home (p .station)) → Ended f xs s
+  nothing-live : (p : Packet (f .State)) → walk f xs (start s) ≡ dropped-at p → (T (f .home (p .station)) → ⊥) →
+      (x : f .States) (rest : List (f .States)) → drop (p .hops) xs ≡ x ∷ rest → f .choose x (p .station) ≡ none → Ended f xs s
+
+-- Where only home has rank 0, a walk with at least rank many rows ends delivered or dropped, and never merely runs out of rows.
+abbrev pub WalksFinish : Type 1
+WalksFinish =
+    (f : Forwarding) (rank : f .State → ℕ) (valid : f .States → Type 0) → Lawful f rank valid → ((s : f .State) → rank s ≡ 0 → T (f .home s)) →
+    (xs : List (f .States)) (s : f .State) → rank s ≤ length xs → Ended f xs s
+
+-- A walk goes hop by hop, each by the rule for a single hop under the schedule's row for it.
+pub record WalkRule (f : Forwarding) (x : f .States) (xs : List (f .States)) (p : Packet (f .State)) : Type 0 where
+  pub delivers : hop f x p ≡ delivered → walk f (x ∷ xs) p ≡ delivered-at p
+  pub drops : hop f x p ≡ dropped → walk f (x ∷ xs) p ≡ dropped-at p
+  pub goes-on : (q : Packet (f .State)) → hop f x p ≡ moved q → walk f (x ∷ xs) p ≡ walk f xs q
+
+abbrev pub WalksByHops : Type 1
+WalksByHops = (f : Forwarding) (x : f .States) (xs : List (f .States)) (p : Packet (f .State)) → WalkRule f x xs p
 
 -- The route of a walk is what it walked: it leads to the packet's station, and has an entry for each hop made.
 abbrev pub RoutesWalked : Type 1

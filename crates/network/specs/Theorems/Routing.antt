@@ -12,7 +12,7 @@ use Rattle.network.specs.Distance.{PathTo, distances, distance}
 use Rattle.network.specs.Order.{shortest-path, free, accepted}
 use Rattle.network.specs.Row.{row, rank}
 use Rattle.network.specs.Forwarding.{Packet, delivered, moved, dropped, delivered-at, dropped-at, hop, walk, route, start}
-use Rattle.network.specs.Routing.{up, validStates, routers, greatestHop, greatestHops, refusals, allUp, costOf}
+use Rattle.network.specs.Routing.{up, validStates, routers, greatestHop, greatestHops, callTests, costOf}
 use Rattle.network.specs.Theorems.Order.{OfOrders}
 use Rattle.network.specs.Theorems.Forwarding.{Lawful, Exact}
 use Rattle.network.specs.Theorems.Calls.{CallsBounded}
@@ -68,9 +68,16 @@ pub data WalkEnd (n : Network) (d limit : ℕ) (order : List ℕ) (xs : List (Li
 abbrev pub WalksEnd : Type 0
 WalksEnd = OfTables (λ n d limit order. (xs : List (List ℕ)) (u : ℕ) → rank order u ≤ length xs → WalkEnd n d limit order xs u)
 
--- Demand 3, hop by hop
+-- Demand 3, hop by hop, from every station
 abbrev pub RoutersCalls : Type 0
-RoutersCalls = OfTables (λ n d limit order. CallsBounded (routers n d limit order) (refusals n d limit order) (greatestHop n d limit order))
+RoutersCalls = OfTables (λ n d limit order. CallsBounded (routers n d limit order) (callTests n d limit order) (greatestHop n d limit order))
+
+-- 01, Refusals, 15, 22 and 23: which starts and hops are not refused
+abbrev pub TestsRight : Type 0
+TestsRight =
+    (n : Network) (d limit : ℕ) (order : List ℕ) → ((u : ℕ) → T (callTests n d limit order .start-ok u) ↔ (u < size n))
+    × ((states : List ℕ) (p : Packet ℕ) → T (callTests n d limit order .hop-ok states p)
+    ↔ ((p .station < size n) × (p .hops < size n) × ((length states ≡ n .links) × ((b : ℕ) → List·Memᴰ b states → b ≤ 1))))
 
 -- 01: for all places it is N bytes, place by place
 abbrev pub FiguresByPlace : Type 0
@@ -78,13 +85,16 @@ FiguresByPlace =
     (n : Network) (d limit : ℕ) (order : List ℕ) → (length (greatestHops n d limit order) ≡ size n)
     × ((u : ℕ) → u < size n → getD (greatestHops n d limit order) u 0 ≡ greatestHop n d limit order u)
 
+-- a schedule in which every link is up before every hop
+abbrev pub AllUp : Network → List (List ℕ) → Type 0
+AllUp n xs = (states : List ℕ) → List·Memᴰ states xs → (link : ℕ) → link < n .links → T (up states link)
+
 -- Demand 2, last clause: in shortest-path mode, with all links up, the walk is delivered and the arcs it took cost the distance.
-pub record ShortestWalk (n : Network) (d limit : ℕ) (order : List ℕ) (u rows : ℕ) : Type 0 where
-  pub arrives : (p : Packet ℕ) × (walk (routers n d limit order) (allUp n rows) (start u) ≡ delivered-at p)
-      × (p .station ≡ d)
-  pub shortest : costOf (route (routers n d limit order) (allUp n rows) u) ≡ distance n d u
+pub record ShortestWalk (n : Network) (d limit : ℕ) (order : List ℕ) (xs : List (List ℕ)) (u : ℕ) : Type 0 where
+  pub arrives : (p : Packet ℕ) × (walk (routers n d limit order) xs (start u) ≡ delivered-at p) × (p .station ≡ d)
+  pub shortest : costOf (route (routers n d limit order) xs u) ≡ distance n d u
 
 abbrev pub ShortestWalks : Type 0
 ShortestWalks =
-    OfOrders (λ n d. (limit : ℕ) (order : List ℕ) → T (accepted n d shortest-path order) → 1 ≤ limit → (u : ℕ) → PathTo n d u → (rows : ℕ) →
-    rank order u ≤ rows → ShortestWalk n d limit order u rows)
+    OfOrders (λ n d. (limit : ℕ) (order : List ℕ) → T (accepted n d shortest-path order) → 1 ≤ limit → (u : ℕ) → PathTo n d u →
+    (xs : List (List ℕ)) → AllUp n xs → rank order u ≤ length xs → ShortestWalk n d limit order xs u)
