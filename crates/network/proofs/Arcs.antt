@@ -1,19 +1,18 @@
 -- Among the arcs of a router each comes from a link of its own, numbered by the link's turn, and each link gives one arc to either of its ends.
 -- Assumes nothing.
 use Prim.Native.Nat.{ℕ, suc, _+_}
-use mathlib.Core.Bool.{Bool, true, false, cond, not, _&&_}
+use mathlib.Core.Bool.{Bool, true, false, cond}
 use mathlib.Core.List.{List, [], _∷_, _++_, List·Memᴰ, List·Memᴰ·head, List·Memᴰ·tail, List·Memᴰ·cases-cons, List·Memᴰ·not-nil, Memᴰ·append-right}
 use mathlib.Core.List.{nil≢cons, head-eq-of-cons-eq, tail-eq-of-cons-eq}
 use mathlib.Core.Logic.{_≢_, _⊎_, inl, inr, ⊎-elim}
 use mathlib.Core.Path.{_≡_, refl, sym, _∙_, ap, subst}
 use native.Mathlib.Omega.{arith}
 use borrow.Author.Tests.{eqb-true, eqb-false}
-use lib.Dec.{T, eqb, T-not}
+use lib.Dec.{eqb}
 use lib.ListN.{length}
-use Rattle.network.specs.Lists.{any, Pairwise, nothing, then}
+use Rattle.network.specs.Lists.{Pairwise, nothing, then}
 use Rattle.network.specs.Network.{Arc, Link, arcsAmong}
-use Rattle.network.specs.Network.{samePair, pairsDiffer}
-use Rattle.network.proofs.Tests.{both, and, or-left, or-right, eq-test}
+use Rattle.network.specs.Theorems.Network.{SamePair}
 
 -- the arc a of u is the link l, seen from one of its ends
 pub record Seen (u : ℕ) (l : Link) (a : Arc) : Type 0 where
@@ -110,34 +109,24 @@ from-arc u number (l ∷ ls) apart (w ∷ before) k after a e seen turn =
 
 -- A relation holds of each two arcs of u if it holds of the arc of a link and any arc of the links after it, none of which joins the same pair.
 pub arcs-pairwise : (u : ℕ) (R : Arc → Arc → Type 0) →
-    ((number : ℕ) (l : Link) (ls : List Link) (a b : Arc) → (T (any (samePair l) ls) → ⊥) → Seen u l a → a .link ≡ number → From u (suc number) ls b →
-    R a b) → (number : ℕ) (ls : List Link) → T (pairsDiffer ls) → Pairwise R (arcsAmong u number ls)
-unfolding pairsDiffer Step
-arcs-pairwise u R h number [] t = unfold arcsAmong in nothing
-arcs-pairwise u R h number (l ∷ ls) t =
-    let (apart, rest) = both (not (any (samePair l) ls)) (pairsDiffer ls) t in
-    go (step-of u number l ls) (T-not (any (samePair l) ls) apart) (arcs-pairwise u R h (suc number) ls rest)
+    ((number : ℕ) (l : Link) (ls : List Link) (a b : Arc) → ((k : Link) → List·Memᴰ k ls → SamePair l k → ⊥) → Seen u l a → a .link ≡ number →
+    From u (suc number) ls b → R a b) → (number : ℕ) {ls : List Link} → Pairwise (λ l k. SamePair l k → ⊥) ls → Pairwise R (arcsAmong u number ls)
+unfolding Step
+arcs-pairwise u R h number nothing = unfold arcsAmong in nothing
+arcs-pairwise u R h number (then {x = l} {xs = ls} apart p) = go (step-of u number l ls) (arcs-pairwise u R h (suc number) p)
   where
-    go : {entries : List Arc} → Step u number l (arcsAmong u (suc number) ls) entries → (T (any (samePair l) ls) → ⊥) →
-        Pairwise R (arcsAmong u (suc number) ls) → Pairwise R entries
-    go (inl (e, f, g)) apart p = subst (Pairwise R) (sym e) p
-    go (inr (a, e, seen, turn)) apart p =
-        subst (Pairwise R) (sym e) (then (λ b m. h number l ls a b apart seen turn (arc-from u (suc number) ls b m)) p)
+    go : {entries : List Arc} → Step u number l (arcsAmong u (suc number) ls) entries → Pairwise R (arcsAmong u (suc number) ls) → Pairwise R entries
+    go (inl (e, f, g)) q = subst (Pairwise R) (sym e) q
+    go (inr (a, e, seen, turn)) q =
+        subst (Pairwise R) (sym e) (then (λ b m. h number l ls a b apart seen turn (arc-from u (suc number) ls b m)) q)
 
 -- two links that one router sees as arcs to one place join the same pair
-pub same-pair : {u : ℕ} {l k : Link} {a b : Arc} → Seen u l a → Seen u k b → a .to ≡ b .to → T (samePair l k)
-unfolding samePair
+pub same-pair : {u : ℕ} {l k : Link} {a b : Arc} → Seen u l a → Seen u k b → a .to ≡ b .to → SamePair l k
 same-pair {u} {l} {k} {a} {b} s t e = go (s .ends) (t .ends)
   where
-    straight : l .first ≡ k .first → l .second ≡ k .second → T (samePair l k)
-    straight f g = or-left (eqb (l .first) (k .first) && eqb (l .second) (k .second)) _ (and (eqb (l .first) (k .first)) _ (eq-test f) (eq-test g))
-
-    crossed : l .first ≡ k .second → l .second ≡ k .first → T (samePair l k)
-    crossed f g = or-right (eqb (l .first) (k .first) && eqb (l .second) (k .second)) _ (and (eqb (l .first) (k .second)) _ (eq-test f) (eq-test g))
-
     go : ((l .first ≡ u) × (a .to ≡ l .second)) ⊎ ((l .second ≡ u) × (a .to ≡ l .first)) →
-        ((k .first ≡ u) × (b .to ≡ k .second)) ⊎ ((k .second ≡ u) × (b .to ≡ k .first)) → T (samePair l k)
-    go (inl f) (inl g) = straight (omega arith) (omega arith)
-    go (inl f) (inr g) = crossed (omega arith) (omega arith)
-    go (inr f) (inl g) = crossed (omega arith) (omega arith)
-    go (inr f) (inr g) = straight (omega arith) (omega arith)
+        ((k .first ≡ u) × (b .to ≡ k .second)) ⊎ ((k .second ≡ u) × (b .to ≡ k .first)) → SamePair l k
+    go (inl f) (inl g) = inl (omega arith)
+    go (inl f) (inr g) = inr (omega arith)
+    go (inr f) (inl g) = inr (omega arith)
+    go (inr f) (inr g) = inl (omega arith)

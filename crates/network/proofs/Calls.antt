@@ -2,7 +2,7 @@
 -- Assumes nothing.
 use Prim.Native.Nat.{ℕ, suc, _+_, _≤_}
 use mathlib.Core.Bool.{Bool, true, false, cond}
-use mathlib.Core.List.{List, [], _∷_, map}
+use mathlib.Core.List.{List, [], _∷_, _++_, map}
 use mathlib.Core.Option.{some}
 use mathlib.Core.Logic.{⊎-elim}
 use mathlib.Core.Path.{_≡_, refl, _∙_, ap}
@@ -12,9 +12,10 @@ use lib.ListN.{length}
 use Rattle.network.specs.Forwarding.{Forwarding, Packet, Hop, hop, start, longest}
 use Rattle.network.specs.Calls.{Call, setting, hopping, Tests, afterHop, afterCall, afterCalls, setBy, lastSet}
 use Rattle.network.specs.Theorems.Forwarding.{Lawful}
-use Rattle.network.specs.Theorems.Calls.{CallsByRule, Admits, CallsBounded, CallsExact}
+use Rattle.network.specs.Theorems.Calls.{CallsByRule, CallsInTurn, Admits, CallsBounded, CallsExact}
 use Rattle.network.proofs.Tests.{passes, fails}
-use Rattle.network.proofs.Forwarding.{Hopped, stays-home, stuck, went, hopped, Way, stop, down, lower, longest-way, way-falls, hop-down}
+use Rattle.network.proofs.Hops.{Hopped, stays-home, stuck, went, hopped}
+use Rattle.network.proofs.Forwarding.{Way, stop, down, lower, longest-way, way-falls, hop-down}
 
 -- hops set the packet nowhere
 last-kept : (f : Forwarding) (tests : Tests f) (xs : List (f .States)) (s : f .State) → lastSet f tests (map hopping xs) s ≡ s
@@ -33,6 +34,16 @@ calls-by-rule f tests p last =
       stays = λ x t h. passes (tests .hop-ok x p) t (afterHop p (hop f x p)) p ∙ ⊎-elim (λ e. ap (afterHop p) e) (λ e. ap (afterHop p) e) h;
       hop-sets-nothing = λ x. refl;
     }
+
+pub calls-in-turn : CallsInTurn
+unfolding afterCalls lastSet
+calls-in-turn f tests p first = record { no-calls = (refl, refl); one-more = λ cs c. last-call cs c p first }
+  where
+    last-call : (cs : List (Call f)) (c : Call f) (q : Packet (f .State)) (s : f .State) →
+        (afterCalls f tests (cs ++ (c ∷ [])) q ≡ afterCall f tests c (afterCalls f tests cs q))
+        × (lastSet f tests (cs ++ (c ∷ [])) s ≡ setBy f tests c (lastSet f tests cs s))
+    last-call [] c q s = (refl, refl)
+    last-call (e ∷ cs) c q s = last-call cs c (afterCall f tests e q) (setBy f tests e s)
 
 -- What each call keeps of a packet last set at `last`: the tests let it start at its station, and it cannot pass the figure of `last`.
 abbrev Kept : (f : Forwarding) (tests : Tests f) → ℕ → f .State → Packet (f .State) → Type 0
@@ -55,7 +66,7 @@ module _ (f : Forwarding) (rank : f .State → ℕ) (valid : f .States → Type 
       go false h = k
       go true (stays-home h) = k
       go true (stuck h d) = k
-      go true (went e c) =
+      go true (went o e c) =
           let m = law .chosen x (p .station) e c in
           (admits .stays (p .station) (k .0) e m, omega (arith, lower f rank valid law left _ e (admits .ranked _ (k .0)) m))
 

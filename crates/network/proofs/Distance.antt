@@ -16,7 +16,7 @@ use Rattle.network.specs.Lists.{below, leastBy, Distinct, nothing, then}
 use Rattle.network.specs.Network.{Network, size, arcsOf, greatestCost, WellFormed}
 use Rattle.network.specs.Distance.{PathTo, arrived, along, pathCost, pathHops, absent, distanceIn, through, atFirst, round, rounds, distances}
 use Rattle.network.specs.Distance.{distance}
-use Rattle.network.specs.Theorems.Distance.{DistanceExact, DistancesExact, RoundsEnd, RoundsSettle}
+use Rattle.network.specs.Theorems.Distance.{DistanceExact, DistancesExact, RoundExact, RoundsExact, RoundsEnd, RoundsSettle}
 use Rattle.network.proofs.Below.{getD-below, getD-past, length-map-below}
 use Rattle.network.proofs.Pigeon.{at-most, member?, distinct-cons}
 use Rattle.network.proofs.Least.{OneOf, least-start, least-each, least-from}
@@ -127,20 +127,20 @@ module _ (n : Network) (w : WellFormed n) (d : ℕ) (d-in : d < size n) where
       rw D-next (omega (arith, least-each (through n (rounds n d k)) (D k u) m, D-least k p (omega arith)))
 
   -- where there is a distance it is the cost of a path
-  D-attained : (k u : ℕ) → D k u < absent n → (p : PathTo n d u) × (pathCost p ≡ D k u)
-  unfolding D pathCost through
+  D-attained : (k u : ℕ) → D k u < absent n → (p : PathTo n d u) × (pathHops p ≤ k) × (pathCost p ≡ D k u)
+  unfolding D pathCost pathHops through
   D-attained zero u h = step (eqb u d) refl (D-first u)
     where
-      step : (b : Bool) → eqb u d ≡ b → D 0 u ≡ cond b 0 (absent n) → (p : PathTo n d u) × (pathCost p ≡ D 0 u)
-      step true e v = (arrived (eqb-true u d e), sym v)
+      step : (b : Bool) → eqb u d ≡ b → D 0 u ≡ cond b 0 (absent n) → (p : PathTo n d u) × (pathHops p ≤ 0) × (pathCost p ≡ D 0 u)
+      step true e v = (arrived (eqb-true u d e), le-refl 0, sym v)
       step false e v = absurd (omega arith)
   D-attained (suc k) u h = step (rw (← D-next k u) at (least-from (through n (rounds n d k)) (D k u) (arcsOf n u))) (D-attained k)
     where
       step : OneOf (through n (rounds n d k)) (D k u) (arcsOf n u) (D (suc k) u)
-          → ((v : ℕ) → D k v < absent n → (p : PathTo n d v) × (pathCost p ≡ D k v))
-          → (p : PathTo n d u) × (pathCost p ≡ D (suc k) u)
-      step (inl e) before = let r = before u (omega arith) in (r .0, r .1 ∙ sym e)
-      step (inr (a, m, e)) before = let r = before (a .to) (omega arith) in (along a m (r .0), omega (arith, r .1))
+          → ((v : ℕ) → D k v < absent n → (p : PathTo n d v) × (pathHops p ≤ k) × (pathCost p ≡ D k v))
+          → (p : PathTo n d u) × (pathHops p ≤ suc k) × (pathCost p ≡ D (suc k) u)
+      step (inl e) before = let r = before u (omega arith) in (r .0, omega (arith, r .1), r .2 ∙ sym e)
+      step (inr (a, m, e)) before = let r = before (a .to) (omega arith) in (along a m (r .0), omega (arith, r .1), omega (arith, r .2))
 
   -- from round N - 1 on no path costs less, and each costs less than the distance that stands for no path
   D-settled : (k : ℕ) → pred (size n) ≤ k → {u : ℕ} (p : PathTo n d u) → (D k u ≤ pathCost p) × (D k u < absent n)
@@ -158,14 +158,18 @@ module _ (n : Network) (w : WellFormed n) (d : ℕ) (d-in : d < size n) where
   D-no-more k j h u = step (decLt (D j u) (absent n))
     where
       step : Dec (D j u < absent n) → D k u ≤ D j u
-      step (yes lt) = let r = D-attained j u lt in omega (arith, D-settled k h (r .0) .0, r .1)
+      step (yes lt) = let r = D-attained j u lt in omega (arith, D-settled k h (r .0) .0, r .2)
       step (no nlt) = omega (arith, D-most k u)
+
+  round-exact : (k u : ℕ) → RoundExact n d k u
+  unfolding D
+  round-exact k u = record { least = D-least k; attained = D-attained k u; most = D-most k u }
 
   exact : (u : ℕ) → DistanceExact n d u
   unfolding D distance distances
   exact u =
       record {
-        attained = D-attained (pred (size n)) u;
+        attained = λ h. let r = D-attained (pred (size n)) u h in (r .0, r .2);
         least = λ p. D-settled (pred (size n)) (le-refl _) p .0;
         present = λ p. D-settled (pred (size n)) (le-refl _) p .1;
         missing = λ none. le-antisymm (D-most (pred (size n)) u) (le-of-suc-le-suc (lt-of-not-le (λ lt. none (D-attained (pred (size n)) u lt .0))));
@@ -193,6 +197,9 @@ module _ (n : Network) (w : WellFormed n) (d : ℕ) (d-in : d < size n) where
 
 pub distances-exact : DistancesExact
 distances-exact = exact
+
+pub rounds-exact : RoundsExact
+rounds-exact = round-exact
 
 pub rounds-settle : RoundsSettle
 rounds-settle = ends

@@ -3,36 +3,22 @@
 use Prim.Native.Nat.{ℕ, zero, suc, _+_, _-_, _≤_, _<_}
 use mathlib.Core.Bool.{Bool, true, false}
 use mathlib.Core.List.{List, [], _∷_, _++_, List·Memᴰ, List·Memᴰ·head, List·Memᴰ·tail, List·Memᴰ·not-nil, List·Memᴰ·append-cases}
+use mathlib.Core.List.{List·Memᴰ·cases-cons, map}
 use mathlib.Core.Logic.{⊎-elim}
 use mathlib.Core.Option.{Option, none, some}
 use mathlib.Core.Path.{_≡_, refl, sym, _∙_, ap, subst}
-use native.Mathlib.Nat.{add-zero}
 use native.Mathlib.Numerals.{add-one}
 use native.Mathlib.Omega.{arith}
 use lib.Dec.{T}
 use lib.ListN.{length, drop, replicate, length-append, length-replicate}
 use lib.Seq.{drop-drop}
-use Rattle.network.specs.Lists.{greatestBy}
-use Rattle.network.specs.Forwarding.{Forwarding, Packet, Hop, delivered, moved, dropped, Walk, delivered-at, packetOf, hopTo, hop, walkOn}
-use Rattle.network.specs.Forwarding.{walkEnd, walk, start, hopsMade, routeOn, route, endOf, longest}
-use Rattle.network.specs.Theorems.Forwarding.{Lawful, Ended, at-home, nothing-live, Exact, WalksExact, WalksFinish, WalksByHops, RoutesWalked}
+use Rattle.network.specs.Lists.{greatestBy, Pairwise, nothing, then}
+use Rattle.network.specs.Forwarding.{Forwarding, Packet, Hop, moved, Walk, delivered-at, packetOf, hop, walkOn}
+use Rattle.network.specs.Forwarding.{walkEnd, walk, start, routeOn, route, longest}
+use Rattle.network.specs.Theorems.Forwarding.{Lawful, Ended, at-home, nothing-live, Exact, WalksExact, WalksFinish, NeverLoops}
 use Rattle.network.proofs.Lists.{empty}
+use Rattle.network.proofs.Hops.{Hopped, stays-home, stuck, went, hopped}
 use Rattle.network.proofs.Greatest.{at-most-greatest, greatest-attained, greatest-same}
-
--- what a hop answers, and why
-pub data Hopped (f : Forwarding) (x : f .States) (p : Packet (f .State)) : Hop (f .State) → Type 0 where
-  stays-home : T (f .home (p .station)) → Hopped f x p delivered
-  stuck : (T (f .home (p .station)) → ⊥) → f .choose x (p .station) ≡ none → Hopped f x p dropped
-  went : (e : f .Entry) → f .choose x (p .station) ≡ some e → Hopped f x p (moved (record { station = f .next e; hops = suc (p .hops) }))
-
-pub hopped : (f : Forwarding) (x : f .States) (p : Packet (f .State)) → Hopped f x p (hop f x p)
-unfolding hop hopTo
-hopped f x p = go (f .home (p .station)) refl (f .choose x (p .station)) refl
-  where
-    go : (b : Bool) → f .home (p .station) ≡ b → (c : Option (f .Entry)) → f .choose x (p .station) ≡ c → Hopped f x p (hopTo f p b c)
-    go true h c e = stays-home (rw h tt)
-    go false h none e = stuck (λ t. rw h at t) e
-    go false h (some y) e = went y e
 
 -- Under the rows of states xs, all of them valid, each hop from s goes down one entry.
 pub data Way (f : Forwarding) (valid : f .States → Type 0) : f .State → List (f .States) → Type 0 where
@@ -92,7 +78,7 @@ module _ (f : Forwarding) (rank : f .State → ℕ) (valid : f .States → Type 
       go : {o : Hop (f .State)} → Hopped f x p o → o ≡ moved (record { station = f .next e; hops = suc (p .hops) })
       go (stays-home h) = absurd (List·Memᴰ·not-nil (rw (law .home-row (p .station) h) at (law .chosen x (p .station) e c)))
       go (stuck h d) = cc
-      go (went y d) = cc
+      go (went o y d) = cc
 
   within : (left : ℕ) (xs : List (f .States)) (p : Packet (f .State)) → rank (p .station) ≤ left → Within f left p (walk f xs p)
   unfolding walk walkOn walkEnd packetOf
@@ -107,7 +93,7 @@ module _ (f : Forwarding) (rank : f .State → ℕ) (valid : f .States → Type 
           ((q : Packet (f .State)) → rank (q .station) ≤ left → Within f left q (walk f xs q)) → Within f left p (walkOn p o (walk f xs))
       go (stays-home h) rest = omega arith
       go (stuck h d) rest = omega arith
-      go (went e c) rest =
+      go (went o e c) rest =
           let m = law .chosen x (p .station) e c in
           let below = rest (record { station = f .next e; hops = suc (p .hops) }) (omega (arith, law .falls _ e m)) in
           omega (arith, lower left _ e r m)
@@ -139,12 +125,12 @@ module _ (f : Forwarding) (rank : f .State → ℕ) (valid : f .States → Type 
             Ended f zs s
         go (stays-home h) e rest = at-home p e h
         go (stuck h d) e rest = nothing-live p e h x xs left d
-        go (went y c) e rest =
+        go (went o y c) e rest =
             rest _ e (subst (λ (n : ℕ). drop n zs ≡ xs) (add-one (p .hops)) (sym (drop-drop 1 (p .hops) zs) ∙ ap (drop 1) left))
             (omega (arith, law .falls _ y (law .chosen _ _ y c)))
 
   exact : (left : ℕ) (s : f .State) → rank s ≤ left → Exact f rank valid s (longest f left s)
-  unfolding hopsMade start
+  unfolding start
   exact left s r =
       record {
         never-passed = λ xs. omega (arith, within left xs (start s) r);
@@ -169,29 +155,22 @@ pub walks-finish : WalksFinish
 unfolding start
 walks-finish f rank valid law only-home xs s = ending f rank valid law only-home xs s xs (start s) refl refl
 
-pub walks-by-hops : WalksByHops
-unfolding walk walkOn
-walks-by-hops f x xs p =
-    record {
-      delivers = ap (λ (o : Hop (f .State)). walkOn p o (walk f xs));
-      drops = ap (λ (o : Hop (f .State)). walkOn p o (walk f xs));
-      goes-on = λ q. ap (λ (o : Hop (f .State)). walkOn p o (walk f xs));
-    }
+-- ranks fall down an entry, and on from there
+pub never-loops : NeverLoops
+unfolding route routeOn
+never-loops f rank valid law [] s = then (λ t m. absurd (List·Memᴰ·not-nil m)) nothing
+never-loops f rank valid law (x ∷ xs) s = go (f .home s) (f .choose x s) refl (never-loops f rank valid law xs)
+  where
+    Falls : f .State → f .State → Type 0
+    Falls earlier later = rank later < rank earlier
 
-pub routes-walked : RoutesWalked
-unfolding walk walkEnd walkOn hop hopTo packetOf route routeOn endOf
-routes-walked f [] p = go (f .home (p .station))
-  where
-    go : (b : Bool) → packetOf (walkEnd p b) ≡ record { station = p .station; hops = p .hops + 0 }
-    go true = rw add-zero
-    go false = rw add-zero
-routes-walked f (x ∷ xs) p = go (f .home (p .station)) (f .choose x (p .station)) (routes-walked f xs)
-  where
-    go : (b : Bool) (c : Option (f .Entry)) →
-        ((q : Packet (f .State)) → packetOf (walk f xs q)
-        ≡ record { station = endOf f (q .station) (route f xs (q .station)); hops = q .hops + length (route f xs (q .station)) }) →
-        packetOf (walkOn p (hopTo f p b c) (walk f xs))
-        ≡ record { station = endOf f (p .station) (routeOn f b c (route f xs)); hops = p .hops + length (routeOn f b c (route f xs)) }
-    go true c rest = rw add-zero
-    go false none rest = rw add-zero
-    go false (some e) rest = rest _ ∙ ap (λ (h : ℕ). record { station = endOf f (f .next e) (route f xs (f .next e)); hops = h }) (omega arith)
+    at-most : {t : f .State} {ys : List (f .State)} → Pairwise Falls (t ∷ ys) → (y : f .State) → List·Memᴰ y (t ∷ ys) → rank y ≤ rank t
+    at-most (then h p) y m = ⊎-elim (λ e. omega (arith, ap rank e)) (λ k. omega (arith, h y k)) (List·Memᴰ·cases-cons m)
+
+    go : (b : Bool) (c : Option (f .Entry)) → f .choose x s ≡ c → ((t : f .State) → Pairwise Falls (t ∷ map (f .next) (route f xs t))) →
+        Pairwise Falls (s ∷ map (f .next) (routeOn f b c (route f xs)))
+    go true c e rest = then (λ t m. absurd (List·Memᴰ·not-nil m)) nothing
+    go false none e rest = then (λ t m. absurd (List·Memᴰ·not-nil m)) nothing
+    go false (some y) e rest =
+        let down = law .falls s y (law .chosen x s y e) in
+        then {x = s} (λ t m. let low : rank t ≤ rank (f .next y) = at-most (rest (f .next y)) t m in omega arith) (rest (f .next y))

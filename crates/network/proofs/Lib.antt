@@ -6,6 +6,7 @@ pub mod Pigeon
 pub mod Least
 pub mod Greatest
 pub mod Distance
+pub mod SoundLinks
 pub mod Arcs
 pub mod Linked
 pub mod NextHop
@@ -18,6 +19,7 @@ pub mod Build
 pub mod Rank
 pub mod Row
 pub mod Filled
+pub mod Hops
 pub mod Forwarding
 pub mod Calls
 pub mod Live

@@ -7,25 +7,27 @@ use mathlib.Core.List.{append-nil, Memᴰ·append-left}
 use mathlib.Core.Logic.{_≢_, _⊎_, inl, inr, ⊎-elim}
 use mathlib.Core.Option.{none, some, Option·none-ne-some, Option·some-injective}
 use mathlib.Core.Path.{_≡_, refl, sym, _∙_, ap, subst}
+use native.Mathlib.Decide.{ℕ-discrete}
+use native.Mathlib.Omega.{arith}
 use borrow.Author.Tests.{eq-eqb, ne-eqb}
-use lib.Dec.{T, eqb, leb}
-use lib.ListN.{length}
+use lib.Dec.{T, eqb, leb, eqb→eq}
+use lib.ListN.{length, getD}
 use Rattle.network.specs.Lists.{below, every, Pairwise}
 use Rattle.network.specs.Network.{Arc, Network}
 use Rattle.network.specs.Routing.{up, validStates, firstLive}
-use Rattle.network.specs.Theorems.Routing.{AllDown, FirstLive}
-use Rattle.network.proofs.Tests.{and, truth, passes, fails, eq-test}
+use Rattle.network.specs.Theorems.Routing.{Up, AllDown, FirstLive}
+use Rattle.network.proofs.Tests.{and, passes, fails, eq-test}
 use Rattle.network.proofs.Lists.{split, pairwise-split}
 use Rattle.network.proofs.Below.{getD-below, length-map-below}
 
 module _ (states : List ℕ) where
-  pub live-up : (a : Arc) (rest : List Arc) → T (up states (a .link)) → firstLive states (a ∷ rest) ≡ some a
-  unfolding firstLive
-  live-up a rest t = passes (up states (a .link)) t (some a) (firstLive states rest)
+  pub live-up : (a : Arc) (rest : List Arc) → Up states (a .link) → firstLive states (a ∷ rest) ≡ some a
+  unfolding firstLive up
+  live-up a rest h = passes (up states (a .link)) (eq-test h) (some a) (firstLive states rest)
 
-  live-down : (a : Arc) (rest : List Arc) → (T (up states (a .link)) → ⊥) → firstLive states (a ∷ rest) ≡ firstLive states rest
-  unfolding firstLive
-  live-down a rest o = fails (up states (a .link)) o (some a) (firstLive states rest)
+  live-down : (a : Arc) (rest : List Arc) → (Up states (a .link) → ⊥) → firstLive states (a ∷ rest) ≡ firstLive states rest
+  unfolding firstLive up
+  live-down a rest o = fails (up states (a .link)) (λ t. o (eqb→eq _ _ t)) (some a) (firstLive states rest)
 
   pub live-mem : (entries : List Arc) (a : Arc) → firstLive states entries ≡ some a → List·Memᴰ a entries
   unfolding firstLive
@@ -53,16 +55,17 @@ module _ (states : List ℕ) where
   -- every link is down, or one is the first that is up
   pub down-or-live : (entries : List Arc) → AllDown states entries ⊎ ((a : Arc) × FirstLive states entries a)
   down-or-live [] = inl (λ a m t. List·Memᴰ·not-nil m)
-  down-or-live (b ∷ rest) = step (truth (up states (b .link))) (down-or-live rest)
+  down-or-live (b ∷ rest) = step (ℕ-discrete (getD states (b .link) 0) 1) (down-or-live rest)
     where
-      with-head : (T (up states (b .link)) → ⊥) → (entries : List Arc) → AllDown states entries → AllDown states (b ∷ entries)
-      with-head o entries h a m t = ⊎-elim (λ same. o (subst (λ (c : Arc). T (up states (c .link))) same t)) (λ k. h a k t) (List·Memᴰ·cases-cons m)
+      with-head : (Up states (b .link) → ⊥) → (entries : List Arc) → AllDown states entries → AllDown states (b ∷ entries)
+      with-head o entries h a m t =
+          ⊎-elim (λ (same : a ≡ b). o (subst (λ (c : Arc). Up states (c .link)) same t)) (λ k. h a k t) (List·Memᴰ·cases-cons m)
 
-      step : T (up states (b .link)) ⊎ (T (up states (b .link)) → ⊥) → AllDown states rest ⊎ ((a : Arc) × FirstLive states rest a) →
+      step : Dec (Up states (b .link)) → AllDown states rest ⊎ ((a : Arc) × FirstLive states rest a) →
           AllDown states (b ∷ rest) ⊎ ((a : Arc) × FirstLive states (b ∷ rest) a)
-      step (inl s) later = inr (b, record { before = []; after = rest; stands = refl; down = λ a m t. List·Memᴰ·not-nil m; live = s })
-      step (inr o) (inl h) = inl (with-head o rest h)
-      step (inr o) (inr (a, f)) =
+      step (yes s) later = inr (b, record { before = []; after = rest; stands = refl; down = λ a m t. List·Memᴰ·not-nil m; live = s })
+      step (no o) (inl h) = inl (with-head o rest h)
+      step (no o) (inr (a, f)) =
           inr (
             a,
             record {
@@ -79,8 +82,8 @@ module _ (states : List ℕ) where
       ⊎-elim (λ h. h) (λ (a, f). absurd (Option·none-ne-some a (sym e ∙ first-live entries a f))) (down-or-live entries)
 
   -- an entry whose link is up, where the links of the others are down, is the first live one
-  pub alone-live : (entries : List Arc) (a : Arc) → List·Memᴰ a entries → Pairwise (λ b c. b .link ≢ c .link) entries → T (up states (a .link)) →
-      ((b : Arc) → List·Memᴰ b entries → b .link ≢ a .link → T (up states (b .link)) → ⊥) → firstLive states entries ≡ some a
+  pub alone-live : (entries : List Arc) (a : Arc) → List·Memᴰ a entries → Pairwise (λ b c. b .link ≢ c .link) entries → Up states (a .link) →
+      ((b : Arc) → List·Memᴰ b entries → b .link ≢ a .link → Up states (b .link) → ⊥) → firstLive states entries ≡ some a
   alone-live entries a m p t others =
       let (before, after, e) = split m in
       let down : AllDown states before =
@@ -106,10 +109,12 @@ only-valid n link =
     bit true = tt
     bit false = tt
 
-pub only-up : (n : Network) (link : ℕ) → link < n .links → T (up (onlyUp n link) link)
-unfolding up onlyUp
-only-up n link h = rw (getD-below {A = ℕ} (λ k. cond (eqb k link) 1 0) (n .links) link 0 h, eq-eqb link link refl) tt
+pub only-up : (n : Network) (link : ℕ) → link < n .links → Up (onlyUp n link) link
+unfolding onlyUp
+only-up n link h = rw (getD-below {A = ℕ} (λ k. cond (eqb k link) 1 0) (n .links) link 0 h, eq-eqb link link refl) refl
 
-pub others-down : (n : Network) (link k : ℕ) → k < n .links → k ≢ link → T (up (onlyUp n link) k) → ⊥
-unfolding up onlyUp
-others-down n link k h apart t = rw (getD-below {A = ℕ} (λ j. cond (eqb j link) 1 0) (n .links) k 0 h, ne-eqb k link apart) at t
+pub others-down : (n : Network) (link k : ℕ) → k < n .links → k ≢ link → Up (onlyUp n link) k → ⊥
+unfolding onlyUp
+others-down n link k h apart t =
+    let down : _≡_ {A = ℕ} 0 1 = rw (getD-below {A = ℕ} (λ j. cond (eqb j link) 1 0) (n .links) k 0 h, ne-eqb k link apart) at t in
+    omega arith

@@ -18,7 +18,7 @@ use Rattle.network.specs.Network.{Network, size, WellFormed}
 use Rattle.network.specs.Distance.{PathTo, arrived, distances}
 use Rattle.network.specs.Order.{Mode, shortest-path, free, reached, candidate, select, continued, placing, build, candidatesInTurn}
 use Rattle.network.specs.Order.{holdsEachOnce, firstIs, othersInTurn, accepted}
-use Rattle.network.specs.Theorems.Order.{Candidate, Accepted, AcceptanceExact, Complete, NeverStuck, BuiltAccepted, ShortestPathIsFree}
+use Rattle.network.specs.Theorems.Order.{Candidate, Accepted, HeldOnce, AcceptanceExact, Complete, NeverStuck, BuiltAccepted, ShortestPathIsFree}
 use Rattle.network.proofs.Tests.{both, and, three, and-three, eq-test}
 use Rattle.network.proofs.Lists.{mem-keep, keep-mem, every-all, all-every, member-mem, mem-member, distinct-fact, fact-distinct}
 use Rattle.network.proofs.Below.{mem-below, below-lt, below-distinct, length-below}
@@ -194,3 +194,9 @@ shortest-path-is-free n wf d in-network order t =
       in-turn = λ v before u after e.
           also-free n wf d in-network (v ∷ before) u (List·Memᴰ·head (head-eq-of-cons-eq (sym (a .first .1) ∙ e))) (a .in-turn v before u after e);
     }
+
+pub held-once : HeldOnce
+held-once n wf d in-network order = (
+  holds-fact n wf d in-network free order,
+  λ (once, all, only). fact-holds n wf d in-network free order once all only,
+)

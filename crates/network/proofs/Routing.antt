@@ -2,10 +2,9 @@
 -- Assumes nothing.
 use Prim.Native.Nat.{ℕ, _≤_, _<_}
 use mathlib.Core.List.{List, List·Memᴰ}
-use mathlib.Core.Logic.{_≢_, inl, inr, ⊎-elim}
-use mathlib.Core.Path.{_≡_}
+use mathlib.Core.Logic.{inl, inr, ⊎-elim}
+use mathlib.Core.Path.{_≡_, refl, ap}
 use native.Mathlib.Omega.{arith}
-use borrow.Author.Tests.{eq-eqb, ne-eqb}
 use lib.Dec.{T, eqb, ltb, leb, eqb→eq, ltb→lt, lt→ltb, leb→le, le→leb}
 use lib.ListN.{length}
 use Rattle.network.specs.Lists.{every}
@@ -13,22 +12,24 @@ use Rattle.network.specs.Network.{Arc, Network, size, arcsOf, WellFormed
 use Rattle.network.specs.Distance.{distances}
 use Rattle.network.specs.Order.{free, accepted}
 use Rattle.network.specs.Row.{rank, row}
-use Rattle.network.specs.Forwarding.{Packet, Hop, delivered, dropped, hopTo, hop}
+use Rattle.network.specs.Forwarding.{Packet}
 use Rattle.network.specs.Routing.{validStates, routers, greatestHop, greatestHops, callTests}
 use Rattle.network.specs.Theorems.Order.{Accepted}
 use Rattle.network.specs.Theorems.Forwarding.{Lawful, Exact, Ended, at-home, nothing-live}
 use Rattle.network.specs.Theorems.Calls.{CallsBounded}
-use Rattle.network.specs.Theorems.Routing.{AllDown, HopRule, HopsByRule, RoutersLawful, RoutersExact, WalkEnd, delivers, drops, WalksEnd}
-use Rattle.network.specs.Theorems.Routing.{RoutersCalls, FiguresByPlace, TestsRight}
+use Rattle.network.specs.Theorems.Routing.{HopRule, HopsByRule, RoutersLawful, RoutersExact, WalkEnd, delivers, drops, WalksEnd}
+use Rattle.network.specs.Theorems.Routing.{RoutersCalls, FiguresByPlace, RoutersNeverLoop, TestsRight}
 use Rattle.network.proofs.Tests.{both, and, three, and-three, eq-test}
 use Rattle.network.proofs.Lists.{mem-take, every-all, all-every}
+use Rattle.network.proofs.Sort.{pairwise-map}
 use Rattle.network.proofs.Below.{getD-below, length-map-below}
 use Rattle.network.proofs.Order.{acceptance-exact, order-fits}
 use Rattle.network.proofs.Rank.{rank-most, rank-zero}
 use Rattle.network.proofs.Row.{full-row-exact, rows-sound}
 use Rattle.network.proofs.Filled.{rows-filled}
 use Rattle.network.proofs.Live.{live-mem, first-live, down-or-live, none-live, down-none, alone-live, onlyUp, only-valid, only-up, others-down}
-use Rattle.network.proofs.Forwarding.{walks-exact, walks-finish, Hopped, stays-home, stuck, went, hopped, hop-down}
+use Rattle.network.proofs.Hops.{hops-chosen}
+use Rattle.network.proofs.Forwarding.{walks-exact, walks-finish, never-loops}
 use Rattle.network.proofs.Calls.{calls-exact}
 
 pub tests-right : TestsRight
@@ -88,27 +89,19 @@ module _ (n : Network) (wf : WellFormed n) (d : ℕ) (in-network : d < size n) (
           drops p e (λ same. off (eq-test same)) states rest row-of-states (none-live states _ c)
 
   hop-rule : (states : List ℕ) (p : Packet ℕ) → HopRule n d limit order states p
-  unfolding hop hopTo
   hop-rule states p =
+      let c = hops-chosen (routers n d limit order) states p in
       record {
-        delivers = (at-d (hopped (routers n d limit order) states p), λ e. rw (eq-eqb (p .station) d e));
-        drops = (off-d (hopped (routers n d limit order) states p), λ (off, down). rw (ne-eqb (p .station) d off, down-none states _ down));
-        moves = λ a off f. hop-down (routers n d limit order) (rank order) _ lawful states p a (first-live states _ a f);
+        delivers = (λ e. eqb→eq _ _ (c .delivers .0 e), λ e. c .delivers .1 (eq-test e));
+        drops = (
+          λ e. let (off, k) = c .drops .0 e in (λ same. off (eq-test same), none-live states _ k),
+          λ (off, down). c .drops .1 (λ h. off (eqb→eq _ _ h), down-none states _ down),
+        );
+        moves = λ a off f. c .moves _ .1 (λ h. off (eqb→eq _ _ h), (a, first-live states _ a f, refl));
         else-moves = λ off.
-            ⊎-elim (λ down. inl (rw (ne-eqb (p .station) d off, down-none states _ down))) (λ live. inr live)
+            ⊎-elim (λ down. inl (c .drops .1 (λ h. off (eqb→eq _ _ h), down-none states _ down))) (λ live. inr live)
             (down-or-live states (row n (distances n d) limit order (p .station)));
       }
-    where
-      at-d : {o : Hop ℕ} → Hopped (routers n d limit order) states p o → o ≡ delivered → p .station ≡ d
-      at-d (stays-home h) e = eqb→eq _ _ h
-      at-d (stuck h c) e = cc
-      at-d (went a c) e = cc
-
-      off-d : {o : Hop ℕ} → Hopped (routers n d limit order) states p o → o ≡ dropped →
-          (p .station ≢ d) × AllDown states (row n (distances n d) limit order (p .station))
-      off-d (stays-home h) e = let never : _≡_ {A = ℕ} 0 1 = cc in absurd (omega arith)
-      off-d (stuck h c) e = (λ same. h (eq-test same), none-live states _ c)
-      off-d (went a c) e = let never : _≡_ {A = ℕ} 0 1 = cc in absurd (omega arith)
 
   calls : CallsBounded (routers n d limit order) (callTests n d limit order) (greatestHop n d limit order)
   unfolding greatestHop
@@ -139,3 +132,8 @@ routers-calls = calls
 pub figures-by-place : FiguresByPlace
 unfolding greatestHops
 figures-by-place n d limit order = (length-map-below _ (size n), λ u h. getD-below _ (size n) u 0 h)
+
+pub routers-never-loop : RoutersNeverLoop
+routers-never-loop n wf d in-network limit order t xs u =
+    pairwise-map (λ v w m k (h : rank order w < rank order v) e. omega (arith, ap (rank order) e))
+    (never-loops (routers n d limit order) (rank order) _ (routers-lawful n wf d in-network limit order t) xs u)

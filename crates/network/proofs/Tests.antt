@@ -43,6 +43,14 @@ pub truth : (b : Bool) → T b ⊎ (T b → ⊥)
 truth true = inl tt
 truth false = inr (λ t. t)
 
+pub as-true : (b : Bool) → T b → b ≡ true
+as-true true t = refl
+as-true false t = absurd t
+
+pub as-false : (b : Bool) → (T b → ⊥) → b ≡ false
+as-false true o = absurd (o tt)
+as-false false o = refl
+
 -- what a test picks
 pub passes {ℓ} : {A : Type ℓ} (b : Bool) → T b → (x y : A) → cond b x y ≡ x
 passes true t x y = refl

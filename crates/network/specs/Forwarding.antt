@@ -72,10 +72,6 @@ module _ (f : Forwarding) where
   walk [] p = walkEnd p (f .home (p .station))
   walk (x ∷ xs) p = walkOn p (hop x p) (walk xs)
 
-  -- 01, Packet, hop and schedule: the hops made that a walk from a station answers
-  unfoldable pub hopsMade : List (f .States) → f .State → ℕ
-  hopsMade xs s = (packetOf (walk xs (start s))) .hops
-
   -- 01, Packet, hop and schedule: by whether the packet is at d, and the entry chosen if not, what the walk goes to from there
   unfoldable pub routeOn : Bool → Option (f .Entry) → (f .State → List (f .Entry)) → List (f .Entry)
   routeOn true chosen rest = []

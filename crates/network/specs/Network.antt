@@ -48,8 +48,8 @@ pub record SoundArc (n : Network) (u : ℕ) (a : Arc) : Type 0 where
   pub cost-most : a .cost ≤ greatestCost
   pub numbered : a .link < n .links
 
--- What 01, Stations, links and limits, asks of a topology, its numbers of routers, links and neighbours aside: IDs differ, every arc is sound, and no
--- two arcs of a router lead to one place or share a link.
+-- What the theorems ask of a network, all of it asked of a topology by 01, Stations, links and limits: IDs differ, every arc is sound, and no two arcs
+-- of a router lead to one place or share a link.
 pub record WellFormed (n : Network) : Type 0 where
   pub each-place : length (n .arcs) ≡ size n
   pub ids-differ : Distinct (n .ids)

@@ -10,9 +10,10 @@ use Rattle.network.specs.Forwarding.{hopTo, hop, walkOn, walkEnd, walk, start, 
 use Rattle.network.specs.Routing.{up, firstLive, greatestHop, greatestHops}
 use Rattle.network.proofs.Linked.{linked-well-formed}
 use Rattle.worked.specs.Fact.{upBut, same, endsSo, claimHolds, holds}
-use Rattle.worked.specs.Starred.{link, T-network, F-network, alone, about, thenAllUp, starred, StarredHold, WorkedWellFormed}
+use Rattle.worked.specs.Starred.{link, T-network, F-network, alone, about, thenAllUp, starred, StarredHold, T-reversed, further, FurtherHold}
+use Rattle.worked.specs.Starred.{WorkedWellFormed}
 
-pub starred-hold : StarredHold
+both-hold : StarredHold × FurtherHold
 unfolding numbersFrom below keep every any leastBy greatestBy ahead foremost insert sort member wins
     size idOf arcsOf greatestCost arcsAmong linked
     absent distanceIn through atFirst round rounds distances
@@ -21,8 +22,14 @@ unfolding numbersFrom below keep every any leastBy greatestBy ahead foremost ins
     hopTo hop walkOn walkEnd walk start longest
     up firstLive greatestHop greatestHops
     upBut same endsSo claimHolds holds
-    link T-network F-network alone about thenAllUp starred
-starred-hold = tt
+    link T-network F-network alone T-reversed about thenAllUp starred further
+both-hold = (tt, tt)
+
+pub starred-hold : StarredHold
+starred-hold = both-hold .0
+
+pub further-hold : FurtherHold
+further-hold = both-hold .1
 
 pub worked-well-formed : WorkedWellFormed
 unfolding every any member distinct greatestCost soundLink samePair pairsDiffer soundLinks link T-network F-network alone

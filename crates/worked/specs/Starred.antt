@@ -54,6 +54,21 @@ starred =
 abbrev pub StarredHold : Type 0
 StarredHold = T (every holds starred)
 
+-- T with its IDs against the places, 3, 2, 1: the tie of the free mode now goes to place 1
+unfoldable pub T-reversed : Network
+T-reversed = linked (3 ∷ 2 ∷ 1 ∷ []) (link 0 1 1 ∷ link 1 2 1 ∷ link 0 2 3 ∷ [])
+
+-- Facts beside the starred ones, where an ID taken for a place would show.
+unfoldable pub further : List Fact
+further =
+    about T-reversed 0 free (order-is (0 ∷ 1 ∷ 2 ∷ []))
+    ∷ about T-reversed 2 free (order-is (2 ∷ 0 ∷ 1 ∷ []))
+    ∷ about T-reversed 2 free (row-is 16 1 (2 ∷ 0 ∷ []))
+    ∷ []
+
+abbrev pub FurtherHold : Type 0
+FurtherHold = T (every holds further)
+
 -- The three networks are well formed, so every theorem of the crate network holds of them.
 abbrev pub WorkedWellFormed : Type 0
 WorkedWellFormed = WellFormed T-network × WellFormed F-network × WellFormed alone

@@ -1,7 +1,7 @@
--- What is proved of lists of calls, over any rows, any rule of choice that obeys the laws and any tests that refuse.
+-- What is proved of lists of calls, over any rows, any rule of choice that obeys the laws and any tests by which calls are refused.
 -- Assumes nothing.
 use Prim.Native.Nat.{ℕ, _+_, _≤_, _<_}
-use mathlib.Core.List.{List, _∷_, List·Memᴰ}
+use mathlib.Core.List.{List, [], _∷_, _++_, List·Memᴰ}
 use mathlib.Core.Logic.{_⊎_}
 use mathlib.Core.Path.{_≡_}
 use lib.Dec.{T}
@@ -22,6 +22,15 @@ pub record CallRule (f : Forwarding) (tests : Tests f) (p : Packet (f .State)) (
 abbrev pub CallsByRule : Type 1
 CallsByRule = (f : Forwarding) (tests : Tests f) (p : Packet (f .State)) (last : f .State) → CallRule f tests p last
 
+-- 01, Packet, hop and schedule: the last call of a list gets the packet as those before it left it, and where it was last set.
+pub record InTurn (f : Forwarding) (tests : Tests f) (p : Packet (f .State)) (first : f .State) : Type 0 where
+  pub no-calls : (afterCalls f tests [] p ≡ p) × (lastSet f tests [] first ≡ first)
+  pub one-more : (cs : List (Call f)) (c : Call f) → (afterCalls f tests (cs ++ (c ∷ [])) p ≡ afterCall f tests c (afterCalls f tests cs p))
+      × (lastSet f tests (cs ++ (c ∷ [])) first ≡ setBy f tests c (lastSet f tests cs first))
+
+abbrev pub CallsInTurn : Type 1
+CallsInTurn = (f : Forwarding) (tests : Tests f) (p : Packet (f .State)) (first : f .State) → InTurn f tests p first
+
 -- Demand 3, hop by hop. A list begins with an accepted setting at `first`, whatever the packet held; since the claim is of every list, it holds after
 -- every prefix of one.
 pub record CallsBounded (f : Forwarding) (tests : Tests f) (figure : f .State → ℕ) : Type 0 where
@@ -35,8 +44,8 @@ pub record CallsBounded (f : Forwarding) (tests : Tests f) (figure : f .State �
   pub reached : (p : Packet (f .State)) (s : f .State) → T (tests .start-ok s) → (cs : List (Call f)) × (lastSet f tests cs s ≡ s)
       × ((afterCalls f tests (setting s ∷ cs) p) .hops ≡ figure s)
 
--- What the tests must let pass for the figure to be reached: a start whose rank is at most `left`, and with it what its entries lead to; a hop under
--- valid states from such a station while fewer than `left` hops are made.
+-- What the claim asks of the tests: a start that they let through has a rank of at most `left`, and what its entries lead to is let through too; so is
+-- a hop under valid states from such a station while fewer than `left` hops are made.
 pub record Admits (f : Forwarding) (rank : f .State → ℕ) (valid : f .States → Type 0) (tests : Tests f) (left : ℕ) : Type 0 where
   pub ranked : (s : f .State) → T (tests .start-ok s) → rank s ≤ left
   pub stays : (s : f .State) → T (tests .start-ok s) → (e : f .Entry) → List·Memᴰ e (f .row s) → T (tests .start-ok (f .next e))

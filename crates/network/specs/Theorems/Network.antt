@@ -1,13 +1,35 @@
 -- What is proved of networks made from links.
 -- Assumes nothing.
-use Prim.Native.Nat.{ℕ, _<_}
+use Prim.Native.Nat.{ℕ, _≤_, _<_}
 use mathlib.Core.List.{List, _∷_, _++_, List·Memᴰ}
-use mathlib.Core.Logic.{_↔_, _⊎_}
+use mathlib.Core.Logic.{_↔_, _≢_, _⊎_}
 use mathlib.Core.Path.{_≡_}
 use lib.Dec.{T}
 use lib.ListN.{length}
-use Rattle.network.specs.Lists.{Pairwise}
+use Rattle.network.specs.Lists.{Pairwise, Distinct}
 use Rattle.network.specs.Network.{Arc, WellFormed, arcsOf, Link, linked, soundLinks}
+use Rattle.network.specs.Distance.{PathTo}
+
+-- 01, Refusals, 5 to 7: a link joins two different places that are listed, at a cost from 1 to 65,535
+pub record SoundLink (count : ℕ) (l : Link) : Type 0 where
+  pub first-listed : l .first < count
+  pub second-listed : l .second < count
+  pub ends-differ : l .first ≢ l .second
+  pub cost-least : 1 ≤ l .cost
+  pub cost-most : l .cost ≤ 65535
+
+-- 01, Refusals, 8: two links join one pair, in either order
+abbrev pub SamePair : Link → Link → Type 0
+SamePair l k = ((l .first ≡ k .first) × (l .second ≡ k .second)) ⊎ ((l .first ≡ k .second) × (l .second ≡ k .first))
+
+-- 01, Refusals, 3 and 5 to 8: what `soundLinks` tests
+pub record SoundLinks (ids : List ℕ) (ls : List Link) : Type 0 where
+  pub ids-differ : Distinct ids
+  pub each : (l : Link) → List·Memᴰ l ls → SoundLink (length ids) l
+  pub pairs-differ : Pairwise (λ l k. SamePair l k → ⊥) ls
+
+abbrev pub SoundLinksExact : Type 0
+SoundLinksExact = (ids : List ℕ) (ls : List Link) → T (soundLinks ids ls) ↔ SoundLinks ids ls
 
 -- The network of sound links is well formed, so all that is proved of well-formed networks holds of it.
 abbrev pub LinkedWellFormed : Type 0
@@ -23,8 +45,19 @@ pub record LinkOf (ls : List Link) (u : ℕ) (a : Arc) : Type 0 where
   pub cost : a .cost ≡ link .cost
   pub ends : ((link .first ≡ u) × (a .to ≡ link .second)) ⊎ ((link .second ≡ u) × (a .to ≡ link .first))
 
--- Each link is an arc of both its ends, at its one cost, and there are no other arcs; they stand in the order of their link numbers.
-abbrev pub LinkedArcs : Type 0
-LinkedArcs =
-    (ids : List ℕ) (ls : List Link) → T (soundLinks ids ls) → (u : ℕ) →
-    (u < length ids → (a : Arc) → List·Memᴰ a (arcsOf (linked ids ls) u) ↔ LinkOf ls u a) × Pairwise (λ a b. a .link < b .link) (arcsOf (linked ids ls) u)
+-- It has the IDs by place and as many links; each link is an arc of both its ends, at its one cost, and there are no other arcs; they stand in the
+-- order of their link numbers.
+pub record Linked (ids : List ℕ) (ls : List Link) : Type 0 where
+  pub same-ids : linked ids ls .ids ≡ ids
+  pub same-links : linked ids ls .links ≡ length ls
+  pub arcs : (u : ℕ) → u < length ids → (a : Arc) → List·Memᴰ a (arcsOf (linked ids ls) u) ↔ LinkOf ls u a
+  pub in-order : (u : ℕ) → Pairwise (λ a b. a .link < b .link) (arcsOf (linked ids ls) u)
+
+abbrev pub LinkedExact : Type 0
+LinkedExact = (ids : List ℕ) (ls : List Link) → T (soundLinks ids ls) → Linked ids ls
+
+-- 01, Refusals, 13: links go both ways, so where every router has a path to one place, every router has a path to every place.
+abbrev pub LinkedConnected : Type 0
+LinkedConnected =
+    (ids : List ℕ) (ls : List Link) → T (soundLinks ids ls) → (middle : ℕ) → middle < length ids →
+    ((u : ℕ) → u < length ids → PathTo (linked ids ls) middle u) → (d u : ℕ) → d < length ids → u < length ids → PathTo (linked ids ls) d u

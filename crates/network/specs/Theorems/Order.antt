@@ -10,7 +10,7 @@ use lib.ListN.{length}
 use Rattle.network.specs.Lists.{Distinct}
 use Rattle.network.specs.Network.{Arc, Network, size, idOf, arcsOf, WellFormed}
 use Rattle.network.specs.Distance.{PathTo, distances, distance}
-use Rattle.network.specs.Order.{Mode, shortest-path, free, placedNeighbours, select, build, accepted}
+use Rattle.network.specs.Order.{Mode, shortest-path, free, placedNeighbours, select, build, holdsEachOnce, accepted}
 
 -- a claim of every well-formed network and every destination in it
 abbrev pub OfOrders : (Network → ℕ → Type 0) → Type 0
@@ -68,6 +68,12 @@ pub record Accepted (n : Network) (d : ℕ) (mode : Mode) (order : List ℕ) : T
   pub only : (u : ℕ) → List·Memᴰ u order → PathTo n d u
   pub first : (rest : List ℕ) × (order ≡ d ∷ rest)
   pub in-turn : (v : ℕ) (before : List ℕ) (u : ℕ) (after : List ℕ) → order ≡ (v ∷ before) ++ (u ∷ after) → Candidate n d mode (v ∷ before) u
+
+-- The first part of that test by itself.
+abbrev pub HeldOnce : Type 0
+HeldOnce =
+    OfOrders (λ n d. (order : List ℕ) → T (holdsEachOnce n (distances n d) order)
+    ↔ (Distinct order × ((u : ℕ) → PathTo n d u → List·Memᴰ u order) × ((u : ℕ) → List·Memᴰ u order → PathTo n d u)))
 
 abbrev pub AcceptanceExact : Type 0
 AcceptanceExact = OfOrders (λ n d. (mode : Mode) (order : List ℕ) → T (accepted n d mode order) ↔ Accepted n d mode order)

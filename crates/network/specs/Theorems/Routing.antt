@@ -2,17 +2,18 @@
 -- accepted for it.
 -- Assumes nothing.
 use Prim.Native.Nat.{ℕ, suc, _≤_, _<_}
-use mathlib.Core.List.{List, _∷_, _++_, List·Memᴰ}
+use mathlib.Core.List.{List, _∷_, _++_, List·Memᴰ, map}
 use mathlib.Core.Logic.{_↔_, _≢_, _⊎_}
 use mathlib.Core.Path.{_≡_}
 use lib.Dec.{T}
 use lib.ListN.{length, getD, drop}
+use Rattle.network.specs.Lists.{Distinct}
 use Rattle.network.specs.Network.{Arc, Network, size}
 use Rattle.network.specs.Distance.{PathTo, distances, distance}
 use Rattle.network.specs.Order.{shortest-path, free, accepted}
 use Rattle.network.specs.Row.{row, rank}
 use Rattle.network.specs.Forwarding.{Packet, delivered, moved, dropped, delivered-at, dropped-at, hop, walk, route, start}
-use Rattle.network.specs.Routing.{up, validStates, routers, greatestHop, greatestHops, callTests, costOf}
+use Rattle.network.specs.Routing.{validStates, routers, greatestHop, greatestHops, callTests, costOf}
 use Rattle.network.specs.Theorems.Order.{OfOrders}
 use Rattle.network.specs.Theorems.Forwarding.{Lawful, Exact}
 use Rattle.network.specs.Theorems.Calls.{CallsBounded}
@@ -21,9 +22,13 @@ use Rattle.network.specs.Theorems.Calls.{CallsBounded}
 abbrev pub OfTables : (Network → ℕ → ℕ → List ℕ → Type 0) → Type 0
 OfTables claim = OfOrders (λ n d. (limit : ℕ) (order : List ℕ) → T (accepted n d free order) → claim n d limit order)
 
+-- 01, Packet, hop and schedule: the link is up, its byte 1
+abbrev pub Up : List ℕ → ℕ → Type 0
+Up states link = getD states link 0 ≡ 1
+
 -- no link to an entry of the row is up
 abbrev pub AllDown : List ℕ → List Arc → Type 0
-AllDown states entries = (a : Arc) → List·Memᴰ a entries → T (up states (a .link)) → ⊥
+AllDown states entries = (a : Arc) → List·Memᴰ a entries → Up states (a .link) → ⊥
 
 -- a is the first entry whose link is up
 pub record FirstLive (states : List ℕ) (entries : List Arc) (a : Arc) : Type 0 where
@@ -31,7 +36,7 @@ pub record FirstLive (states : List ℕ) (entries : List Arc) (a : Arc) : Type 0
   pub after : List Arc
   pub stands : entries ≡ before ++ (a ∷ after)
   pub down : AllDown states before
-  pub live : T (up states (a .link))
+  pub live : Up states (a .link)
 
 -- Demand 3, last sentence: a hop drops the packet exactly when it is short of its destination and no link to a listed next hop is up; else, off d,
 -- it goes to the first entry whose link is up, and makes one hop more.
@@ -79,6 +84,11 @@ TestsRight =
     × ((states : List ℕ) (p : Packet ℕ) → T (callTests n d limit order .hop-ok states p)
     ↔ ((p .station < size n) × (p .hops < size n) × ((length states ≡ n .links) × ((b : ℕ) → List·Memᴰ b states → b ≤ 1))))
 
+-- Whatever the links do, a walk never visits a router twice.
+abbrev pub RoutersNeverLoop : Type 0
+RoutersNeverLoop =
+    OfTables (λ n d limit order. (xs : List (List ℕ)) (u : ℕ) → Distinct (u ∷ map (λ a. a .to) (route (routers n d limit order) xs u)))
+
 -- 01: for all places it is N bytes, place by place
 abbrev pub FiguresByPlace : Type 0
 FiguresByPlace =
@@ -87,7 +97,7 @@ FiguresByPlace =
 
 -- a schedule in which every link is up before every hop
 abbrev pub AllUp : Network → List (List ℕ) → Type 0
-AllUp n xs = (states : List ℕ) → List·Memᴰ states xs → (link : ℕ) → link < n .links → T (up states link)
+AllUp n xs = (states : List ℕ) → List·Memᴰ states xs → (link : ℕ) → link < n .links → Up states link
 
 -- Demand 2, last clause: in shortest-path mode, with all links up, the walk is delivered and the arcs it took cost the distance.
 pub record ShortestWalk (n : Network) (d limit : ℕ) (order : List ℕ) (xs : List (List ℕ)) (u : ℕ) : Type 0 where
