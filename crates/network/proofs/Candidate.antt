@@ -46,7 +46,7 @@ module _ (n : Network) (wf : WellFormed n) (d : ℕ) (in-network : d < size n) w
       (path-reached n wf d in-network (c .path)) (not-T (member u placed) (λ t. c .unplaced (member-mem u placed t)))
       (fact-ready mode placed u (c .next-hops))
 
-  -- what is a candidate in shortest-path mode is one in free mode
+  -- once d is placed, what is a candidate in shortest-path mode is one in free mode: it has a shortest next hop, and that is placed
   pub also-free : (placed : List ℕ) (u : ℕ) → List·Memᴰ d placed → Candidate n d shortest-path placed u → Candidate n d free placed u
   also-free placed u m c =
       let (a, k) = some-next n wf d in-network (c .path) (λ e. c .unplaced (Memᴰ·cast e m)) in

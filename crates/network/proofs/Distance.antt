@@ -126,7 +126,7 @@ module _ (n : Network) (w : WellFormed n) (d : ℕ) (d-in : d < size n) where
   D-least (suc k) {u} (along a m p) h =
       rw D-next (omega (arith, least-each (through n (rounds n d k)) (D k u) m, D-least k p (omega arith)))
 
-  -- where there is a distance it is the cost of a path
+  -- where there is a distance it is the cost of a path of at most k arcs
   D-attained : (k u : ℕ) → D k u < absent n → (p : PathTo n d u) × (pathHops p ≤ k) × (pathCost p ≡ D k u)
   unfolding D pathCost pathHops through
   D-attained zero u h = step (eqb u d) refl (D-first u)

@@ -1,5 +1,5 @@
--- Under an accepted order: what a router was a candidate behind stands in its row, so the row is not empty; in shortest-path mode that is every
--- shortest next hop, and their key, the router's distance, is the least there is.
+-- The key of shortest next hops, the router's distance, is the least there is, so they come first in a row. What a router was a candidate behind ranks
+-- below it, so under an accepted order its row is not empty, and in shortest-path mode it has every shortest next hop.
 -- Assumes nothing.
 use Prim.Native.Nat.{ℕ, zero, suc, _≤_}
 use mathlib.Core.List.{List, [], _∷_, List·Memᴰ, List·Memᴰ·head, List·Memᴰ·tail, List·Memᴰ·cases-cons, List·Memᴰ·not-nil, cons≢nil}

@@ -4,12 +4,12 @@
 use Prim.Native.Nat.{ℕ, _<_}
 use mathlib.Core.List.{List, [], _∷_, List·Memᴰ, List·Memᴰ·not-nil}
 use mathlib.Core.Logic.{_↔_, _≢_, _⊎_, inl, inr, ⊎-elim}
-use mathlib.Core.Path.{_≡_, refl, sym, ap, subst}
+use mathlib.Core.Path.{_≡_, refl, sym, _∙_, ap, subst}
 use native.Mathlib.Decide.{decLt}
 use native.Mathlib.Omega.{arith}
 use lib.Dec.{T}
 use lib.ListN.{length, length-append}
-use Rattle.network.specs.Lists.{Pairwise, nothing}
+use Rattle.network.specs.Lists.{Pairwise, nothing, Distinct}
 use Rattle.network.specs.Network.{Arc, Network, size, arcsOf, greatestCost, SoundArc, WellFormed, Link, arcsAmong, linked}
 use Rattle.network.specs.Network.{soundLinks}
 use Rattle.network.specs.Distance.{PathTo, arrived, along}
@@ -22,6 +22,19 @@ use Rattle.network.proofs.Arcs.{From, link-in, arc-from, from-arc, arcs
 module _ (ids : List ℕ) (ls : List Link) (t : T (soundLinks ids ls)) where
   n : Network
   n = linked ids ls
+
+  -- it has the IDs and as many links as were given; the rest goes by these
+  given-ids : n .ids ≡ ids
+  unfolding n linked
+  given-ids = refl
+
+  given-links : n .links ≡ length ls
+  unfolding n linked
+  given-links = refl
+
+  given-size : size n ≡ length ids
+  unfolding size
+  given-size = ap length given-ids
 
   -- the arcs of a place are those of the links, and past the last place there are none
   arcs-within : (u : ℕ) → u < length ids → arcsOf n u ≡ arcsAmong u 0 ls
@@ -43,27 +56,31 @@ module _ (ids : List ℕ) (ls : List Link) (t : T (soundLinks ids ls)) where
   facts = sound-links-exact ids ls .0 t
 
   sound-arc : (u : ℕ) (a : Arc) → From u 0 ls a → SoundArc n u a
-  unfolding n linked size greatestCost
+  unfolding greatestCost
   sound-arc u a w =
       let g = facts .each (w .link) (link-in w) in
+      let sized = given-size in
       let cost : a .cost ≡ w .link .cost = w .seen .cost in
       record {
         place = ⊎-elim (λ f. omega arith) (λ f. omega arith) (w .seen .ends);
         other = ⊎-elim (λ f e. g .ends-differ (omega arith)) (λ f e. g .ends-differ (omega arith)) (w .seen .ends);
         cost-least = omega arith;
         cost-most = omega arith;
-        numbered = omega (arith, w .turn, ap length (w .stands), length-append (w .before) (w .link ∷ w .after));
+        numbered = omega (arith, given-links, w .turn, ap length (w .stands), length-append (w .before) (w .link ∷ w .after));
       }
 
   numbers-rise : (u : ℕ) → Pairwise (λ a b. a .link < b .link) (arcsOf n u)
   numbers-rise u = pairwise _ u (arcs-pairwise u (λ a b. a .link < b .link) (λ number l later a b out seen turn w. omega (arith, w .turn)) 0 (facts .pairs-differ))
 
+  each-place : length (n .arcs) ≡ size n
+  unfolding n linked
+  each-place = length-map-below _ (length ids) ∙ sym given-size
+
   well-formed : WellFormed n
-  unfolding n linked size
   well-formed =
       record {
-        each-place = length-map-below _ (length ids);
-        ids-differ = facts .ids-differ;
+        each-place = each-place;
+        ids-differ = subst Distinct (sym given-ids) (facts .ids-differ);
         sound = λ u a m.
             ⊎-elim (λ e. sound-arc u a (arc-from u 0 ls a (subst (List·Memᴰ a) e m)))
             (λ e. absurd (List·Memᴰ·not-nil (subst (List·Memᴰ a) e m))) (arcs-are u);
@@ -73,6 +90,9 @@ module _ (ids : List ℕ) (ls : List Link) (t : T (soundLinks ids ls)) where
             (λ number l later a b out seen turn w e. out (w .link) (link-in w) (same-pair seen (w .seen) e)) 0 (facts .pairs-differ));
         links-differ = λ u. pairwise-map (λ a b m k (h : a .link < b .link) e. omega arith) (numbers-rise u);
       }
+
+  arc-place : (u : ℕ) (a : Arc) → List·Memᴰ a (arcsOf n u) → a .to < length ids
+  arc-place u a m = let sized = given-size in omega (arith, well-formed .sound u a m .place)
 
   arcs-exact : (u : ℕ) → u < length ids → (a : Arc) → List·Memᴰ a (arcsOf n u) ↔ LinkOf ls u a
   arcs-exact u h a = (
@@ -96,10 +116,9 @@ module _ (ids : List ℕ) (ls : List Link) (t : T (soundLinks ids ls)) where
   -- an arc has its link's other arc for the way back
   way-back : (u : ℕ) → u < length ids → (a : Arc) → List·Memᴰ a (arcsOf n u) →
       List·Memᴰ (record { to = u; cost = a .cost; link = a .link }) (arcsOf n (a .to))
-  unfolding n linked size
   way-back u h a m =
       let w = arcs-exact u h a .0 m in
-      arcs-exact (a .to) (well-formed .sound u a m .place) _ .1
+      arcs-exact (a .to) (arc-place u a m) _ .1
       record {
         before = w .before;
         link = w .link;
@@ -112,9 +131,8 @@ module _ (ids : List ℕ) (ls : List Link) (t : T (soundLinks ids ls)) where
 
   -- a path walked back, before a path from its start on
   back : {d u : ℕ} (w : ℕ) → PathTo n d u → u < length ids → PathTo n w u → PathTo n w d
-  unfolding n linked size
   back w (arrived e) h q = subst (PathTo n w) e q
-  back {u} w (along a m p) h q = back w p (well-formed .sound u a m .place) (along _ (way-back u h a m) q)
+  back {u} w (along a m p) h q = back w p (arc-place u a m) (along _ (way-back u h a m) q)
 
   join : {d middle u : ℕ} → PathTo n middle u → PathTo n d middle → PathTo n d u
   join {d} (arrived e) q = subst (PathTo n d) (sym e) q
@@ -125,9 +143,15 @@ unfolding n
 linked-well-formed = well-formed
 
 pub linked-exact : LinkedExact
-unfolding n linked
-linked-exact ids ls t = record { same-ids = refl; same-links = refl; arcs = arcs-exact ids ls t; in-order = numbers-rise ids ls t }
+unfolding n
+linked-exact ids ls t =
+    record {
+      same-ids = given-ids ids ls t;
+      same-links = given-links ids ls t;
+      arcs = arcs-exact ids ls t;
+      in-order = numbers-rise ids ls t;
+    }
 
 pub linked-connected : LinkedConnected
 unfolding n
-linked-connected ids ls t middle h paths d u d-in u-in = join ids ls t (paths u u-in) (back ids ls t d (paths d d-in) d-in (arrived refl))
+linked-connected ids ls t middle paths d u d-in u-in = join ids ls t (paths u u-in) (back ids ls t d (paths d d-in) d-in (arrived refl))

@@ -1,4 +1,4 @@
--- What stands in a list that was kept, sorted or cut, by recursion on the list: membership passes through each step of it.
+-- What stands in a list that was kept or cut, and tests over a list as facts of its elements, by recursion on the list.
 -- Assumes nothing.
 use Prim.Native.Nat.{ℕ, zero, suc}
 use mathlib.Core.Bool.{Bool, true, false, cond, _&&_}

@@ -28,7 +28,7 @@ module _ (n : Network) (d : ℕ) (mode : Mode) where
       step none e rest = no-more Next placed
       step (some w) e rest = one-more Next placed w (more w) e (rest w)
 
-  -- with none left behind them
+  -- two lists that go by what is selected behind `placed`, with nobody left to select behind either, are one
   pub alike : (placed xs ys : List ℕ) → Splits Next placed xs → Splits Next placed ys → select n (distances n d) mode (placed ++ xs) ≡ none →
       select n (distances n d) mode (placed ++ ys) ≡ none → xs ≡ ys
   alike placed [] [] h k e f = refl

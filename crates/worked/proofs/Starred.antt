@@ -6,11 +6,12 @@ use Rattle.network.specs.Distance.{absent, distanceIn, through, atFirst, round,
 use Rattle.network.specs.Order.{reached, shortestNextHops, leadsInto, ready, candidate, placedNeighbours, preferred, select, continued, placing}
 use Rattle.network.specs.Order.{build}
 use Rattle.network.specs.Row.{rank, sortsBefore, rankedBefore, fullRow, row}
-use Rattle.network.specs.Forwarding.{hopTo, hop, walkOn, walkEnd, walk, start, longest}
-use Rattle.network.specs.Routing.{up, firstLive, greatestHop, greatestHops}
+use Rattle.network.specs.Forwarding.{hopTo, hop, walkOn, walkEnd, walk, start, routeOn, route, longest}
+use Rattle.network.specs.Calls.{afterHop, afterCall, afterCalls}
+use Rattle.network.specs.Routing.{up, firstLive, validStates, greatestHop, greatestHops, costOf}
 use Rattle.network.proofs.Linked.{linked-well-formed}
-use Rattle.worked.specs.Fact.{upBut, same, endsSo, claimHolds, holds}
-use Rattle.worked.specs.Starred.{link, T-network, F-network, alone, about, thenAllUp, starred, StarredHold, T-reversed, further, FurtherHold}
+use Rattle.worked.specs.Fact.{upBut, same, leftAt, endsSo, callOf, claimHolds, holds}
+use Rattle.worked.specs.Starred.{link, T-network, F-network, alone, about, thenAllUp, starred, StarredHold, T-reversed, allUp, further, FurtherHold}
 use Rattle.worked.specs.Starred.{WorkedWellFormed}
 
 both-hold : StarredHold × FurtherHold
@@ -19,10 +20,10 @@ unfolding numbersFrom below keep every any leastBy greatestBy ahead foremost ins
     absent distanceIn through atFirst round rounds distances
     reached shortestNextHops leadsInto ready candidate placedNeighbours preferred select continued placing build
     rank sortsBefore rankedBefore fullRow row
-    hopTo hop walkOn walkEnd walk start longest
-    up firstLive greatestHop greatestHops
-    upBut same endsSo claimHolds holds
-    link T-network F-network alone T-reversed about thenAllUp starred further
+    hopTo hop walkOn walkEnd walk start routeOn route longest afterHop afterCall afterCalls
+    up firstLive validStates greatestHop greatestHops costOf
+    upBut same leftAt endsSo callOf claimHolds holds
+    link T-network F-network alone T-reversed about thenAllUp allUp starred further
 both-hold = (tt, tt)
 
 pub starred-hold : StarredHold

@@ -9,13 +9,19 @@ use Rattle.network.specs.Network.{Network}
 use Rattle.network.specs.Distance.{distances}
 use Rattle.network.specs.Order.{Mode, build}
 use Rattle.network.specs.Row.{row}
-use Rattle.network.specs.Forwarding.{Walk, delivered-at, dropped-at, unfinished-at, walk, start}
-use Rattle.network.specs.Routing.{routers, greatestHops}
+use Rattle.network.specs.Forwarding.{Packet, Walk, delivered-at, dropped-at, unfinished-at, walk, start, route}
+use Rattle.network.specs.Calls.{Call, setting, hopping, afterCalls}
+use Rattle.network.specs.Routing.{routers, greatestHops, callTests, costOf}
 
 -- Which end a walk is expected to have, at which station, after how many hops.
 pub data End : Type 0 where
   delivered : ℕ → ℕ → End
   dropped : ℕ → ℕ → End
+
+-- One call on a packet: a setting at a start, or a hop under a row of link states.
+pub data Step : Type 0 where
+  set : ℕ → Step
+  hop : List ℕ → Step
 
 pub data Claim : Type 0 where
   -- the order
@@ -26,6 +32,10 @@ pub data Claim : Type 0 where
   greatest-are : ℕ → List ℕ → Claim
   -- with the limit K, a walk from a start under a schedule
   walk-ends : ℕ → ℕ → List (List ℕ) → End → Claim
+  -- with the limit K, what the arcs of a walk from a start under a schedule cost
+  walk-costs : ℕ → ℕ → List (List ℕ) → ℕ → Claim
+  -- with the limit K, the station and the hops made of a packet after a list of calls, at first at place 0 with 0 hops made
+  calls-leave : ℕ → List Step → ℕ → ℕ → Claim
 
 pub record Fact : Type 0 where
   pub network : Network
@@ -43,13 +53,20 @@ same [] (y ∷ ys) = false
 same (x ∷ xs) [] = false
 same (x ∷ xs) (y ∷ ys) = eqb x y && same xs ys
 
+unfoldable pub leftAt : Packet ℕ → ℕ → ℕ → Bool
+leftAt p station hops = eqb (p .station) station && eqb (p .hops) hops
+
 unfoldable pub endsSo : End → Walk ℕ → Bool
-endsSo (delivered station hops) (delivered-at p) = eqb (p .station) station && eqb (p .hops) hops
+endsSo (delivered station hops) (delivered-at p) = leftAt p station hops
 endsSo (delivered station hops) (dropped-at p) = false
 endsSo (delivered station hops) (unfinished-at p) = false
 endsSo (dropped station hops) (delivered-at p) = false
-endsSo (dropped station hops) (dropped-at p) = eqb (p .station) station && eqb (p .hops) hops
+endsSo (dropped station hops) (dropped-at p) = leftAt p station hops
 endsSo (dropped station hops) (unfinished-at p) = false
+
+unfoldable pub callOf : (n : Network) (d limit : ℕ) (order : List ℕ) → Step → Call (routers n d limit order)
+callOf n d limit order (set u) = setting u
+callOf n d limit order (hop states) = hopping states
 
 -- the claim about a network, a destination and an order
 unfoldable pub claimHolds : Network → ℕ → List ℕ → Claim → Bool
@@ -57,6 +74,9 @@ claimHolds n d order (order-is expected) = same order expected
 claimHolds n d order (row-is limit u expected) = same (map (λ a. a .to) (row n (distances n d) limit order u)) expected
 claimHolds n d order (greatest-are limit expected) = same (greatestHops n d limit order) expected
 claimHolds n d order (walk-ends limit u schedule expected) = endsSo expected (walk (routers n d limit order) schedule (start u))
+claimHolds n d order (walk-costs limit u schedule expected) = eqb (costOf (route (routers n d limit order) schedule u)) expected
+claimHolds n d order (calls-leave limit steps station hops) =
+    leftAt (afterCalls (routers n d limit order) (callTests n d limit order) (map (callOf n d limit order) steps) (start 0)) station hops
 
 unfoldable pub holds : Fact → Bool
 holds fact = claimHolds (fact .network) (fact .destination) (build (fact .network) (fact .destination) (fact .mode)) (fact .claim)

@@ -7,7 +7,8 @@ use lib.ListN.{length, replicate}
 use Rattle.network.specs.Lists.{every}
 use Rattle.network.specs.Network.{Network, Link, WellFormed, linked}
 use Rattle.network.specs.Order.{Mode, shortest-path, free}
-use Rattle.worked.specs.Fact.{Fact, Claim, order-is, row-is, greatest-are, walk-ends, delivered, dropped, upBut, holds}
+use Rattle.worked.specs.Fact.{Fact, Claim, order-is, row-is, greatest-are, walk-ends, walk-costs, calls-leave, delivered, dropped}
+use Rattle.worked.specs.Fact.{set, hop, upBut, holds}
 
 unfoldable pub link : ℕ → ℕ → ℕ → Link
 link u v c = record { first = u; second = v; cost = c }
@@ -58,12 +59,42 @@ StarredHold = T (every holds starred)
 unfoldable pub T-reversed : Network
 T-reversed = linked (3 ∷ 2 ∷ 1 ∷ []) (link 0 1 1 ∷ link 1 2 1 ∷ link 0 2 3 ∷ [])
 
--- Facts beside the starred ones, where an ID taken for a place would show.
+-- the states of T's three links, all up
+unfoldable pub allUp : List ℕ
+allUp = upBut T-network []
+
+-- Facts beside the starred ones: 01's listing of T and its rows of F, where a tie stands in a row; T with its IDs reversed, where an ID taken for a
+-- place would show; lists of calls, refused ones included, and what walks cost, worked by hand.
 unfoldable pub further : List Fact
 further =
-    about T-reversed 0 free (order-is (0 ∷ 1 ∷ 2 ∷ []))
+    about T-network 0 shortest-path (greatest-are 16 (0 ∷ 1 ∷ 2 ∷ []))
+    ∷ about T-network 0 shortest-path (row-is 16 0 [])
+    ∷ about T-network 0 shortest-path (row-is 16 1 (0 ∷ []))
+    ∷ about T-network 0 shortest-path (row-is 16 2 (1 ∷ 0 ∷ []))
+    ∷ about T-network 1 shortest-path (greatest-are 16 (2 ∷ 0 ∷ 1 ∷ []))
+    ∷ about T-network 1 shortest-path (row-is 16 0 (1 ∷ 2 ∷ []))
+    ∷ about T-network 1 shortest-path (row-is 16 2 (1 ∷ []))
+    ∷ about T-network 2 shortest-path (greatest-are 16 (2 ∷ 1 ∷ 0 ∷ []))
+    ∷ about T-network 2 shortest-path (row-is 16 0 (1 ∷ 2 ∷ []))
+    ∷ about T-network 2 shortest-path (row-is 16 1 (2 ∷ []))
+    ∷ about F-network 0 shortest-path (row-is 16 0 [])
+    ∷ about F-network 0 shortest-path (row-is 16 1 (0 ∷ 2 ∷ []))
+    ∷ about F-network 0 shortest-path (row-is 16 2 (0 ∷ []))
+    ∷ about F-network 0 shortest-path (row-is 16 3 (1 ∷ 4 ∷ []))
+    ∷ about F-network 0 shortest-path (row-is 16 4 (2 ∷ []))
+    ∷ about F-network 0 shortest-path (row-is 16 5 (4 ∷ 3 ∷ []))
+    ∷ about T-reversed 0 free (order-is (0 ∷ 1 ∷ 2 ∷ []))
     ∷ about T-reversed 2 free (order-is (2 ∷ 0 ∷ 1 ∷ []))
     ∷ about T-reversed 2 free (row-is 16 1 (2 ∷ 0 ∷ []))
+    ∷ about T-network 0 shortest-path (walk-costs 16 2 (allUp ∷ allUp ∷ []) 2)
+    ∷ about T-network 0 shortest-path (walk-costs 16 2 (upBut T-network (1 ∷ []) ∷ allUp ∷ []) 3)
+    ∷ about F-network 0 shortest-path (walk-costs 16 5 (thenAllUp []) 3)
+    ∷ about T-network 0 shortest-path (calls-leave 16 (set 2 ∷ hop allUp ∷ []) 1 1)
+    ∷ about T-network 0 shortest-path (calls-leave 16 (set 2 ∷ hop (1 ∷ 1 ∷ []) ∷ []) 2 0)
+    ∷ about T-network 0 shortest-path (calls-leave 16 (set 2 ∷ hop allUp ∷ set 3 ∷ []) 1 1)
+    ∷ about T-network 0 shortest-path (calls-leave 16 (set 2 ∷ hop allUp ∷ set 1 ∷ []) 1 0)
+    ∷ about T-network 0 shortest-path (calls-leave 16 (set 2 ∷ hop (0 ∷ 0 ∷ 0 ∷ []) ∷ hop allUp ∷ []) 1 1)
+    ∷ about T-network 0 shortest-path (calls-leave 16 (set 2 ∷ hop allUp ∷ hop allUp ∷ hop allUp ∷ []) 0 2)
     ∷ []
 
 abbrev pub FurtherHold : Type 0

@@ -26,7 +26,8 @@ pub record RoundExact (n : Network) (d k u : ℕ) : Type 0 where
 abbrev pub RoundsExact : Type 0
 RoundsExact = (n : Network) → WellFormed n → (d : ℕ) → d < size n → (k u : ℕ) → RoundExact n d k u
 
--- Every round has a distance for each place, and no more. No round past N - 1 changes one; after a round that changes none no later one does, so whoever computes them may stop there.
+-- Every round has a distance for each place, and no more. No round past N - 1 changes one; after a round that changes none no later one does, so
+-- whoever computes them may stop there.
 pub record RoundsEnd (n : Network) (d : ℕ) : Type 0 where
   pub by-place : (k : ℕ) → length (rounds n d k) ≡ size n
   pub settled : (k : ℕ) → rounds n d (pred (size n) + k) ≡ distances n d

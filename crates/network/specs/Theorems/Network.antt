@@ -59,5 +59,4 @@ LinkedExact = (ids : List ℕ) (ls : List Link) → T (soundLinks ids ls) → Li
 -- 01, Refusals, 13: links go both ways, so where every router has a path to one place, every router has a path to every place.
 abbrev pub LinkedConnected : Type 0
 LinkedConnected =
-    (ids : List ℕ) (ls : List Link) → T (soundLinks ids ls) → (middle : ℕ) → middle < length ids →
-    ((u : ℕ) → u < length ids → PathTo (linked ids ls) middle u) → (d u : ℕ) → d < length ids → u < length ids → PathTo (linked ids ls) d u
+    (ids : List ℕ) (ls : List Link) → T (soundLinks ids ls) → (middle : ℕ) → ((u : ℕ) → u < length ids → PathTo (linked ids ls) middle u) → (d u : ℕ) → d < length ids → u < length ids → PathTo (linked ids ls) d u

@@ -89,7 +89,7 @@ abbrev pub RoutersNeverLoop : Type 0
 RoutersNeverLoop =
     OfTables (λ n d limit order. (xs : List (List ℕ)) (u : ℕ) → Distinct (u ∷ map (λ a. a .to) (route (routers n d limit order) xs u)))
 
--- 01: for all places it is N bytes, place by place
+-- 01, Packet, hop and schedule: for all places it is N bytes, place by place
 abbrev pub FiguresByPlace : Type 0
 FiguresByPlace =
     (n : Network) (d limit : ℕ) (order : List ℕ) → (length (greatestHops n d limit order) ≡ size n)
