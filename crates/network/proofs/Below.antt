@@ -14,7 +14,7 @@ unfolding numbersFrom
 length-from s zero = refl
 length-from s (suc n) = ap suc (length-from (suc s) n)
 
-from-bounds : (s n : ℕ) {u : ℕ} → List·Memᴰ u (numbersFrom s n) → (s ≤ u) × (u < s + n)
+pub from-bounds : (s n : ℕ) {u : ℕ} → List·Memᴰ u (numbersFrom s n) → (s ≤ u) × (u < s + n)
 unfolding numbersFrom
 from-bounds s zero m = absurd (List·Memᴰ·not-nil m)
 from-bounds s (suc n) {u} m = step (List·Memᴰ·cases-cons m) (from-bounds (suc s) n)

@@ -22,7 +22,7 @@ use Rattle.network.proofs.Pigeon.{no-longer}
 use Rattle.network.proofs.Distance.{starts-in}
 use Rattle.network.proofs.Candidate.{candidate-fact, fact-candidate}
 
-getD-mem : {A : Type 0} (xs : List A) (i : ℕ) (z : A) → i < length xs → List·Memᴰ (getD xs i z) xs
+pub getD-mem : {A : Type 0} (xs : List A) (i : ℕ) (z : A) → i < length xs → List·Memᴰ (getD xs i z) xs
 getD-mem [] i z h = absurd (not-suc-le-zero h)
 getD-mem (x ∷ xs) zero z h = List·Memᴰ·head refl
 getD-mem (x ∷ xs) (suc i) z h = List·Memᴰ·tail (getD-mem xs i z (le-of-suc-le-suc h))

@@ -12,7 +12,7 @@ use Rattle.network.specs.Theorems.Network.{SoundLink, SamePair, SoundLin
 use Rattle.network.proofs.Tests.{both, and, three, and-three, either, or-left, or-right, eq-test}
 use Rattle.network.proofs.Lists.{every-all, all-every, any-some, some-any, distinct-fact, fact-distinct}
 
-link-fact : (count : ℕ) (l : Link) → T (soundLink count l) ↔ SoundLink count l
+pub link-fact : (count : ℕ) (l : Link) → T (soundLink count l) ↔ SoundLink count l
 unfolding soundLink greatestCost
 link-fact count l = (
   λ t.
@@ -33,7 +33,7 @@ link-fact count l = (
       (and (leb 1 (l .cost)) (leb (l .cost) 65535) (le→leb _ _ (s .cost-least)) (le→leb _ _ (s .cost-most))),
 )
 
-pair-fact : (l k : Link) → T (samePair l k) ↔ SamePair l k
+pub pair-fact : (l k : Link) → T (samePair l k) ↔ SamePair l k
 unfolding samePair
 pair-fact l k = (
   λ t. ⊎-elim (λ s. let (e, f) = both (eqb (l .first) (k .first)) _ s in inl (eqb→eq _ _ e, eqb→eq _ _ f))

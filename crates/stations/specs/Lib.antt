@@ -1,0 +1,5 @@
+pub mod Limits
+pub mod Topology
+pub mod Outcome
+pub mod Inner
+pub mod Theorems

@@ -1,0 +1,19 @@
+-- The limits of 01, Stations, links and limits, each named once. The greatest cost is `network`'s `greatestCost`.
+-- Assumes nothing.
+use Prim.Native.Nat.{ℕ}
+
+-- 1 to 64 routers
+abbrev pub mostRouters : ℕ
+mostRouters = 64
+
+-- 0 to 256 links
+abbrev pub mostLinks : ℕ
+mostLinks = 256
+
+-- at most 16 neighbours to a router
+abbrev pub mostNeighbours : ℕ
+mostNeighbours = 16
+
+-- a next-hop limit K from 1 to 16
+abbrev pub mostNextHops : ℕ
+mostNextHops = 16
