@@ -1,0 +1,10 @@
+pub mod Stores
+pub mod Labels
+pub mod Lowest
+pub mod Turns
+pub mod Links
+pub mod Pairs
+pub mod Crowds
+pub mod InTurn
+pub mod Sound
+pub mod FirstApart

@@ -1,0 +1,142 @@
+-- Each test that is passed leaves the tests after it, which are `sound` then, and one that fails settles it.
+-- Assumes nothing.
+use mathlib.Core.Bool.{true}
+use mathlib.Core.Path.{_≡_, sym, _∙_, subst}
+use borrow.Author.Needs.{needs}
+use borrow.Author.Tests.{not-true, not-false}
+use lib.Dec.{T}
+use Rattle.network.specs.Lists.{distinct}
+use Rattle.stations.specs.Topology.{contents}
+use Rattle.stations.specs.Inner.{Counted}
+use Rattle.soundness.specs.Sound.{inLimits, uncrowded, sound}
+use Rattle.soundness.specs.Inner.{Joining}
+use Rattle.soundness.proofs.Links.{links-sound, pairs-apart}
+use Rattle.soundness.proofs.InTurn.{limits-counted, limits-some, from-ids, from-uncrowded, from-zeros, past-limits, well-linked, some-apart}
+use Rattle.soundness.proofs.InTurn.{all-joined}
+use Rattle.soundness.proofs.is_sound.Statement.{statement}
+use Rattle.soundness.proofs.is_sound.Tie as tie
+
+-- what each test that is passed tells, and what is left to test
+limits : (c : tie.Else1) → inLimits (c .before .before .args .t) ≡ true
+limits c = sym (c .before .in-limits .ensures) ∙ not-false _ (c .if1 .left)
+
+counted : (c : tie.Else1) → Counted (c .before .before .args .t)
+counted c = limits-counted _ (limits c)
+
+left-1 : (c : tie.Else1) → sound (c .before .before .args .t) ≡ from-ids (c .before .before .args .t)
+left-1 c = past-limits _ _ (c .before .before .good .0) (limits c)
+
+ids : (c : tie.Else2) → distinct (contents (c .before .before .before .before .args .t) .ids) ≡ true
+ids c = sym (c .before .ids-differ .ensures) ∙ not-false _ (c .if2 .left)
+
+links : (c : tie.Else3) → let t = c .before .before .before .before .before .before .args .t in links-sound (t .routers) (contents t .links) ≡ true
+links c = sym (c .before .links-join .ensures) ∙ not-false _ (c .if3 .left)
+
+joining : (c : tie.Else3) → Joining (c .before .before .before .before .before .before .args .t)
+joining c = record { counted = counted (c .before .before .before .before); join = subst T (sym (links c)) tt }
+
+pairs : (c : tie.Else4) → pairs-apart (contents (c .before .before .before .before .before .before .before .before .args .t) .links) ≡ true
+pairs c = sym (c .before .pairs-differ .ensures) ∙ not-false _ (c .if4 .left)
+
+left-4 : (c : tie.Else4) → let t = c .before .before .before .before .before .before .before .before .args .t in sound t ≡ from-uncrowded t
+left-4 c =
+    let l = c .before .before in
+    let i = l .before .before in
+    left-1 (i .before .before) ∙ rw (ids i, links l, pairs c)
+
+in-limits-requires : tie.Need-in-limits-requires
+in-limits-requires c κs = search needs
+
+returns : tie.Need-returns
+unfolding sound
+returns c = rw (sym (c .before .in-limits .ensures) ∙ not-true _ (c .if1 .taken))
+
+ids-differ-requires : tie.Need-ids-differ-requires
+ids-differ-requires c κs = counted c
+
+returns-2 : tie.Need-returns-2
+returns-2 c = sym (left-1 (c .before .before) ∙ rw (sym (c .before .ids-differ .ensures) ∙ not-true _ (c .if2 .taken)))
+
+links-join-requires : tie.Need-links-join-requires
+links-join-requires c κs = counted (c .before .before)
+
+returns-3 : tie.Need-returns-3
+returns-3 c =
+    let i = c .before .before in
+    sym (left-1 (i .before .before) ∙ rw (ids i, sym (c .before .links-join .ensures) ∙ not-true _ (c .if3 .taken)))
+
+pairs-differ-requires : tie.Need-pairs-differ-requires
+pairs-differ-requires c κs = joining c
+
+returns-4 : tie.Need-returns-4
+returns-4 c =
+    let l = c .before .before in
+    let i = l .before .before in
+    sym (left-1 (i .before .before) ∙ rw (ids i, links l, sym (c .before .pairs-differ .ensures) ∙ not-true _ (c .if4 .taken)))
+
+uncrowded-requires : tie.Need-uncrowded-requires
+uncrowded-requires c κs = joining (c .before .before)
+
+returns-5 : tie.Need-returns-5
+returns-5 c = sym (left-4 (c .before .before) ∙ rw (sym (c .before .uncrowded .ensures) ∙ not-true _ (c .if5 .taken)))
+
+lowest-apart-requires : tie.Need-lowest-apart-requires
+lowest-apart-requires c κs =
+    let p = c .before .before in
+    let l = p .before .before in
+    let i = l .before .before in
+    let s = i .before .before in
+    (counted s, well-linked _ _ (s .before .before .good .0) (counted s) (ids i) (links l) (pairs p), limits-some _ (limits s))
+
+room : (c : tie.Else5) → uncrowded (c .before .before .before .before .before .before .before .before .before .before .args .t) ≡ true
+room c = sym (c .before .uncrowded .ensures) ∙ not-false _ (c .if5 .left)
+
+returns-6 : tie.Need-returns-6
+returns-6 c =
+    let r = c .before .before .before in
+    sym (left-4 (r .before .before) ∙ rw (room r, some-apart _ (rw (c .before .before .lowest-apart .ensures) at (c .if6 .taken))))
+
+abbrev start : tie.Else6 → tie.Else1
+start c = c .before .before .before .before .before .before .before .before .before .before .before
+
+left-6 : (c : tie.Else6) → let t = start c .before .before .args .t in sound t ≡ from-zeros t
+left-6 c =
+    let r = c .before .before .before in
+    let s = start c in
+    left-4 (r .before .before)
+    ∙ rw (room r, all-joined _ _ (s .before .before .good .0) (counted s) (rw (c .before .before .lowest-apart .ensures) at (c .if6 .left)))
+
+ids-end-requires : tie.Need-ids-end-requires
+ids-end-requires c κs = counted (start c)
+
+links-end-requires : tie.Need-links-end-requires
+links-end-requires c κs = counted (start (c .before .before))
+
+returns-7 : tie.Need-returns-7
+returns-7 c =
+    let e = c .before in
+    c .links-end .ensures ∙ sym (left-6 (e .before .before) ∙ rw (sym (e .before .ids-end .ensures) ∙ e .if7 .taken))
+
+returns-8 : tie.Need-returns-8
+returns-8 c = c .if7 .left ∙ sym (left-6 (c .before .before) ∙ rw (sym (c .before .ids-end .ensures) ∙ c .if7 .left))
+
+pub is-sound-spec : {M : Type 1} → statement M
+is-sound-spec =
+    tie.close
+    (tie.spec
+    in-limits-requires
+    returns
+    ids-differ-requires
+    returns-2
+    links-join-requires
+    returns-3
+    pairs-differ-requires
+    returns-4
+    uncrowded-requires
+    returns-5
+    lowest-apart-requires
+    returns-6
+    ids-end-requires
+    links-end-requires
+    returns-7
+    returns-8)

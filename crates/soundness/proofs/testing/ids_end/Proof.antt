@@ -1,0 +1,59 @@
+-- The loop's invariant: the test of all unused slots is the test of those from `i` on.
+-- Assumes nothing.
+use Prim.Native.Nat.{_-_}
+use mathlib.Core.Path.{refl, sym}
+use native.Mathlib.Omega.{arith}
+use borrow.Author.Needs.{needs}
+use borrow.Author.Tests.{eq-eqb, ne-eqb}
+use lib.Dec.{eqb}
+use lib.ListN.{drop}
+use Rattle.network.specs.Lists.{every}
+use Rattle.stations.proofs.Machine.{ids-length}
+use Rattle.soundness.proofs.Turns.{Rest, rest, rest-fails, rest-none}
+use Rattle.soundness.proofs.testing.ids_end.Statement.{statement}
+use Rattle.soundness.proofs.testing.ids_end.Tie as tie
+
+abbrev Inv-loop : tie.InvT-loop
+Inv-loop t i₀ i = Rest (eqb 0) (every (eqb 0) (drop (t .routers) (t .id))) (t .id) 64 i
+
+abbrev μ-loop : tie.MeasureT-loop
+μ-loop t i₀ i = 64 - i
+
+loop-holds : tie.Need-loop-holds Inv-loop μ-loop
+loop-holds c = record { within = c .pre .routers-fit; long = ids-length (c .args .t1) _ (c .good .0); is = refl }
+
+mul-if1 : tie.Need-mul-if1 Inv-loop μ-loop
+mul-if1 c = search needs
+
+element-copy-out-if1 : tie.Need-element-copy-out-if1 Inv-loop μ-loop
+element-copy-out-if1 c = search needs
+
+returns : tie.Need-returns Inv-loop μ-loop
+returns c = rest-fails (c .before .before .before .loop .inv) (omega arith) 0 (ne-eqb 0 _ (λ e. c .if1 .taken (sym e)))
+
+add-i : tie.Need-add-i Inv-loop μ-loop
+add-i c = search needs
+
+loop-less : tie.Need-loop-less Inv-loop μ-loop
+loop-less c = omega arith
+
+loop-again : tie.Need-loop-again Inv-loop μ-loop
+loop-again c = rest (c .before .before .before .loop .inv) (omega arith) 0 (eq-eqb 0 _ (sym (c .if1 .left)))
+
+returns-2 : tie.Need-returns-2 Inv-loop μ-loop
+returns-2 c = rest-none (c .before .loop .inv) (c .loop-test .left)
+
+pub ids-end-spec : {M : Type 1} → statement M
+ids-end-spec =
+    tie.close
+    (tie.spec
+    Inv-loop
+    μ-loop
+    loop-holds
+    mul-if1
+    element-copy-out-if1
+    returns
+    add-i
+    loop-less
+    loop-again
+    returns-2)

@@ -1,0 +1,4 @@
+pub mod Apart
+pub mod Sound
+pub mod Inner
+pub mod Theorems

@@ -1,0 +1,63 @@
+// Labels of places: those that links join, however far, get one label.
+use stations::ROUTERS;
+use stations::Topology;
+ghost use mathlib.Core.Bool.{cond};
+ghost use mathlib.Core.List.{map};
+ghost use mathlib.Core.Path.{_≡_};
+ghost use lib.Dec.{T, eqb};
+ghost use Rattle.network.specs.Lists.{below};
+ghost use Rattle.stations.specs.Limits.{mostRouters};
+ghost use Rattle.stations.specs.Topology.{networkOf};
+ghost use Rattle.stations.specs.Inner.{Counted};
+ghost use Rattle.soundness.specs.Sound.{wellLinked};
+ghost use Rattle.soundness.specs.Inner.{Labelled};
+
+// Every place with a label of its own.
+fn separate() -> [u8; ROUTERS]
+    ensures { λ r. ⌜ r ≡ below mostRouters ⌝ }
+{
+    let mut labels = [0; ROUTERS];
+    let mut i: usize = 0;
+    while i < ROUTERS {
+        labels[i] = i as u8;
+        i += 1;
+    }
+    labels
+}
+
+// The labels with each that is `from` made `to`.
+fn merged(labels: [u8; ROUTERS], from: u8, to: u8) -> [u8; ROUTERS]
+    ensures { λ r. ⌜ r ≡ map (λ x. cond (eqb x from) to x) labels ⌝ }
+{
+    let mut next = labels;
+    let mut i: usize = 0;
+    while i < ROUTERS {
+        if next[i] == from {
+            next[i] = to;
+        }
+        i += 1;
+    }
+    next
+}
+
+// Labels that are equal exactly where there is a path.
+pub(crate) fn labelled(t: Topology) -> [u8; ROUTERS]
+    requires { ⌜ Counted t × T (wellLinked t) ⌝ }
+    ensures { λ r. ⌜ Labelled (networkOf t) r ⌝ }
+{
+    let links = t.links;
+    let mut labels = separate();
+    let mut i: usize = 0;
+    while i < links {
+        let l = t.link[i];
+        let first = l.first.index();
+        let second = l.second.index();
+        let from = labels[first];
+        let to = labels[second];
+        if from != to {
+            labels = merged(labels, from, to);
+        }
+        i += 1;
+    }
+    labels
+}

@@ -1,0 +1,33 @@
+// Whether reading could return a topology (01, Refusals, 14).
+mod apart;
+mod testing;
+pub mod unchecked;
+
+use stations::Topology;
+ghost use mathlib.Core.Path.{_≡_};
+ghost use Rattle.soundness.specs.Sound.{sound};
+
+// Whether reading could return this topology: if not, refusal 14.
+pub fn is_sound(t: Topology) -> bool
+    ensures { λ r. ⌜ r ≡ sound t ⌝ }
+{
+    if !testing::in_limits(t) {
+        return false;
+    }
+    if !testing::ids_differ(t) {
+        return false;
+    }
+    if !testing::links_join(t) {
+        return false;
+    }
+    if !testing::pairs_differ(t) {
+        return false;
+    }
+    if !testing::uncrowded(t) {
+        return false;
+    }
+    if unchecked::lowest_apart(t) < t.routers {
+        return false;
+    }
+    testing::ids_end(t) && testing::links_end(t)
+}

@@ -1,0 +1,166 @@
+// The tests behind refusal 14, one function each.
+use super::unchecked;
+use stations::LINKS;
+use stations::NEIGHBOURS;
+use stations::NEXT_HOPS;
+use stations::ROUTERS;
+use stations::Topology;
+ghost use mathlib.Core.List.{map};
+ghost use mathlib.Core.Path.{_≡_};
+ghost use lib.Dec.{eqb};
+ghost use lib.ListN.{drop};
+ghost use Rattle.network.specs.Lists.{distinct, every};
+ghost use Rattle.network.specs.Network.{pairsDiffer, soundLink};
+ghost use Rattle.stations.specs.Topology.{contents, seen};
+ghost use Rattle.stations.specs.Inner.{Counted};
+ghost use Rattle.soundness.specs.Sound.{inLimits, isNoLink};
+ghost use Rattle.soundness.specs.Sound as said;
+ghost use Rattle.soundness.specs.Inner.{Joining};
+
+pub(crate) fn in_limits(t: Topology) -> bool
+    ensures { λ r. ⌜ r ≡ inLimits t ⌝ }
+{
+    let n = t.routers;
+    let k = t.limit;
+    if n < 1 {
+        return false;
+    }
+    if ROUTERS < n {
+        return false;
+    }
+    if LINKS < t.links {
+        return false;
+    }
+    if k < 1 {
+        return false;
+    }
+    k <= NEXT_HOPS
+}
+
+pub(crate) fn ids_differ(t: Topology) -> bool
+    requires { ⌜ Counted t ⌝ }
+    ensures { λ r. ⌜ r ≡ distinct (contents t .ids) ⌝ }
+{
+    let n = t.routers;
+    let mut i: usize = 0;
+    while i < n {
+        let id = t.id[i];
+        if unchecked::is_listed(&t.id, i, id) {
+            return false;
+        }
+        i += 1;
+    }
+    true
+}
+
+pub(crate) fn links_join(t: Topology) -> bool
+    requires { ⌜ Counted t ⌝ }
+    ensures { λ r. ⌜ r ≡ every (soundLink (t .routers)) (map seen (contents t .links)) ⌝ }
+{
+    let n = t.routers;
+    let links = t.links;
+    let mut i: usize = 0;
+    while i < links {
+        let l = t.link[i];
+        let first = l.first.index();
+        let second = l.second.index();
+        if n <= first {
+            return false;
+        }
+        if n <= second {
+            return false;
+        }
+        if first == second {
+            return false;
+        }
+        if l.cost == 0 {
+            return false;
+        }
+        i += 1;
+    }
+    true
+}
+
+// A table of pairs of places holds the pairs that are linked so far, each in both orders.
+pub(crate) fn pairs_differ(t: Topology) -> bool
+    requires { ⌜ Joining t ⌝ }
+    ensures { λ r. ⌜ r ≡ pairsDiffer (map seen (contents t .links)) ⌝ }
+{
+    let links = t.links;
+    let mut linked = [false; ROUTERS * ROUTERS];
+    let mut i: usize = 0;
+    while i < links {
+        let l = t.link[i];
+        let first = l.first.index();
+        let second = l.second.index();
+        if linked[first * ROUTERS + second] {
+            return false;
+        }
+        linked[first * ROUTERS + second] = true;
+        linked[second * ROUTERS + first] = true;
+        i += 1;
+    }
+    true
+}
+
+// A table of places counts the neighbours that the links so far give to each.
+pub(crate) fn uncrowded(t: Topology) -> bool
+    requires { ⌜ Joining t ⌝ }
+    ensures { λ r. ⌜ r ≡ said.uncrowded t ⌝ }
+{
+    let links = t.links;
+    let mut count = [0usize; ROUTERS];
+    let mut i: usize = 0;
+    while i < links {
+        let l = t.link[i];
+        let first = l.first.index();
+        let second = l.second.index();
+        let at_first = count[first];
+        let at_second = count[second];
+        if NEIGHBOURS <= at_first {
+            return false;
+        }
+        if NEIGHBOURS <= at_second {
+            return false;
+        }
+        count[first] = at_first + 1;
+        count[second] = at_second + 1;
+        i += 1;
+    }
+    true
+}
+
+pub(crate) fn ids_end(t: Topology) -> bool
+    requires { ⌜ Counted t ⌝ }
+    ensures { λ r. ⌜ r ≡ every (eqb 0) (drop (t .routers) (t .id)) ⌝ }
+{
+    let mut i = t.routers;
+    while i < ROUTERS {
+        if t.id[i] != 0 {
+            return false;
+        }
+        i += 1;
+    }
+    true
+}
+
+pub(crate) fn links_end(t: Topology) -> bool
+    requires { ⌜ Counted t ⌝ }
+    ensures { λ r. ⌜ r ≡ every isNoLink (drop (t .links) (t .link)) ⌝ }
+{
+    let mut i = t.links;
+    while i < LINKS {
+        let l = t.link[i];
+        if l.first.0 != 0 {
+            return false;
+        }
+        if l.second.0 != 0 {
+            return false;
+        }
+        if l.cost != 0 {
+            return false;
+        }
+        i += 1;
+    }
+    true
+}
