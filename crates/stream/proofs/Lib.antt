@@ -1,0 +1,9 @@
+pub mod Stream
+pub mod Digits
+pub mod Held
+pub mod Faults
+pub mod NoFault
+pub mod Kept
+pub mod AtTurn
+pub mod Returned
+pub mod Table

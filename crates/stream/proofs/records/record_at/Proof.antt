@@ -1,0 +1,112 @@
+-- `record_at` meets its contract: past the end there is no byte; before it, the tests that lead to a `return` say which kind the byte at `at` is
+-- and whether its body is whole.
+-- Assumes nothing.
+use Prim.Native.Nat.{_+_}
+use mathlib.Core.Path.{sym, ap, _∙_}
+use native.Mathlib.Omega.{arith}
+use borrow.Author.Needs.{needs}
+use denote.Ref.{now}
+use lib.ListN.{getD, drop-of-length-le}
+use lib.Seq.{drop-cons}
+use Rattle.stream.specs.declared.Record.the-variants as record-of
+use Rattle.stream.specs.Stream.{recordIn, bodyLength, decoded, linkIn}
+use Rattle.stream.proofs.Stream.{two-bytes, cut-at, whole-at, unknown-at}
+use Rattle.stream.proofs.records.record_at.Statement.{statement}
+use Rattle.stream.proofs.records.record_at.Tie as tie
+
+returns : tie.Need-returns
+unfolding recordIn
+returns c = let a = c .before .before .args in sym (ap recordIn (drop-of-length-le (now (a .s)) (c .if1 .taken)))
+
+shared-slice-read-kind : tie.Need-shared-slice-read-kind
+shared-slice-read-kind c = search needs
+
+add-body : tie.Need-add-body
+add-body c = search needs
+
+sub-left : tie.Need-sub-left
+sub-left c = search needs
+
+returns-2 : tie.Need-returns-2
+unfolding bodyLength
+returns-2 c = let a = c .before .before .before .before .before .args in sym (cut-at (now (a .s)) (a .at) 1 (omega arith))
+
+be32-requires : tie.Need-be32-requires
+be32-requires c κs = search needs
+
+returns-3 : tie.Need-returns-3
+unfolding bodyLength decoded
+returns-3 c =
+    let a = c .before .before .before .before .before .before .args in
+    ap record-of.Router (c .be32 .ensures) ∙ sym (whole-at (now (a .s)) (a .at) 1 (omega arith))
+
+returns-4 : tie.Need-returns-4
+unfolding bodyLength
+returns-4 c = let a = c .before .before .before .before .before .before .args in sym (cut-at (now (a .s)) (a .at) 2 (omega arith))
+
+shared-slice-read-t15 : tie.Need-shared-slice-read-t15
+shared-slice-read-t15 c = search needs
+
+add-t17 : tie.Need-add-t17
+add-t17 c = search needs
+
+shared-slice-read-t19 : tie.Need-shared-slice-read-t19
+shared-slice-read-t19 c = search needs
+
+add-be16 : tie.Need-add-be16
+add-be16 c = search needs
+
+be16-requires : tie.Need-be16-requires
+be16-requires c κs = search needs
+
+returns-5 : tie.Need-returns-5
+unfolding bodyLength decoded linkIn
+returns-5 c =
+    let a = c .before .before .before .before .before .before .before .before .before .args in
+    rw (whole-at (now (a .s)) (a .at) 2 (omega arith), two-bytes (now (a .s)) (a .at + 1) (omega arith), c .be16 .ensures)
+
+returns-6 : tie.Need-returns-6
+unfolding bodyLength
+returns-6 c = let a = c .before .before .before .before .before .before .before .args in sym (cut-at (now (a .s)) (a .at) 8 (omega arith))
+
+shared-slice-read-t25 : tie.Need-shared-slice-read-t25
+shared-slice-read-t25 c = search needs
+
+returns-7 : tie.Need-returns-7
+unfolding bodyLength decoded
+returns-7 c =
+    let a = c .before .before .before .before .before .before .before .before .args in
+    rw (whole-at (now (a .s)) (a .at) 8 (omega arith), drop-cons (now (a .s)) (a .at + 1) 0 (omega arith))
+
+returns-8 : tie.Need-returns-8
+unfolding bodyLength decoded
+returns-8 c = let a = c .before .before .before .before .before .before .before .args in sym (whole-at (now (a .s)) (a .at) 3 (omega arith))
+
+returns-9 : tie.Need-returns-9
+returns-9 c =
+    let a = c .before .before .before .before .before .before .before .args in
+    sym (unknown-at (now (a .s)) (a .at) (getD (now (a .s)) (a .at) 0) (omega arith))
+
+pub record-at-spec : {M : Type 1} → statement M
+record-at-spec =
+    tie.close
+    (tie.spec
+    returns
+    shared-slice-read-kind
+    add-body
+    sub-left
+    returns-2
+    be32-requires
+    returns-3
+    returns-4
+    shared-slice-read-t15
+    add-t17
+    shared-slice-read-t19
+    add-be16
+    be16-requires
+    returns-5
+    returns-6
+    shared-slice-read-t25
+    returns-7
+    returns-8
+    returns-9)

@@ -1,0 +1,13 @@
+-- `topology::taking::blank` meets its contract: all slots are unused, so that what it holds is computed.
+-- Assumes nothing.
+use mathlib.Core.Path.{refl}
+use Rattle.stations.specs.Topology.{noLink, padded, held}
+use Rattle.stream.proofs.taking.blank.Statement.{statement}
+use Rattle.stream.proofs.taking.blank.Tie as tie
+
+returns : tie.Need-returns
+unfolding noLink padded held
+returns c = refl
+
+pub blank-spec : {M : Type 1} → statement M
+blank-spec = tie.close (tie.spec returns)

@@ -1,0 +1,56 @@
+-- `topology::taking::width_of` meets its contract, record by record.
+-- Assumes nothing.
+use borrow.Author.Needs.{needs}
+use Rattle.stream.specs.Reading.{width}
+use Rattle.stream.proofs.taking.width_of.Statement.{statement}
+use Rattle.stream.proofs.taking.width_of.Tie as tie
+
+enum-told : tie.Need-enum-told
+enum-told c = search needs
+
+enum-told-2 : tie.Need-enum-told-2
+enum-told-2 c = search needs
+
+enum-told-3 : tie.Need-enum-told-3
+enum-told-3 c = search needs
+
+enum-told-4 : tie.Need-enum-told-4
+enum-told-4 c = search needs
+
+enum-told-5 : tie.Need-enum-told-5
+enum-told-5 c = search needs
+
+returns : tie.Need-returns
+unfolding width
+returns c = search needs
+
+returns-2 : tie.Need-returns-2
+unfolding width
+returns-2 c = search needs
+
+returns-3 : tie.Need-returns-3
+unfolding width
+returns-3 c = search needs
+
+returns-4 : tie.Need-returns-4
+unfolding width
+returns-4 c = search needs
+
+returns-5 : tie.Need-returns-5
+unfolding width
+returns-5 c = search needs
+
+pub width-of-spec : {M : Type 1} → statement M
+width-of-spec =
+    tie.close
+    (tie.spec
+    enum-told
+    enum-told-2
+    enum-told-3
+    enum-told-4
+    enum-told-5
+    returns
+    returns-2
+    returns-3
+    returns-4
+    returns-5)

@@ -1,0 +1,78 @@
+-- `topology::taking::with_router` meets its contract: each of its tests is one of `routerFault`, and the store is `added`.
+-- Assumes nothing.
+use mathlib.Core.Path.{ap}
+use borrow.Author.Needs.{needs}
+use borrow.Author.Tests.{le-leb, lt-leb}
+use Rattle.stations.specs.Limits.{mostRouters}
+use Rattle.stations.specs.Topology.{contents}
+use Rattle.stations.proofs.Machine.{ids-length}
+use Rattle.stream.specs.Reading.{accepted, unless, routerFault}
+use Rattle.stream.specs.Theorems.{success}
+use Rattle.stream.proofs.Held.{routers-held, router-added}
+use Rattle.stream.proofs.taking.with_router.Statement.{statement}
+use Rattle.stream.proofs.taking.with_router.Tie as tie
+
+is-listed-requires : tie.Need-is-listed-requires
+is-listed-requires c κs =
+    let s = c .before .before in
+    (s .pre .counted .routers-fit, ids-length (s .args .t1) _ (s .good .0))
+
+refused-requires : tie.Need-refused-requires
+refused-requires c κs = search needs
+
+returns : tie.Need-returns
+unfolding contents unless routerFault
+returns c = rw (← c .before .before .is-listed .ensures, c .before .if1 .taken) (c .refused .ensures)
+
+refused-requires-2 : tie.Need-refused-requires-2
+refused-requires-2 c κs = search needs
+
+returns-2 : tie.Need-returns-2
+unfolding contents unless routerFault
+returns-2 c =
+    let s = c .before .before .before .before .before .before in
+    rw (
+      ← c .before .before .before .is-listed .ensures,
+      c .before .before .if1 .left,
+      ← routers-held (s .args .t1) (s .pre),
+      le-leb mostRouters _ (c .before .if2 .taken),
+    ) (c .refused2 .ensures)
+
+mul-next : tie.Need-mul-next
+mul-next c = search needs
+
+element-write-next : tie.Need-element-write-next
+element-write-next c = search needs
+
+add-next : tie.Need-add-next
+add-next c = search needs
+
+taken-requires : tie.Need-taken-requires
+taken-requires c κs = search needs
+
+returns-3 : tie.Need-returns-3
+unfolding contents accepted unless routerFault
+returns-3 c =
+    let s = c .before .before .before .before .before .before in
+    rw (
+      ← c .before .before .before .is-listed .ensures,
+      c .before .before .if1 .left,
+      ← routers-held (s .args .t1) (s .pre),
+      lt-leb mostRouters _ (c .before .if2 .left),
+      c .taken .ensures,
+    ) (ap success (router-added (s .args .t1) (s .pre) (s .args .id) (c .before .if2 .left)))
+
+pub with-router-spec : {M : Type 1} → statement M
+with-router-spec =
+    tie.close
+    (tie.spec
+    is-listed-requires
+    refused-requires
+    returns
+    refused-requires-2
+    returns-2
+    mul-next
+    element-write-next
+    add-next
+    taken-requires
+    returns-3)

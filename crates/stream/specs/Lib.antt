@@ -1,0 +1,5 @@
+pub mod Stream
+pub mod Reading
+pub mod Inner
+pub mod Theorems
+pub mod Table

@@ -1,0 +1,131 @@
+-- The examples of 01, Refusals and where they point, for reading, and streams that are accepted (01, Topology stream), as one list: the bytes, in
+-- decimal, and what they read as. A new fact is one line.
+-- Assumes nothing.
+use Prim.Native.Nat.{ℕ, _+_, _%_}
+use mathlib.Core.Bool.{Bool, true, false, _&&_}
+use mathlib.Core.List.{List, [], _∷_, _++_}
+use lib.Dec.{T, eqb}
+use lib.ListN.{take}
+use Rattle.network.specs.Lists.{numbersFrom, below, every}
+use Rattle.stations.specs.declared.Link.{Link}
+use Rattle.stations.specs.Topology.{Contents, contents}
+use Rattle.stream.specs.declared.Reading.{Reading}
+use Rattle.stream.specs.Reading.{reading}
+
+pub data Claim : Type 0 where
+  -- refused with a number, at
+  refused : ℕ → ℕ → Claim
+  -- number 0 at 0, and what the topology holds: IDs by place; of each link by number its places and cost; K
+  returned : List ℕ → List (ℕ × ℕ × ℕ) → ℕ → Claim
+
+pub record Fact : Type 0 where
+  pub stream : List ℕ
+  pub claim : Claim
+
+unfoldable pub sameNumbers : List ℕ → List ℕ → Bool
+sameNumbers [] [] = true
+sameNumbers [] (y ∷ ys) = false
+sameNumbers (x ∷ xs) [] = false
+sameNumbers (x ∷ xs) (y ∷ ys) = eqb x y && sameNumbers xs ys
+
+unfoldable pub sameLinks : List Link → List (ℕ × ℕ × ℕ) → Bool
+sameLinks [] [] = true
+sameLinks [] (k ∷ ks) = false
+sameLinks (l ∷ ls) [] = false
+sameLinks (l ∷ ls) ((first, second, cost) ∷ ks) = eqb (l .first .0) first && eqb (l .second .0) second && eqb (l .cost) cost && sameLinks ls ks
+
+unfoldable pub answers : Reading → ℕ → ℕ → Bool
+answers r number at = eqb (r .answer .number) number && eqb (r .answer .at) at
+
+unfoldable pub holding : Contents → List ℕ → List (ℕ × ℕ × ℕ) → ℕ → Bool
+holding c ids links limit = sameNumbers (c .ids) ids && sameLinks (c .links) links && eqb (c .limit) limit
+
+unfoldable pub claimHolds : Reading → Claim → Bool
+claimHolds r (refused number at) = answers r number at
+claimHolds r (returned ids links limit) = answers r 0 0 && holding (contents (r .topology)) ids links limit
+
+unfoldable pub holds : Fact → Bool
+holds fact = claimHolds (reading (fact .stream)) (fact .claim)
+
+unfoldable pub reads : List ℕ → Claim → Fact
+reads stream claim = record { stream = stream; claim = claim }
+
+-- one router, with ID 1; two, with IDs 1 and 2; three, with IDs 1, 2 and 3
+unfoldable pub one : List ℕ
+one = 1 ∷ 0 ∷ 0 ∷ 0 ∷ 1 ∷ []
+
+unfoldable pub two : List ℕ
+two = 1 ∷ 0 ∷ 0 ∷ 0 ∷ 1 ∷ 1 ∷ 0 ∷ 0 ∷ 0 ∷ 2 ∷ []
+
+unfoldable pub three : List ℕ
+three = 1 ∷ 0 ∷ 0 ∷ 0 ∷ 1 ∷ 1 ∷ 0 ∷ 0 ∷ 0 ∷ 2 ∷ 1 ∷ 0 ∷ 0 ∷ 0 ∷ 3 ∷ []
+
+-- 01, Two networks by hand: T, 31 bytes
+unfoldable pub T-stream : List ℕ
+T-stream =
+    1 ∷ 0 ∷ 0 ∷ 0 ∷ 1 ∷ 1 ∷ 0 ∷ 0 ∷ 0 ∷ 2 ∷ 1 ∷ 0 ∷ 0 ∷ 0 ∷ 3 ∷ 2 ∷ 0 ∷ 1 ∷ 0 ∷ 1 ∷ 2 ∷ 1 ∷ 2 ∷ 0 ∷ 1 ∷ 2 ∷ 0 ∷ 2 ∷ 0 ∷ 3 ∷ 3 ∷ []
+
+-- what f gives over the list, one after the other
+unfoldable pub inSequence : (ℕ → List ℕ) → List ℕ → List ℕ
+inSequence f [] = []
+inSequence f (x ∷ xs) = f x ++ inSequence f xs
+
+-- so many routers, at most 256, with IDs from 0
+unfoldable pub routers : ℕ → List ℕ
+routers n = inSequence (λ id. 1 ∷ 0 ∷ 0 ∷ 0 ∷ id ∷ []) (below n)
+
+-- place 0 linked to the n places after it, cost 1
+unfoldable pub hub : ℕ → List ℕ
+hub n = inSequence (λ place. 2 ∷ 0 ∷ place ∷ 0 ∷ 1 ∷ []) (numbersFrom 1 n)
+
+-- 64 places in a ring, each linked to the next eight, cost 1: 512 links, 5 bytes each
+unfoldable pub ring : List ℕ
+ring = inSequence (λ place. inSequence (λ step. 2 ∷ place ∷ (place + step) % 64 ∷ 0 ∷ 1 ∷ []) (numbersFrom 1 8)) (below 64)
+
+-- By number of the refusal, then what is returned. Where a stream has two faults, the one that is tested first is met.
+unfoldable pub facts : List Fact
+facts =
+    reads [] (refused 1 0)
+    ∷ reads (1 ∷ []) (refused 1 0)
+    ∷ reads one (refused 1 5)
+    ∷ reads (two ++ (2 ∷ 0 ∷ 1 ∷ 0 ∷ [])) (refused 1 10)
+    ∷ reads (8 ∷ []) (refused 1 0)
+    ∷ reads (7 ∷ []) (refused 2 0)
+    ∷ reads (255 ∷ []) (refused 2 0)
+    ∷ reads (one ++ (0 ∷ [])) (refused 2 5)
+    ∷ reads (1 ∷ 0 ∷ 0 ∷ 0 ∷ 1 ∷ 1 ∷ 0 ∷ 0 ∷ 0 ∷ 1 ∷ []) (refused 3 5)
+    ∷ reads (routers 64 ++ (1 ∷ 0 ∷ 0 ∷ 0 ∷ 0 ∷ [])) (refused 3 320)
+    ∷ reads (routers 65) (refused 4 320)
+    ∷ reads (2 ∷ 0 ∷ 1 ∷ 0 ∷ 10 ∷ []) (refused 5 0)
+    ∷ reads (two ++ (2 ∷ 0 ∷ 255 ∷ 0 ∷ 1 ∷ [])) (refused 5 10)
+    ∷ reads (two ++ (2 ∷ 2 ∷ 2 ∷ 0 ∷ 0 ∷ [])) (refused 5 10)
+    ∷ reads (one ++ (2 ∷ 0 ∷ 0 ∷ 0 ∷ 1 ∷ [])) (refused 6 5)
+    ∷ reads (one ++ (2 ∷ 0 ∷ 0 ∷ 0 ∷ 0 ∷ [])) (refused 6 5)
+    ∷ reads (two ++ (2 ∷ 0 ∷ 1 ∷ 0 ∷ 0 ∷ [])) (refused 7 10)
+    ∷ reads (two ++ (2 ∷ 0 ∷ 1 ∷ 0 ∷ 1 ∷ 2 ∷ 0 ∷ 1 ∷ 0 ∷ 0 ∷ [])) (refused 7 15)
+    ∷ reads (two ++ (2 ∷ 0 ∷ 1 ∷ 0 ∷ 1 ∷ 2 ∷ 1 ∷ 0 ∷ 0 ∷ 1 ∷ [])) (refused 8 15)
+    ∷ reads (two ++ (2 ∷ 0 ∷ 1 ∷ 0 ∷ 1 ∷ 2 ∷ 0 ∷ 1 ∷ 0 ∷ 1 ∷ [])) (refused 8 15)
+    ∷ reads (routers 64 ++ take 1285 ring) (refused 9 1600)
+    ∷ reads (routers 18 ++ hub 17) (refused 10 170)
+    ∷ reads (T-stream ++ (0 ∷ [])) (refused 11 31)
+    ∷ reads (3 ∷ 0 ∷ []) (refused 11 1)
+    ∷ reads (3 ∷ []) (refused 12 0)
+    ∷ reads (8 ∷ 16 ∷ 3 ∷ []) (refused 12 2)
+    ∷ reads (two ++ (3 ∷ [])) (refused 13 1)
+    ∷ reads (three ++ (3 ∷ [])) (refused 13 1)
+    ∷ reads (three ++ (2 ∷ 0 ∷ 1 ∷ 0 ∷ 1 ∷ 3 ∷ [])) (refused 13 2)
+    ∷ reads (8 ∷ 0 ∷ []) (refused 16 0)
+    ∷ reads (8 ∷ 17 ∷ []) (refused 16 0)
+    ∷ reads (8 ∷ 3 ∷ 8 ∷ 0 ∷ []) (refused 16 2)
+    ∷ reads T-stream (returned (1 ∷ 2 ∷ 3 ∷ []) ((0, 1, 1) ∷ (1, 2, 1) ∷ (0, 2, 3) ∷ []) 16)
+    ∷ reads (8 ∷ 3 ∷ one ++ (8 ∷ 7 ∷ 3 ∷ [])) (returned (1 ∷ []) [] 7)
+    ∷ reads (8 ∷ 16 ∷ one ++ (3 ∷ [])) (returned (1 ∷ []) [] 16)
+    ∷ reads (8 ∷ 1 ∷ one ++ (3 ∷ [])) (returned (1 ∷ []) [] 1)
+    ∷ reads (1 ∷ 1 ∷ 2 ∷ 3 ∷ 4 ∷ 3 ∷ []) (returned (16909060 ∷ []) [] 16)
+    ∷ reads (two ++ (2 ∷ 1 ∷ 0 ∷ 1 ∷ 2 ∷ 3 ∷ [])) (returned (1 ∷ 2 ∷ []) ((1, 0, 258) ∷ []) 16)
+    ∷ reads (two ++ (2 ∷ 0 ∷ 1 ∷ 255 ∷ 255 ∷ 3 ∷ [])) (returned (1 ∷ 2 ∷ []) ((0, 1, 65535) ∷ []) 16)
+    ∷ []
+
+-- The one statement: every fact of the list holds, by computing it.
+abbrev pub FactsHold : Type 0
+FactsHold = T (every holds facts)

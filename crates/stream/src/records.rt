@@ -1,0 +1,63 @@
+// The records of a topology stream, one at a time.
+use super::Record;
+use stations::Link;
+use stations::Place;
+ghost use mathlib.Core.Path.{_≡_};
+ghost use Prim.Native.Nat.{_+_, _≤_, _<_};
+ghost use lib.ListN.{length, take, drop};
+ghost use Rattle.stream.specs.Stream.{bigEndian, recordIn};
+
+// The number in the two bytes from at, big-endian.
+fn be16(s: &[u8], at: usize) -> u16
+    requires { ⌜ at + 2 ≤ length (now s) ⌝ }
+    ensures { λ r. ⌜ r ≡ bigEndian (take 2 (drop at (now (s .entry)))) ⌝ }
+{
+    s[at] as u16 * 256 + s[at + 1] as u16
+}
+
+// The number in the four bytes from at, big-endian.
+fn be32(s: &[u8], at: usize) -> u32
+    requires { ⌜ at + 4 ≤ length (now s) ⌝ }
+    ensures { λ r. ⌜ r ≡ bigEndian (take 4 (drop at (now (s .entry)))) ⌝ }
+{
+    be16(s, at) as u32 * 65536 + be16(s, at + 2) as u32
+}
+
+// The record that begins at the offset at.
+pub(crate) fn record_at(s: &[u8], at: usize) -> Record
+    ensures { λ r. ⌜ r ≡ recordIn (drop at (now (s .entry))) ⌝ }
+{
+    if s.len() <= at {
+        return Record::Refused(1);
+    }
+    let kind = s[at];
+    let body = at + 1;
+    let left = s.len() - body;
+    if kind == 1 {
+        if left < 4 {
+            return Record::Refused(1);
+        }
+        return Record::Router(be32(s, body));
+    }
+    if kind == 2 {
+        if left < 4 {
+            return Record::Refused(1);
+        }
+        let link = Link {
+            first: Place(s[body]),
+            second: Place(s[body + 1]),
+            cost: be16(s, body + 2),
+        };
+        return Record::Link(link);
+    }
+    if kind == 8 {
+        if left < 1 {
+            return Record::Refused(1);
+        }
+        return Record::Limit(s[body]);
+    }
+    if kind == 3 {
+        return Record::End;
+    }
+    Record::Refused(2)
+}
