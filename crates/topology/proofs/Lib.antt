@@ -1,0 +1,9 @@
+pub mod Over
+pub mod Joined
+pub mod WrittenLength
+pub mod WrittenParts
+pub mod Rewritten
+pub mod TakenInTurn
+pub mod RoundTrip
+pub mod Outcomes
+pub mod Table

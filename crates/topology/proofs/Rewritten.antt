@@ -1,0 +1,82 @@
+-- The records of a stream that was written: each record's bytes are a kind and a body as long as the kind says, so they are read as that record, and
+-- the bytes after them as the records after it.
+-- Assumes nothing.
+use Prim.Native.Nat.{ℕ, suc, _^_, _<_}
+use mathlib.Core.Bool.{Bool, true, false, cond}
+use mathlib.Core.List.{List, [], _∷_, _++_, map, append-assoc, List·Memᴰ, List·Memᴰ·head, List·Memᴰ·tail}
+use mathlib.Core.Path.{_≡_, refl, ap, _∙_}
+use native.Mathlib.Omega.{arith}
+use lib.Dec.{eqb}
+use lib.ListN.{length, length-append}
+use lib.Seq.{take-at, drop-at}
+use Rattle.stations.specs.declared.Link.{Link}
+use Rattle.stations.specs.declared.Topology.{Topology}
+use Rattle.stations.specs.Limits.{mostNextHops}
+use Rattle.stations.specs.Topology.{Contents, contents}
+use Rattle.stream.specs.declared.Record.{Record}
+use Rattle.stream.specs.declared.Record.the-variants as record-of
+use Rattle.stream.specs.Stream.{bodyLength, decoded, linkIn, records}
+use Rattle.stream.proofs.Digits.{digits, length-bytes}
+use Rattle.stream.proofs.Stream.{whole, records-drop, no-bytes}
+use Rattle.topology.specs.Written.{joinedOver, routerBytes, linkBytes, limitBytes, written}
+
+-- a kind and a whole body
+pub body-record : (kind : ℕ) (body rest : List ℕ) → length body ≡ bodyLength kind →
+    records 0 (kind ∷ body ++ rest) ≡ decoded kind body ∷ records 0 rest
+unfolding records
+body-record kind body rest e =
+    let n = bodyLength kind in
+    rw (whole kind (body ++ rest) (simp length-append (omega arith)), records-drop n (body ++ rest), take-at body rest n e, drop-at body rest n e)
+
+pub router-record : (id : ℕ) (rest : List ℕ) → id < 2 ^ 32 → records 0 (routerBytes id ++ rest) ≡ record-of.Router id ∷ records 0 rest
+unfolding routerBytes bodyLength decoded
+router-record id rest h = rw (body-record 1 _ rest (length-bytes 4 id), digits 4 id h)
+
+pub link-record : (l : Link) (rest : List ℕ) → l .cost < 2 ^ 16 → records 0 (linkBytes l ++ rest) ≡ record-of.Link l ∷ records 0 rest
+unfolding linkBytes bodyLength decoded linkIn
+link-record l rest h = rw (body-record 2 _ rest (ap (λ (n : ℕ). suc (suc n)) (length-bytes 2 (l .cost))), digits 2 (l .cost) h)
+
+pub limit-record : (k : ℕ) (rest : List ℕ) → records 0 (8 ∷ k ∷ rest) ≡ record-of.Limit k ∷ records 0 rest
+unfolding bodyLength decoded
+limit-record k rest = body-record 8 (k ∷ []) rest refl
+
+pub end-record : (rest : List ℕ) → records 0 (3 ∷ rest) ≡ record-of.End ∷ records 0 rest
+unfolding bodyLength decoded
+end-record rest = body-record 3 [] rest refl
+
+-- bytes that are each read as a record, one after the other
+pub each-record : {A : Type 0} (f : A → List ℕ) (g : A → Record) (xs : List A) (rest : List ℕ) →
+    ((x : A) → List·Memᴰ x xs → (after : List ℕ) → records 0 (f x ++ after) ≡ g x ∷ records 0 after) →
+    records 0 (joinedOver f xs ++ rest) ≡ map g xs ++ records 0 rest
+unfolding joinedOver
+each-record f g [] rest h = refl
+each-record f g (x ∷ xs) rest h =
+    rw append-assoc (h x (List·Memᴰ·head refl) _ ∙ ap (λ (rs : List Record). g x ∷ rs) (each-record f g xs rest (λ y m. h y (List·Memᴰ·tail m))))
+
+-- record 8 if K is not 16
+unfoldable pub limitRecords : ℕ → List Record
+limitRecords k = cond (eqb k mostNextHops) [] (record-of.Limit k ∷ [])
+
+-- what a topology is written as
+unfoldable pub recordsOf : Contents → List Record
+recordsOf c = limitRecords (c .limit) ++ (map record-of.Router (c .ids) ++ (map record-of.Link (c .links) ++ (record-of.End ∷ [])))
+
+limit-records : (k : ℕ) (rest : List ℕ) → records 0 (limitBytes k ++ rest) ≡ limitRecords k ++ records 0 rest
+unfolding limitBytes limitRecords
+limit-records k rest = cases (eqb k mostNextHops)
+  where
+    cases : (b : Bool) → records 0 (cond b [] (8 ∷ k ∷ []) ++ rest) ≡ cond b [] (record-of.Limit k ∷ []) ++ records 0 rest
+    cases true = refl
+    cases false = limit-record k rest
+
+pub written-records : (t : Topology) → ((id : ℕ) → List·Memᴰ id (contents t .ids) → id < 2 ^ 32) →
+    ((l : Link) → List·Memᴰ l (contents t .links) → l .cost < 2 ^ 16) → records 0 (written t) ≡ recordsOf (contents t)
+unfolding written recordsOf contents
+written-records t ids links =
+    rw (
+      limit-records,
+      each-record routerBytes record-of.Router _ _ (λ id m after. router-record id after (ids id m)),
+      each-record linkBytes record-of.Link _ _ (λ l m after. link-record l after (links l m)),
+      end-record,
+      no-bytes,
+    )

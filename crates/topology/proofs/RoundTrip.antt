@@ -1,0 +1,180 @@
+-- A sound topology holds its contents and zeros behind them, so reading its stream, whose records are taken with no fault, returns it; what is
+-- written is bytes, as K and places are below 256.
+-- Assumes nothing.
+use Prim.Native.Nat.{ℕ, _+_, _-_, _*_, _≤_, _<_, _^_}
+use mathlib.Core.Bool.{Bool, true, false, cond}
+use mathlib.Core.List.{List, [], _∷_, _++_, List·Memᴰ, List·Memᴰ·head, List·Memᴰ·tail, List·Memᴰ·not-nil, List·Memᴰ·cases-cons, Memᴰ·map}
+use mathlib.Core.List.{List·Memᴰ·append-cases}
+use mathlib.Core.Logic.{⊎-elim}
+use mathlib.Core.Path.{_≡_, refl, sym, _∙_, ap}
+use native.Mathlib.Omega.{arith}
+use lib.Dec.{T, eqb}
+use lib.ListN.{length, take, drop, replicate, length-drop, take-append-drop}
+use lib.Seq.{length-take-le}
+use Rattle.network.proofs.Lists.{mem-take}
+use Rattle.stations.specs.declared.Link.{Link}
+use Rattle.stations.specs.declared.Topology.{Topology}
+use Rattle.stations.specs.Topology.{noLink, padded, contents, held, seen, networkOf}
+use Rattle.stations.proofs.Arcs.{arcs-listed}
+use Rattle.soundness.specs.Apart.{apart}
+use Rattle.soundness.specs.Sound.{connected, sound}
+use Rattle.soundness.specs.Theorems.{Sound}
+use Rattle.soundness.proofs.Sound.{tested, none-fact, within-fact, routers-listed, links-listed, sound-exact}
+use Rattle.stream.specs.declared.Reading.{Reading}
+use Rattle.stream.specs.Stream.{inBytes}
+use Rattle.stream.specs.Reading.{accepted, reading}
+use Rattle.stream.specs.Theorems.{Bytes, success}
+use Rattle.stream.proofs.Digits.{byte-below}
+use Rattle.stream.proofs.Returned.{reads-sound}
+use Rattle.topology.specs.Written.{joinedOver, routerBytes, linkBytes, limitBytes, written}
+use Rattle.topology.specs.Theorems.{WrittenRead, SoundIsRead, WrittenLong}
+use Rattle.topology.proofs.Rewritten.{written-records}
+use Rattle.topology.proofs.WrittenLength.{written-length}
+use Rattle.topology.proofs.TakenInTurn.{GoodLinks, GoodContents, all-taken}
+
+-- a list of one element over and over
+all-same : {A : Type 0} (z : A) (xs : List A) → ((x : A) → List·Memᴰ x xs → x ≡ z) → xs ≡ replicate (length xs) z
+all-same z [] h = refl
+all-same z (x ∷ xs) h = rw (h x (List·Memᴰ·head refl), ← all-same z xs (λ y m. h y (List·Memᴰ·tail m)))
+
+-- a list of so many slots, with z behind the first n
+repadded : {A : Type 0} (z : A) (slots n : ℕ) (xs : List A) → length xs ≡ slots → n ≤ slots → ((x : A) → List·Memᴰ x (drop n xs) → x ≡ z) →
+    xs ≡ padded z slots (take n xs)
+unfolding padded
+repadded z slots n xs long fit rest =
+    let behind : length (drop n xs) ≡ slots - length (take n xs) = rw (length-drop n xs, length-take-le n xs (omega arith), long) in
+    sym (take-append-drop n xs) ∙ ap (λ ys. take n xs ++ ys) (all-same z (drop n xs) rest ∙ ap (λ m. replicate m z) behind)
+
+is-none : (l : Link) → (l .first .0 ≡ 0) × (l .second .0 ≡ 0) × (l .cost ≡ 0) → l ≡ noLink
+unfolding noLink
+is-none l (a, b, c) = λ i. record { first = record { 0 = a i }; second = record { 0 = b i }; cost = c i }
+
+bytes-none : Bytes []
+bytes-none b m = absurd (List·Memᴰ·not-nil m)
+
+bytes-cons : (x : ℕ) (xs : List ℕ) → x < 256 → Bytes xs → Bytes (x ∷ xs)
+bytes-cons x xs h bytes b m = ⊎-elim (λ e. rw e h) (bytes b) (List·Memᴰ·cases-cons m)
+
+bytes-append : (xs ys : List ℕ) → Bytes xs → Bytes ys → Bytes (xs ++ ys)
+bytes-append xs ys first second b m = ⊎-elim (first b) (second b) (List·Memᴰ·append-cases xs m)
+
+bytes-joined : {A : Type 0} (g : A → List ℕ) (xs : List A) → ((x : A) → List·Memᴰ x xs → Bytes (g x)) → Bytes (joinedOver g xs)
+unfolding joinedOver
+bytes-joined g [] each = bytes-none
+bytes-joined g (x ∷ xs) each =
+    bytes-append (g x) (joinedOver g xs) (each x (List·Memᴰ·head refl)) (bytes-joined g xs (λ y m. each y (List·Memᴰ·tail m)))
+
+limit-bytes : (k : ℕ) → k < 256 → Bytes (limitBytes k)
+unfolding limitBytes
+limit-bytes k h = cases (eqb k 16)
+  where
+    cases : (b : Bool) → Bytes (cond b [] (8 ∷ k ∷ []))
+    cases true = bytes-none
+    cases false = bytes-cons 8 (k ∷ []) (omega arith) (bytes-cons k [] h bytes-none)
+
+limit-length : (k : ℕ) → length (limitBytes k) ≡ cond (eqb k 16) 0 2
+unfolding limitBytes
+limit-length k = cases (eqb k 16)
+  where
+    cases : (b : Bool) → length {A = ℕ} (cond b [] (8 ∷ k ∷ [])) ≡ cond b 0 2
+    cases true = refl
+    cases false = refl
+
+limit-most : (b : Bool) → cond b 0 2 ≤ 2
+limit-most true = omega arith
+limit-most false = omega arith
+
+module _ (t : Topology) (s : T (sound t)) where
+  f : Sound t
+  f = sound-exact t .0 s
+
+  routers-in : t .routers ≤ length (t .id)
+  routers-in = omega (arith, f .routers-most, f .id-slots)
+
+  links-in : t .links ≤ length (t .link)
+  links-in = omega (arith, f .links-most, f .link-slots)
+
+  routers-are : length (contents t .ids) ≡ t .routers
+  routers-are = routers-listed t routers-in
+
+  links-are : length (contents t .links) ≡ t .links
+  links-are = links-listed t links-in
+
+  whole-sound : t ≡ held (contents t)
+  unfolding held contents
+  whole-sound = λ i. record {
+    routers = sym routers-are i;
+    links = sym links-are i;
+    limit = t .limit;
+    id = repadded 0 64 (t .routers) (t .id) (f .id-slots) (f .routers-most) (f .ids-unused) i;
+    link = repadded noLink 256 (t .links) (t .link) (f .link-slots) (f .links-most) (λ l m. is-none l (f .links-unused l m)) i;
+  }
+
+  links-good : GoodLinks (contents t .ids) (contents t .links)
+  unfolding contents seen networkOf
+  links-good =
+      record {
+        facts = f .linked;
+        few = omega (arith, links-are, f .links-most);
+        neighbours = λ u h. rw (← arcs-listed (contents t) u h) (f .neighbours u (omega (arith, routers-are)));
+      }
+
+  contents-good : GoodContents (contents t)
+  unfolding contents connected
+  contents-good =
+      record {
+        some = omega (arith, routers-are, f .routers-least);
+        few = omega (arith, routers-are, f .routers-most);
+        limit = within-fact 16 (t .limit) .1 (f .limit-least, f .limit-most);
+        links = links-good;
+        together = none-fact (apart (contents t)) .0 (tested t s .connected);
+      }
+
+  id-fits : (i : ℕ) → List·Memᴰ i (contents t .ids) → i < 2 ^ 32
+  unfolding contents
+  id-fits i m = f .ids-fit i (mem-take (t .routers) (t .id) m)
+
+  link-fits : (l : Link) → List·Memᴰ l (contents t .links) → (l .first .0 < 256) × (l .second .0 < 256) × (l .cost < 2 ^ 16)
+  unfolding seen
+  link-fits l m =
+      let sound-link = links-good .facts .each (seen l) (Memᴰ·map seen m) in
+      let few : length (contents t .ids) ≤ 64 = omega (arith, routers-are, f .routers-most) in
+      (omega (arith, sound-link .first-listed), omega (arith, sound-link .second-listed), omega (arith, sound-link .cost-most))
+
+  read-again : reading (written t) ≡ success t
+  unfolding reading accepted
+  read-again = rw (written-records t id-fits (λ l m. link-fits l m .2)) (all-taken (contents t) contents-good ∙ ap success (sym whole-sound))
+
+  written-bytes : Bytes (written t)
+  unfolding written routerBytes linkBytes
+  written-bytes =
+      bytes-append (limitBytes (t .limit)) _ (limit-bytes (t .limit) (omega (arith, f .limit-most)))
+      (bytes-append (joinedOver routerBytes (contents t .ids)) _
+      (bytes-joined routerBytes (contents t .ids) (λ i m. bytes-cons 1 (inBytes 4 i) (omega arith) (byte-below 4 i)))
+      (bytes-append (joinedOver linkBytes (contents t .links)) _
+      (bytes-joined linkBytes (contents t .links)
+      (λ l m.
+      let (first, second, cost) = link-fits l m in
+      bytes-cons 2 _ (omega arith) (bytes-cons (l .first .0) _ first (bytes-cons (l .second .0) _ second (byte-below 2 (l .cost))))))
+      (bytes-cons 3 [] (omega arith) bytes-none)))
+
+  written-length-is : length (written t) ≡ cond (eqb (t .limit) 16) 0 2 + 5 * t .routers + 5 * t .links + 1
+  written-length-is =
+      omega (arith, written-length t routers-in links-in, limit-length (t .limit))
+
+pub written-read : WrittenRead
+written-read = read-again
+
+pub sound-is-read : SoundIsRead
+sound-is-read t = (
+  λ s. (written t, (written-bytes t s, read-again t s)),
+  λ (s, (bytes, e)). rw e at (reads-sound s bytes .is-sound (ap (λ (r : Reading). r .answer .number) e)),
+)
+
+pub written-long : WrittenLong
+written-long t s =
+    record {
+      bytes = written-bytes t s;
+      long = written-length-is t s;
+      most = omega (arith, written-length-is t s, limit-most (eqb (t .limit) 16), f t s .routers-most, f t s .links-most);
+    }

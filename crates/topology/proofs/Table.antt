@@ -1,0 +1,25 @@
+-- The prover computes every fact from the definitions.
+-- Assumes nothing.
+use Rattle.network.specs.Lists.{numbersFrom, below, keep, every, any, leastBy, member}
+use Rattle.network.specs.Network.{size, arcsOf, greatestCost, arcsAmong, linked, samePair}
+use Rattle.network.specs.Distance.{absent, distanceIn, through, atFirst, round, rounds, distances}
+use Rattle.network.specs.Order.{reached}
+use Rattle.stations.specs.Topology.{noLink, padded, contents, held, zeros, seen, networkIn}
+use Rattle.soundness.specs.Apart.{apart}
+use Rattle.soundness.specs.Sound.{within}
+use Rattle.stream.specs.Stream.{bigEndianOn, bigEndian, inBytes, bodyLength, linkIn, decoded, recordIn, records}
+use Rattle.stream.specs.Reading.{refusal, accepted, routerFault, crowded, linkFault, fault, added, width, isEnd, joined, ended, unless, some?, inTurn}
+use Rattle.stream.specs.Reading.{nothingListed, reading}
+use Rattle.stream.specs.Table.{sameNumbers, one, two, T-stream}
+use Rattle.topology.specs.Written.{joinedOver, routerBytes, linkBytes, limitBytes, written}
+use Rattle.topology.specs.Table.{holds, writes, facts, FactsHold}
+
+pub facts-hold : FactsHold
+unfolding numbersFrom below keep every any leastBy member
+    size arcsOf greatestCost arcsAmong linked samePair
+    absent distanceIn through atFirst round rounds distances reached
+    noLink padded contents held zeros seen networkIn apart within
+    bigEndianOn bigEndian inBytes bodyLength linkIn decoded recordIn records
+    refusal accepted routerFault crowded linkFault fault added width isEnd joined ended unless some? inTurn nothingListed reading
+    sameNumbers one two T-stream joinedOver routerBytes linkBytes limitBytes written holds writes facts
+facts-hold = tt

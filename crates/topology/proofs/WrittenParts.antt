@@ -1,0 +1,39 @@
+-- The record of K, the routers, the links and the end, each put behind the one before, are the whole stream.
+-- Assumes nothing.
+use Prim.Native.Nat.{ℕ, _+_, _*_, _≤_}
+use mathlib.Core.List.{List, _++_, append-assoc}
+use mathlib.Core.Path.{_≡_, _∙_}
+use native.Mathlib.Omega.{arith}
+use lib.ListN.{length, take, set, length-append}
+use Rattle.stations.specs.declared.Topology.{Topology}
+use Rattle.stations.specs.Topology.{contents}
+use Rattle.topology.specs.Written.{written, limitBytes, routerBytes, linkBytes, joinedOver}
+use Rattle.topology.specs.Inner.{over}
+use Rattle.topology.proofs.Joined.{router-five, link-five, taken-length}
+use Rattle.topology.proofs.Over.{over-next, over-over}
+use Rattle.topology.proofs.WrittenLength.{written-length}
+
+module _
+    (t : Topology)
+    (ids : t .routers ≤ length (t .id))
+    (links : t .links ≤ length (t .link))
+    (buffer : List ℕ)
+    (fits : length (written t) ≤ length buffer)
+  where
+    pub parts-written : {one two three : List ℕ} {p q end : ℕ}
+        → (p ≡ length (limitBytes (t .limit))) × (one ≡ over buffer 0 (limitBytes (t .limit)))
+        → (q ≡ p + 5 * t .routers) × (two ≡ over one p (joinedOver routerBytes (contents t .ids)))
+        → (end ≡ q + 5 * t .links) × (three ≡ over two q (joinedOver linkBytes (contents t .links)))
+        → set three end 3 ≡ over buffer 0 (written t)
+    unfolding written contents
+    parts-written {one} {two} {three} {p} {q} {end} (p≡, one≡) (q≡, two≡) (end≡, three≡) =
+        let k : List ℕ = limitBytes (t .limit) in
+        let rs : List ℕ = joinedOver routerBytes (take (t .routers) (t .id)) in
+        let ls : List ℕ = joinedOver linkBytes (take (t .links) (t .link)) in
+        let rn : length rs ≡ 5 * t .routers = taken-length routerBytes router-five (t .id) (t .routers) ids in
+        let ln : length ls ≡ 5 * t .links = taken-length linkBytes link-five (t .link) (t .links) links in
+        let first : two ≡ over buffer 0 (k ++ rs) = rw (two≡, one≡) (over-over buffer 0 k rs p (omega arith) (omega arith)) in
+        let then : three ≡ over buffer 0 (k ++ rs ++ ls) =
+        rw (three≡, first) (over-over buffer 0 (k ++ rs) ls q (simp length-append (omega arith)) (omega arith)) in
+        rw then (over-next buffer 0 (k ++ rs ++ ls) 3 end (simp length-append (omega arith)) (omega (arith, written-length t ids links))
+        ∙ simp append-assoc)

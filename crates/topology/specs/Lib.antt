@@ -1,0 +1,4 @@
+pub mod Written
+pub mod Inner
+pub mod Theorems
+pub mod Table

@@ -1,0 +1,41 @@
+-- What is proved of writing, and of reading what was written, over all topology values.
+-- Assumes nothing.
+use Prim.Native.Nat.{ℕ, _+_, _*_, _≤_}
+use mathlib.Core.Bool.{false, cond}
+use mathlib.Core.List.{List}
+use mathlib.Core.Logic.{_↔_}
+use mathlib.Core.Path.{_≡_}
+use lib.Dec.{T, eqb}
+use lib.ListN.{length}
+use Rattle.stations.specs.declared.Topology.{Topology}
+use Rattle.stations.specs.Outcome.{given}
+use Rattle.soundness.specs.Sound.{sound}
+use Rattle.stream.specs.Reading.{reading}
+use Rattle.stream.specs.Theorems.{Bytes, success}
+use Rattle.topology.specs.Written.{written, writing}
+
+-- 01, Topology stream: reading what was written returns the same topology.
+abbrev pub WrittenRead : Type 0
+WrittenRead = (t : Topology) → T (sound t) → reading (written t) ≡ success t
+
+-- 01, Refusals, 14: a topology is sound if and only if some stream reads as it.
+abbrev pub SoundIsRead : Type 0
+SoundIsRead = (t : Topology) → T (sound t) ↔ ((s : List ℕ) × (Bytes s × (reading s ≡ success t)))
+
+-- 01, Topology stream: what is written is bytes, 2 if K is not 16, 5 for each router and each link, and 1; at most 1,603.
+pub record Written (t : Topology) : Type 0 where
+  pub bytes : Bytes (written t)
+  pub long : length (written t) ≡ cond (eqb (t .limit) 16) 0 2 + 5 * t .routers + 5 * t .links + 1
+  pub most : length (written t) ≤ 1603
+
+abbrev pub WrittenLong : Type 0
+WrittenLong = (t : Topology) → T (sound t) → Written t
+
+-- 01, Refusals, 14 and 24: a topology that is not sound is refused with 14 at 0, and the buffer stays as it was; of any other the bytes of its stream
+-- are given, as `GivenExact` of stations says.
+pub record Writing (t : Topology) (buffer : List ℕ) : Type 0 where
+  pub unsound : sound t ≡ false → writing t buffer ≡ record { answer = record { number = 14; at = 0 }; buffer = buffer }
+  pub of-sound : T (sound t) → writing t buffer ≡ given (written t) buffer
+
+abbrev pub WritingExact : Type 0
+WritingExact = (t : Topology) (buffer : List ℕ) → Writing t buffer

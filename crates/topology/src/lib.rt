@@ -1,0 +1,41 @@
+// Routers, links and the topology stream (01, Stations, links and limits; Topology stream): read, test and write, under one name.
+mod writing;
+
+pub use soundness::is_sound;
+pub use stations::Answer;
+pub use stations::LINKS;
+pub use stations::Link;
+pub use stations::NEIGHBOURS;
+pub use stations::NEXT_HOPS;
+pub use stations::Place;
+pub use stations::ROUTERS;
+pub use stations::Rank;
+pub use stations::Topology;
+pub use stream::Reading;
+pub use stream::read;
+ghost use mathlib.Core.Path.{_≡_};
+ghost use Rattle.topology.specs.Written.{writing};
+
+// Writes a topology's stream: refusals 14 and 24.
+pub fn write(t: Topology, out: &mut [u8]) -> Answer
+    ensures { λ r. ⌜ record { answer = r; buffer = now (out .exit) } ≡ writing t (now (out .entry)) ⌝ }
+{
+    if !is_sound(t) {
+        return Answer { number: 14, at: 0 };
+    }
+    let needed = writing::length_of(t);
+    if out.len() < needed {
+        return Answer {
+            number: 24,
+            at: needed,
+        };
+    }
+    let routers = writing::put_limit(t, out);
+    let links = writing::put_routers(t, out, routers);
+    let end = writing::put_links(t, out, links);
+    out[end] = 3;
+    Answer {
+        number: 0,
+        at: end + 1,
+    }
+}
