@@ -1,0 +1,5 @@
+pub mod Slots
+pub mod Among
+pub mod Filled
+pub mod Links
+pub mod Use

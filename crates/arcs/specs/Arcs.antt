@@ -1,0 +1,35 @@
+-- The arcs of a network by place, in slots (01, Stations, links and limits: at most 16 neighbours to a router).
+-- Assumes nothing.
+use Prim.Native.Nat.{ℕ, _+_, _*_, _<_}
+use mathlib.Core.List.{List, map}
+use mathlib.Core.Path.{_≡_}
+use lib.ListN.{length, getD}
+use Rattle.network.specs.Lists.{below}
+use Rattle.network.specs.Network.{Arc, Network, size, arcsOf}
+use Rattle.stations.specs.Limits.{mostRouters, mostNeighbours}
+use Rattle.arcs.specs.declared.Arcs.{Arcs}
+
+-- the arc in slot j of the router u
+unfoldable pub slotArc : Arcs → ℕ → ℕ → Arc
+slotArc a u j =
+    record {
+      to = getD (a .to) (u * mostNeighbours + j) 0;
+      cost = getD (a .cost) (u * mostNeighbours + j) 0;
+      link = getD (a .link) (u * mostNeighbours + j) 0;
+    }
+
+-- the arcs of the router u
+unfoldable pub slotArcs : Arcs → ℕ → List Arc
+slotArcs a u = map (slotArc a u) (below (getD (a .count) u 0))
+
+-- each array has all its slots
+pub record Slotted (a : Arcs) : Type 0 where
+  pub counts : length (a .count) ≡ mostRouters
+  pub tos : length (a .to) ≡ mostRouters * mostNeighbours
+  pub costs : length (a .cost) ≡ mostRouters * mostNeighbours
+  pub links : length (a .link) ≡ mostRouters * mostNeighbours
+
+-- the arcs of every router of the network
+pub record Holds (n : Network) (a : Arcs) : Type 0 where
+  pub slots : Slotted a
+  pub arcs : (u : ℕ) → u < size n → slotArcs a u ≡ arcsOf n u
