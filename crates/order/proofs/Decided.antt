@@ -1,0 +1,87 @@
+-- What checking an order answers, test by test: each test that fails decides, and each that passes leaves the tests after it.
+-- Assumes nothing.
+use Prim.Native.Nat.{ℕ, zero, suc, pred, _+_, _≤_, _<_}
+use mathlib.Core.Bool.{Bool, true, false}
+use mathlib.Core.List.{List, [], _∷_, List·Memᴰ, List·Memᴰ·head}
+use mathlib.Core.Path.{_≡_, refl, ap}
+use native.Mathlib.Omega.{arith}
+use borrow.Author.Tests.{lt-ltb, le-ltb, eq-eqb, ne-eqb}
+use lib.ListN.{length, getD}
+use Rattle.network.specs.Lists.{below, keep, numbersFrom}
+use Rattle.network.proofs.Below.{from-bounds}
+use Rattle.network.proofs.Lists.{mem-keep}
+use Rattle.stations.specs.declared.Answer.{Answer}
+use Rattle.stations.specs.declared.Topology.{Topology}
+use Rattle.soundness.specs.Sound.{sound}
+use Rattle.stations.specs.Topology.{networkOf}
+use Rattle.stations.specs.Inner.{firstOr}
+use Rattle.order.specs.declared.Mode.{Mode}
+use Rattle.order.specs.Calls.{says, atFirst, wrongRanks, unreadyRanks, modeOf, checking}
+
+-- a first number below n is there
+first-there : (xs : List ℕ) (n r number : ℕ) (next : Answer) → r ≡ firstOr n xs → r < n → says number r ≡ atFirst number xs next
+unfolding firstOr atFirst
+first-there [] n r number next e h = absurd (omega (arith, e))
+first-there (x ∷ xs) n r number next e h = ap (says number) e
+
+-- where it is not below n, and every number of the list would be, the list is empty
+pub none-there : (xs : List ℕ) (n r : ℕ) → ((x : ℕ) → List·Memᴰ x xs → x < n) → r ≡ firstOr n xs → n ≤ r → xs ≡ []
+unfolding firstOr
+none-there [] n r all e h = refl
+none-there (x ∷ xs) n r all e h = absurd (omega (arith, e, all x (List·Memᴰ·head refl)))
+
+pred-one : (n k : ℕ) → k < n → 1 + pred n ≤ n
+pred-one zero k h = absurd (omega arith)
+pred-one (suc n) k h = omega arith
+
+-- ranks that fail a test are ranks of the order
+pub ranks-below : (f : ℕ → Bool) (s count n : ℕ) → s + count ≤ n → (x : ℕ) → List·Memᴰ x (keep f (numbersFrom s count)) → x < n
+ranks-below f s count n h x m = omega (arith, from-bounds s count (mem-keep f (numbersFrom s count) m .0))
+
+module _ (t : Topology) (d : ℕ) (m : Mode) (order : List ℕ) where
+  pub unsound : sound t ≡ false → says 14 0 ≡ checking t d m order
+  unfolding checking
+  unsound e = rw e
+
+  module _ (good : sound t ≡ true) where
+    pub outside : t .routers ≤ d → says 15 d ≡ checking t d m order
+    unfolding checking
+    outside h = rw (good, le-ltb _ _ h)
+
+    module _ (place : d < t .routers) where
+      pub other-length : (length order ≡ t .routers → ⊥) → says 17 (length order) ≡ checking t d m order
+      unfolding checking
+      other-length h = rw (good, lt-ltb _ _ place, ne-eqb _ _ h)
+
+      module _ (long : length order ≡ t .routers) where
+        pub wrong-entry : (r : ℕ) → r ≡ firstOr (t .routers) (wrongRanks (t .routers) order) → r < t .routers → says 18 r ≡ checking t d m order
+        unfolding checking
+        wrong-entry r e h = rw (good, lt-ltb _ _ place, eq-eqb _ _ long) (first-there (wrongRanks (t .routers) order) (t .routers) r 18 _ e h)
+
+        pub all-right : (r : ℕ) → r ≡ firstOr (t .routers) (wrongRanks (t .routers) order) → t .routers ≤ r → wrongRanks (t .routers) order ≡ []
+        unfolding wrongRanks below
+        all-right r e h = none-there _ (t .routers) r (ranks-below _ 0 (length order) (t .routers) (omega arith)) e h
+
+        module _ (once : wrongRanks (t .routers) order ≡ []) where
+          pub other-first : (getD order 0 0 ≡ d → ⊥) → says 19 0 ≡ checking t d m order
+          unfolding checking atFirst
+          other-first h = rw (good, lt-ltb _ _ place, eq-eqb _ _ long, once, ne-eqb _ _ h)
+
+          module _ (first : getD order 0 0 ≡ d) where
+            pub unready : (r : ℕ) → r ≡ firstOr (t .routers) (unreadyRanks (networkOf t) d (modeOf m) order) → r < t .routers →
+                says 20 r ≡ checking t d m order
+            unfolding checking atFirst
+            unready r e h =
+                rw (good, lt-ltb _ _ place, eq-eqb _ _ long, once, eq-eqb _ _ first)
+                (first-there (unreadyRanks (networkOf t) d (modeOf m) order) (t .routers) r 20 _ e h)
+
+            pub none-unready : (r : ℕ) → r ≡ firstOr (t .routers) (unreadyRanks (networkOf t) d (modeOf m) order) → t .routers ≤ r →
+                unreadyRanks (networkOf t) d (modeOf m) order ≡ []
+            unfolding unreadyRanks
+            none-unready r e h =
+                none-there _ (t .routers) r
+                (ranks-below _ 1 (pred (length order)) (t .routers) (omega (arith, pred-one (length order) d (omega arith)))) e h
+
+            pub passes : unreadyRanks (networkOf t) d (modeOf m) order ≡ [] → says 0 0 ≡ checking t d m order
+            unfolding checking atFirst
+            passes e = rw (good, lt-ltb _ _ place, eq-eqb _ _ long, once, eq-eqb _ _ first, e)

@@ -1,0 +1,79 @@
+-- What the counters go by, and that a sound topology has it: a network within the limits with its arcs in slots, its IDs, and a distance of every
+-- router.
+-- Assumes nothing.
+use Prim.Native.Nat.{ℕ, zero, suc, _≤_, _<_}
+use mathlib.Core.List.{List, [], _∷_}
+use mathlib.Core.Path.{_≡_, refl, _∙_}
+use native.Mathlib.Nat.{not-suc-le-zero, le-of-suc-le-suc}
+use native.Mathlib.Omega.{arith}
+use lib.Dec.{T}
+use lib.ListN.{length, getD, replicate}
+use lib.Seq.{getD-take}
+use Rattle.network.specs.Network.{Network, size, idOf, arcsOf, WellFormed, linked}
+use Rattle.network.specs.Distance.{absent, distanceIn, distances}
+use Rattle.network.specs.Order.{reached}
+use Rattle.network.proofs.NextHop.{path-reached}
+use Rattle.stations.specs.declared.Topology.{Topology}
+use Rattle.stations.specs.Topology.{contents, networkIn, networkOf}
+use Rattle.soundness.specs.Theorems.{Sound, SoundNetwork}
+use Rattle.arcs.specs.declared.Arcs.{Arcs}
+use Rattle.arcs.specs.Arcs.{Holds}
+use Rattle.order.specs.declared.Mode.{Mode}
+use Rattle.order.specs.declared.Mode.the-variants as mode
+use Rattle.order.specs.Inner.{Settled}
+use Rattle.order.proofs.Symmetry.{BothWays, topology-back}
+
+-- a network, well formed and within the limits, and its arcs in slots
+pub record Setting (n : Network) (a : Arcs) : Type 0 where
+  pub formed : WellFormed n
+  pub ways : BothWays n
+  pub holds : Holds n a
+  pub most : size n ≤ 64
+  pub few : (u : ℕ) → u < size n → length (arcsOf n u) ≤ 16
+
+-- the distances by place that the code has in its slots
+abbrev pub Agrees : Network → List ℕ → List ℕ → Type 0
+Agrees n ds slots = (u : ℕ) → u < size n → distanceIn n ds u ≡ getD slots u 0
+
+-- below the length it does not matter what stands past the end
+getD-within : (xs : List ℕ) (i y z : ℕ) → i < length xs → getD xs i y ≡ getD xs i z
+getD-within [] i y z h = absurd (not-suc-le-zero h)
+getD-within (x ∷ xs) zero y z h = refl
+getD-within (x ∷ xs) (suc i) y z h = getD-within xs i y z (le-of-suc-le-suc h)
+
+pub settled-agrees : {n : Network} {d : ℕ} {slots : List ℕ} → size n ≤ 64 → Settled n d slots → Agrees n (distances n d) slots
+unfolding distanceIn
+settled-agrees {n} {d} {slots} most s u h =
+    rw (← s .first) (getD-take (size n) slots u (absent n) h ∙ getD-within slots u (absent n) 0 (omega (arith, s .long)))
+
+-- the distances that the code goes by: in shortest-path mode those of the network, in free mode zeros
+pub record GoneBy (n : Network) (ds : List ℕ) (m : Mode) (slots : List ℕ) : Type 0 where
+  pub shortest : m ≡ mode.ShortestPath → Agrees n ds slots
+  pub free : m ≡ mode.Free → slots ≡ replicate 64 0
+
+pub gone-by : {n : Network} {d : ℕ} {m : Mode} {slots : List ℕ} → size n ≤ 64 → (m ≡ mode.ShortestPath → Settled n d slots) →
+    (m ≡ mode.Free → slots ≡ replicate 64 0) → GoneBy n (distances n d) m slots
+gone-by most settled free = record { shortest = λ e. settled-agrees most (settled e); free = free }
+
+module _ {t : Topology} (w : SoundNetwork t) where
+  pub topology-setting : Sound t → {a : Arcs} → Holds (networkOf t) a → Setting (networkOf t) a
+  topology-setting s holds =
+      let sized = w .routers in
+      record {
+        formed = w .well-formed;
+        ways = topology-back t s;
+        holds = holds;
+        most = omega (arith, s .routers-most);
+        few = λ u h. s .neighbours u (omega arith);
+      }
+
+  pub topology-reached : (d : ℕ) → d < t .routers → (u : ℕ) → u < size (networkOf t) → T (reached (networkOf t) (distances (networkOf t) d) u)
+  topology-reached d d-in u h =
+      let sized = w .routers in
+      path-reached (networkOf t) (w .well-formed) d (omega arith) (w .paths d u d-in (omega arith))
+
+  pub topology-ids : (u : ℕ) → u < size (networkOf t) → idOf (networkOf t) u ≡ getD (t .id) u 0
+  topology-ids u h = let sized = w .routers in named (omega arith)
+    where
+      named : u < t .routers → idOf (networkOf t) u ≡ getD (t .id) u 0
+      named l = unfold idOf networkOf networkIn contents linked in getD-take (t .routers) (t .id) u 0 l

@@ -1,0 +1,110 @@
+-- A sound topology is a well-formed network of at most 64 routers, each with at most 16 arcs. Where slots hold its arcs, each slot leads to a place
+-- of it at a cost of 16 bits.
+-- Assumes nothing.
+use Prim.Native.Nat.{ℕ, _+_, _*_, _≤_, _<_}
+use mathlib.Core.Bool.{_&&_}
+use mathlib.Core.List.{List, List·Memᴰ, Memᴰ·map}
+use mathlib.Core.Path.{_≡_, sym, _∙_, ap, subst}
+use native.Mathlib.Omega.{arith}
+use lib.Dec.{T, eqb, leb, eqb→eq, leb→le}
+use lib.ListN.{length, getD}
+use lib.Seq.{length-take-le}
+use Rattle.network.specs.Lists.{below}
+use Rattle.network.specs.Network.{Network, size, arcsOf, greatestCost, SoundArc, WellFormed, linked}
+use Rattle.network.proofs.Tests.{both}
+use Rattle.network.proofs.Lists.{every-all}
+use Rattle.network.proofs.Below.{mem-below, length-map-below}
+use Rattle.network.proofs.Linked.{linked-well-formed}
+use Rattle.stations.specs.declared.Topology.{Topology}
+use Rattle.stations.specs.Topology.{contents, networkIn, networkOf}
+use Rattle.soundness.specs.Sound.{within}
+use Rattle.soundness.specs.Sound.{inLimits, wellLinked, uncrowded, connected, unusedZero, slotted, sound}
+use Rattle.arcs.specs.declared.Arcs.{Arcs}
+use Rattle.arcs.specs.Arcs.{slotArc, slotArcs, Holds}
+use Rattle.order.specs.Inner.{slotTo, AllSlots}
+
+-- the slots hold the arcs of the network, which has `count` routers and is within the limits
+pub record Held (n : Network) (a : Arcs) (count : ℕ) : Type 0 where
+  pub formed : WellFormed n
+  pub sized : size n ≡ count
+  pub most : count ≤ 64
+  pub few : (u : ℕ) → u < count → length (arcsOf n u) ≤ 16
+  pub holds : Holds n a
+
+module _ (t : Topology) (a : Arcs) (s : T (sound t)) where
+  parts : T (inLimits t) × T (wellLinked t) × T (uncrowded t) × T (slotted t)
+  unfolding sound
+  parts =
+      let (five, slots) = both (inLimits t && wellLinked t && uncrowded t && connected t && unusedZero t) (slotted t) s in
+      let (four, unused) = both (inLimits t && wellLinked t && uncrowded t && connected t) (unusedZero t) five in
+      let (three, joined) = both (inLimits t && wellLinked t && uncrowded t) (connected t) four in
+      let (two, few) = both (inLimits t && wellLinked t) (uncrowded t) three in
+      let (limits, links) = both (inLimits t) (wellLinked t) two in
+      (limits, links, few, slots)
+
+  most-routers : t .routers ≤ 64
+  unfolding inLimits within
+  most-routers =
+      let (two, limit) = both (within 64 (t .routers) && leb (t .links) 256) (within 16 (t .limit)) (parts .0) in
+      let (routers, links) = both (within 64 (t .routers)) (leb (t .links) 256) two in
+      leb→le (t .routers) 64 (both (leb 1 (t .routers)) (leb (t .routers) 64) routers .1)
+
+  id-slots : length (t .id) ≡ 64
+  unfolding slotted
+  id-slots =
+      let (two, ids) = both (eqb (length (t .id)) 64 && eqb (length (t .link)) 256) _ (parts .3) in
+      eqb→eq (length (t .id)) 64 (both (eqb (length (t .id)) 64) (eqb (length (t .link)) 256) two .0)
+
+  routers-sized : size (networkOf t) ≡ t .routers
+  unfolding networkOf networkIn contents linked size
+  routers-sized = let most = most-routers in let slots = id-slots in length-take-le (t .routers) (t .id) (omega arith)
+
+  well-formed : WellFormed (networkOf t)
+  unfolding networkOf networkIn contents wellLinked
+  well-formed = linked-well-formed _ _ (parts .1)
+
+  few-arcs : (u : ℕ) → u < t .routers → length (arcsOf (networkOf t) u) ≤ 16
+  unfolding uncrowded
+  few-arcs u h = leb→le (length (arcsOf (networkOf t) u)) 16 (every-all _ (below (t .routers)) (parts .2) u (mem-below h))
+
+  pub sound-held : Holds (networkOf t) a → Held (networkOf t) a (t .routers)
+  sound-held h = record { formed = well-formed; sized = routers-sized; most = most-routers; few = few-arcs; holds = h }
+
+module _ (n : Network) (a : Arcs) (count : ℕ) (held : Held n a count) (u : ℕ) (u-in : u < count) where
+  listed : u < size n
+  listed = let sized = held .sized in omega arith
+
+  pub count-is : length (arcsOf n u) ≡ getD (a .count) u 0
+  unfolding slotArcs
+  count-is = ap length (sym (held .holds .arcs u listed)) ∙ length-map-below (slotArc a u) (getD (a .count) u 0)
+
+  pub slot-sound : (j : ℕ) → j < getD (a .count) u 0 → SoundArc n u (slotArc a u j)
+  unfolding slotArcs
+  slot-sound j h =
+      held .formed .sound u (slotArc a u j)
+      (subst (List·Memᴰ (slotArc a u j)) (held .holds .arcs u listed) (Memᴰ·map (slotArc a u) (mem-below h)))
+
+  pub slot-place : (j : ℕ) → j < getD (a .count) u 0 → slotTo (a .to) u j < count
+  unfolding slotArc slotTo
+  slot-place j h = let sized = held .sized in let s = slot-sound j h in omega (arith, s .place)
+
+  slot-cost : (j : ℕ) → j < getD (a .count) u 0 → getD (a .cost) (u * 16 + j) 0 ≤ 65535
+  unfolding slotArc greatestCost
+  slot-cost j h = slot-sound j h .cost-most
+
+-- so the slots are as the inner functions ask, at any row of distances that fit
+pub all-slots : (n : Network) (a : Arcs) (count : ℕ) → Held n a count → (ds : List ℕ) → length ds ≡ 64 →
+    ((v : ℕ) → v < 64 → getD ds v 0 ≤ 4194304) → AllSlots a count ds
+all-slots n a count held ds long near =
+    let most = held .most in
+    record {
+      most = held .most;
+      long = long;
+      each = λ u h. record {
+        place = omega arith;
+        few = omega (arith, held .few u h, count-is n a count held u h);
+        leads = λ j k. omega (arith, slot-place n a count held u h j k);
+        cheap = slot-cost n a count held u h;
+        near = near;
+      };
+    }

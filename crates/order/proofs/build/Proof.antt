@@ -1,0 +1,79 @@
+-- `order::build` meets its contract: the order that is built has as many bytes as there are routers, so the tests are those of building, in turn.
+-- Assumes nothing.
+use Prim.Native.Nat.{_<_}
+use mathlib.Core.Bool.{true}
+use mathlib.Core.Path.{_≡_, sym, _∙_}
+use native.Mathlib.Omega.{arith}
+use borrow.Author.Needs.{needs}
+use borrow.Author.Tests.{not-true, not-false, lt-ltb, le-ltb}
+use lib.Dec.{T}
+use lib.ListN.{length}
+use Rattle.network.specs.Order.{build}
+use Rattle.soundness.specs.Sound.{sound}
+use Rattle.stations.specs.Topology.{networkOf}
+use Rattle.stations.specs.Outcome.{given, turnedAway}
+use Rattle.order.specs.Calls.{building, modeOf}
+use Rattle.order.proofs.Reached.{built-long}
+use Rattle.order.proofs.build.Statement.{statement}
+use Rattle.order.proofs.build.Tie as tie
+
+is-sound-requires : tie.Need-is-sound-requires
+is-sound-requires c κs = search needs
+
+returns : tie.Need-returns
+unfolding building turnedAway
+returns c = rw (sym (c .before .is-sound .ensures) ∙ not-true _ (c .if1 .taken))
+
+index-requires : tie.Need-index-requires
+index-requires c κs = search needs
+
+-- the topology is sound
+good : (c : tie.Else1) → sound (c .before .before .before .args .t) ≡ true
+good c = sym (c .before .is-sound .ensures) ∙ not-false _ (c .if1 .left)
+
+passed : (c : tie.Else1) → T (sound (c .before .before .before .args .t))
+passed c = rw (good c) tt
+
+returns-2 : tie.Need-returns-2
+unfolding building turnedAway
+returns-2 c =
+    let a = c .before .before .before .before .before .args in
+    rw (good (c .before .before), le-ltb (a .destination .0) (a .t .routers) (omega (arith, c .before .index .ensures)), c .before .index .ensures)
+
+-- the destination is one of its places, and the order has a byte for each
+place : (c : tie.Else2) → let a = c .before .before .before .before .before .args in a .destination .0 < a .t .routers
+place c = omega (arith, c .before .index .ensures)
+
+long : (c : tie.Else2) → let a = c .before .before .before .before .before .args in
+    length (build (networkOf (a .t)) (a .destination .0) (modeOf (a .mode))) ≡ a .t .routers
+long c = built-long _ (passed (c .before .before)) _ (place c) _
+
+returns-3 : tie.Need-returns-3
+unfolding building given turnedAway
+returns-3 c = rw (good (c .before .before .before), lt-ltb _ _ (place (c .before)), long (c .before), lt-ltb _ _ (c .if3 .taken))
+
+build-requires : tie.Need-build-requires
+build-requires c κs = (passed (c .before .before .before .before), place (c .before .before), c .before .if3 .left)
+
+same-length : tie.Need-same-length
+same-length c = search needs
+
+returns-4 : tie.Need-returns-4
+unfolding building given turnedAway
+returns-4 c =
+    let e : tie.Else3 = c .before .before .before .before in
+    let done = c .before .before .build .ensures in
+    rw (done, good (e .before .before .before), lt-ltb _ _ (place (e .before)), long (e .before), le-ltb _ _ (e .if3 .left))
+
+pub build-spec : {M : Type 1} → statement M
+build-spec =
+    tie.close
+    (tie.spec
+    is-sound-requires
+    returns
+    index-requires
+    returns-2
+    returns-3
+    build-requires
+    same-length
+    returns-4)

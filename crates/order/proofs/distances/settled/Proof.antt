@@ -1,0 +1,77 @@
+-- `order::distances::settled` meets its contract. The loop's invariant: `ds` is the row after `k - 1` rounds over the network
+-- that the slots hold.
+-- Assumes nothing.
+use Prim.Native.Nat.{suc, _-_, _≤_, _<_}
+use mathlib.Core.Path.{sym, subst}
+use native.Mathlib.Omega.{arith}
+use Rattle.network.specs.Network.{Network}
+use Rattle.stations.specs.Topology.{networkOf}
+use Rattle.order.proofs.Slots.{Held, sound-held}
+use Rattle.order.proofs.Rounds.{Row, as-many, first-row, next-row, row-slots, stopped, ended}
+use Rattle.order.proofs.distances.settled.Statement.{statement}
+use Rattle.order.proofs.distances.settled.Tie as tie
+
+abbrev Inv-loop : tie.InvT-loop
+Inv-loop a d n ds₀ k₀ ds k = (1 ≤ k) × (k ≤ n) × ((m : Network) → Held m a n → Row m d (k - 1) n ds)
+
+abbrev μ-loop : tie.MeasureT-loop
+μ-loop a d n ds₀ k₀ ds k = n - k
+
+-- the network is held
+held : (c : tie.Start Inv-loop μ-loop) → Held (networkOf (c .args .t)) (c .args .a) (c .args .t .routers)
+held c = sound-held (c .args .t) (c .args .a) (c .pre .0) (c .pre .1)
+
+first-round-requires : tie.Need-first-round-requires Inv-loop μ-loop
+first-round-requires c κs = let most = held c .most in (most, omega (arith, c .pre .2))
+
+loop-holds : tie.Need-loop-holds Inv-loop μ-loop
+loop-holds c =
+    let in-it : c .before .args .d < c .before .args .t .routers = c .before .pre .2 in
+    (omega arith, omega arith, λ m h. subst (Row m _ 0 _) (sym (c .first-round .ensures)) (first-row m _ _ h _ in-it))
+
+-- the row that a round makes
+next : (c : tie.After-next-round Inv-loop μ-loop) (m : Network) →
+    Held m (c .before .before .before .before .args .a) (c .before .before .before .before .args .t .routers) →
+    Row m (c .before .before .before .before .args .d) (suc (c .before .before .loop .k - 1)) (c .before .before .before .before .args .t .routers)
+    (c .next-round .result)
+next c m h = subst (Row m _ _ _) (sym (c .next-round .ensures)) (next-row m _ _ h _ _ _ (c .before .before .loop .inv .2 m h))
+
+next-round-requires : tie.Need-next-round-requires Inv-loop μ-loop
+next-round-requires c κs = let h = held (c .before .before .before) in row-slots _ _ _ h (c .before .loop .inv .2 _ h)
+
+same-requires : tie.Need-same-requires Inv-loop μ-loop
+same-requires c κs = held (c .before .before .before .before) .most
+
+returns : tie.Need-returns Inv-loop μ-loop
+returns c =
+    let head = c .before .before .before .before in
+    let h = held (head .before .before) in
+    stopped _ _ _ h (head .before .before .pre .2) (head .loop .inv .2 _ h) (next (c .before .before) _ h) (c .before .same .ensures (c .if1 .taken))
+
+add-k : tie.Need-add-k Inv-loop μ-loop
+add-k c = omega (arith, held (c .before .before .before .before .before .before) .most)
+
+loop-less : tie.Need-loop-less Inv-loop μ-loop
+loop-less c = omega arith
+
+loop-again : tie.Need-loop-again Inv-loop μ-loop
+loop-again c = (omega arith, omega arith, λ m h. as-many (omega arith) (next (c .before .before) m h))
+
+returns-2 : tie.Need-returns-2 Inv-loop μ-loop
+returns-2 c = let h = held (c .before .before .before) in ended _ _ _ h (as-many (omega arith) (c .before .loop .inv .2 _ h))
+
+pub settled-spec : {M : Type 1} → statement M
+settled-spec =
+    tie.close
+    (tie.spec
+    Inv-loop
+    μ-loop
+    first-round-requires
+    loop-holds
+    next-round-requires
+    same-requires
+    returns
+    add-k
+    loop-less
+    loop-again
+    returns-2)

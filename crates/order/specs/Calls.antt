@@ -1,0 +1,58 @@
+-- What building and checking an order leaves, whole (01, Order; Refusals, 14, 15, 17 to 20 and 24).
+-- Assumes nothing.
+use Prim.Native.Nat.{ℕ, pred}
+use mathlib.Core.Bool.{cond, not, _||_}
+use mathlib.Core.List.{List, [], _∷_}
+use lib.Dec.{eqb, ltb}
+use lib.ListN.{length, getD, take}
+use Rattle.network.specs.Lists.{numbersFrom, below, keep, member}
+use Rattle.network.specs.Network.{Network}
+use Rattle.network.specs.Distance.{distances}
+use Rattle.network.specs.Order.{candidate, build}
+use Rattle.network.specs.Order as network
+use Rattle.stations.specs.declared.Answer.{Answer}
+use Rattle.stations.specs.declared.Topology.{Topology}
+use Rattle.stations.specs.Topology.{networkOf}
+use Rattle.soundness.specs.Sound.{sound}
+use Rattle.stations.specs.Outcome.{Outcome, turnedAway, given}
+use Rattle.order.specs.declared.Mode.{Mode}
+use Rattle.order.specs.declared.Mode.the-variants as mode
+
+-- the mode as the definitions have it
+unfoldable pub modeOf : Mode → network.Mode
+modeOf mode.ShortestPath = network.shortest-path
+modeOf mode.Free = network.free
+
+-- 14, 15, then 24 at N; else the order that we build, N bytes, the rest of a longer buffer staying
+unfoldable pub building : Topology → ℕ → Mode → List ℕ → Outcome
+building t d m buffer =
+    cond (sound t)
+    (cond (ltb d (t .routers)) (given (build (networkOf t) d (modeOf m)) buffer) (turnedAway 15 d buffer))
+    (turnedAway 14 0 buffer)
+
+-- an answer
+unfoldable pub says : ℕ → ℕ → Answer
+says number at = record { number = number; at = at }
+
+-- 18: the ranks whose entry is not below N, or stands before
+unfoldable pub wrongRanks : ℕ → List ℕ → List ℕ
+wrongRanks count order = keep (λ r. not (ltb (getD order r 0) count) || member (getD order r 0) (take r order)) (below (length order))
+
+-- 20: the ranks, but 0, whose router is no candidate when placed
+unfoldable pub unreadyRanks : Network → ℕ → network.Mode → List ℕ → List ℕ
+unreadyRanks n d m order = keep (λ r. not (candidate n (distances n d) m (take r order) (getD order r 0))) (numbersFrom 1 (pred (length order)))
+
+-- a test over the whole order: it points at the first rank that fails it, else the next test follows
+unfoldable pub atFirst : ℕ → List ℕ → Answer → Answer
+atFirst number [] next = next
+atFirst number (r ∷ rs) next = says number r
+
+-- 14, 15, 17 at the length, 18 at the rank, 19, and 20 at the first such rank, each over the whole order
+unfoldable pub checking : Topology → ℕ → Mode → List ℕ → Answer
+checking t d m order =
+    cond (not (sound t)) (says 14 0)
+    (cond (not (ltb d (t .routers))) (says 15 d)
+    (cond (not (eqb (length order) (t .routers))) (says 17 (length order))
+    (atFirst 18 (wrongRanks (t .routers) order)
+    (cond (not (eqb (getD order 0 0) d)) (says 19 0)
+    (atFirst 20 (unreadyRanks (networkOf t) d (modeOf m) order) (says 0 0))))))

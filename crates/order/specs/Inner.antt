@@ -1,0 +1,116 @@
+-- What the private functions ask of the slots that they go through, and what they make of them; only they rest on it, no open contract does.
+-- Router u has the slots from u * mostNeighbours on.
+-- Assumes nothing.
+use Prim.Native.Nat.{ℕ, _+_, _*_, _≤_, _<_}
+use mathlib.Core.Bool.{Bool, false, true, not, _&&_}
+use mathlib.Core.List.{List, map}
+use mathlib.Core.Option.{Option, none, some}
+use mathlib.Core.Path.{_≡_}
+use lib.Dec.{eqb, ltb}
+use lib.ListN.{length, getD, set, take, replicate}
+use Rattle.network.specs.Lists.{below, keep, leastBy, foremost, wins, member}
+use Rattle.network.specs.Network.{Network, size}
+use Rattle.network.specs.Distance.{distances}
+use Rattle.network.specs.Order.{placedNeighbours, shortestNextHops, leadsInto}
+use Rattle.stations.specs.Limits.{mostRouters, mostNeighbours}
+use Rattle.arcs.specs.declared.Arcs.{Arcs}
+use Rattle.order.specs.declared.Mode.{Mode}
+use Rattle.order.specs.declared.Mode.the-variants as mode
+use Rattle.order.specs.declared.State.{State}
+
+-- the most that an absent distance can be: for each router one more than the greatest cost
+abbrev pub farthest : ℕ
+farthest = mostRouters * 65536
+
+-- the place that slot j of u leads to
+unfoldable pub slotTo : List ℕ → ℕ → ℕ → ℕ
+slotTo to u j = getD to (u * mostNeighbours + j) 0
+
+-- what going along slot j of u costs in all
+unfoldable pub slotCost : List ℕ → List ℕ → List ℕ → ℕ → ℕ → ℕ
+slotCost to cost ds u j = getD cost (u * mostNeighbours + j) 0 + getD ds (slotTo to u j) 0
+
+-- slot j of u leads to a shortest next hop
+unfoldable pub slotShort : List ℕ → List ℕ → List ℕ → ℕ → ℕ → Bool
+slotShort to cost ds u j = eqb (slotCost to cost ds u j) (getD ds u 0)
+
+-- slots that lead to places, at costs up to 65535, network's `greatestCost`, with sums that fit 32 bits
+pub record Slots (to cost ds : List ℕ) (u count : ℕ) : Type 0 where
+  pub place : u < mostRouters
+  pub few : count ≤ mostNeighbours
+  pub leads : (j : ℕ) → j < count → slotTo to u j < mostRouters
+  pub cheap : (j : ℕ) → j < count → getD cost (u * mostNeighbours + j) 0 ≤ 65535
+  pub near : (v : ℕ) → v < mostRouters → getD ds v 0 ≤ farthest
+
+-- the same of the first n routers
+pub record AllSlots (a : Arcs) (n : ℕ) (ds : List ℕ) : Type 0 where
+  pub most : n ≤ mostRouters
+  pub long : length ds ≡ mostRouters
+  pub each : (u : ℕ) → u < n → Slots (a .to) (a .cost) ds u (getD (a .count) u 0)
+
+-- one round over the slots
+unfoldable pub roundIn : Arcs → ℕ → List ℕ → List ℕ
+roundIn a n ds = map (λ u. leastBy (slotCost (a .to) (a .cost) ds u) (getD ds u 0) (below (getD (a .count) u 0))) (below n)
+
+-- the distances to d in the first slots, and in no slot more than absent can be
+pub record Settled (n : Network) (d : ℕ) (ds : List ℕ) : Type 0 where
+  pub first : take (size n) ds ≡ distances n d
+  pub long : length ds ≡ mostRouters
+  pub near : (v : ℕ) → v < mostRouters → getD ds v 0 ≤ farthest
+
+-- in shortest-path mode the distances, in free mode zeros
+abbrev pub DistancesFor : Network → ℕ → Mode → List ℕ → Type 0
+DistancesFor n d mode.ShortestPath ds = Settled n d ds
+DistancesFor n d mode.Free ds = ds ≡ replicate mostRouters 0
+
+-- nothing is placed, and in shortest-path mode each router waits for as many as it has shortest next hops
+pub record Started (a : Arcs) (n : ℕ) (ds : List ℕ) (m : Mode) (s : State) : Type 0 where
+  pub placed-none : s .placed ≡ replicate mostRouters false
+  pub near-none : s .near ≡ replicate mostRouters 0
+  pub left-all : m ≡ mode.ShortestPath → (u : ℕ) → u < n →
+      getD (s .left) u 0 ≡ length (keep (slotShort (a .to) (a .cost) ds u) (below (getD (a .count) u 0)))
+
+-- u is an unplaced candidate, by the counters
+unfoldable pub readyIn : State → Mode → ℕ → Bool
+readyIn s mode.ShortestPath u = not (getD (s .placed) u false) && eqb (getD (s .left) u 0) 0
+readyIn s mode.Free u = not (getD (s .placed) u false) && ltb 0 (getD (s .near) u 0)
+
+-- u is taken rather than v: more placed neighbours, or as many and the higher ID
+unfoldable pub betterIn : State → List ℕ → ℕ → ℕ → Bool
+betterIn s ids u v = wins (getD (s .near) v 0) (getD (s .near) u 0) (getD ids u 0) (getD ids v 0)
+
+unfoldable pub placeOr : ℕ → Option ℕ → ℕ
+placeOr n none = n
+placeOr n (some u) = u
+
+-- the candidate that is taken, by the counters; n where there is none
+unfoldable pub chosen : State → Mode → List ℕ → ℕ → ℕ
+chosen s m ids n = placeOr n (foremost (betterIn s ids) (keep (readyIn s m) (below n)))
+
+-- how many of the first `count` slots of u lead to v, and how many of those make u a shortest next hop of v
+unfoldable pub leading : List ℕ → ℕ → ℕ → ℕ → ℕ
+leading to u count v = length (keep (λ j. eqb (slotTo to u j) v) (below count))
+
+unfoldable pub serving : List ℕ → List ℕ → List ℕ → ℕ → ℕ → ℕ → ℕ
+serving to cost ds u count v =
+    length (keep (λ j. eqb (slotTo to u j) v && eqb (getD cost (u * mostNeighbours + j) 0 + getD ds u 0) (getD ds v 0)) (below count))
+
+-- the counters have room for the router at u
+pub record Room (s : State) (to cost ds : List ℕ) (u count : ℕ) : Type 0 where
+  pub near-most : (v : ℕ) → v < mostRouters → getD (s .near) v 0 ≤ mostRouters
+  pub left-least : (v : ℕ) → v < mostRouters → serving to cost ds u count v ≤ getD (s .left) v 0
+
+-- the counters after the router at u is placed
+pub record Stepped (s : State) (to cost ds : List ℕ) (u count : ℕ) (r : State) : Type 0 where
+  pub placed-there : r .placed ≡ set (s .placed) u true
+  pub near-more : (v : ℕ) → v < mostRouters → getD (r .near) v 0 ≡ getD (s .near) v 0 + leading to u count v
+  pub left-less : (v : ℕ) → v < mostRouters → getD (r .left) v 0 + serving to cost ds u count v ≡ getD (s .left) v 0
+
+-- the counters are right for the routers that are placed: in shortest-path mode `left` is how many shortest next hops are not placed yet
+pub record Kept (n : Network) (ds : List ℕ) (m : Mode) (placed : List ℕ) (s : State) : Type 0 where
+  pub placed-long : length (s .placed) ≡ mostRouters
+  pub placed-is : (u : ℕ) → u < size n → getD (s .placed) u false ≡ member u placed
+  pub near-is : (u : ℕ) → u < size n → getD (s .near) u 0 ≡ placedNeighbours n placed u
+  pub near-past : (u : ℕ) → size n ≤ u → u < mostRouters → getD (s .near) u 0 ≡ 0
+  pub left-is : m ≡ mode.ShortestPath → (u : ℕ) → u < size n →
+      getD (s .left) u 0 ≡ length (keep (λ a. not (leadsInto placed a)) (shortestNextHops n ds u))

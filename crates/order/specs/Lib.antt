@@ -1,0 +1,4 @@
+pub mod Calls
+pub mod Proposed
+pub mod Inner
+pub mod Theorems

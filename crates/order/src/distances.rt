@@ -1,0 +1,106 @@
+// Distances to a destination, by rounds over the arcs of every router.
+use arcs::Arcs;
+use arcs::SLOTS;
+use stations::NEIGHBOURS;
+use stations::ROUTERS;
+use stations::Topology;
+ghost use mathlib.Core.Bool.{true};
+ghost use mathlib.Core.List.{_++_};
+ghost use mathlib.Core.Path.{_≡_};
+ghost use Prim.Native.Nat.{_*_, _<_, _≤_};
+ghost use lib.Dec.{T};
+ghost use lib.ListN.{take, drop, getD, set, replicate};
+ghost use Rattle.network.specs.Lists.{below, leastBy};
+ghost use Rattle.stations.specs.Limits.{mostRouters};
+ghost use Rattle.stations.specs.Topology.{networkOf};
+ghost use Rattle.soundness.specs.Sound.{sound};
+ghost use Rattle.arcs.specs.Arcs.{Holds};
+ghost use Rattle.order.specs.Inner.{Slots, slotCost, AllSlots, roundIn, Settled};
+
+// One more than the greatest cost: n times this is more than any path that visits no router of n twice.
+const STEP: u32 = 65536;
+
+// The least of what the router's distance was and what going to any of its neighbours costs in all.
+fn least<'a>(
+    to: &'a [u8; SLOTS],
+    cost: &'a [u16; SLOTS],
+    old: &'a [u32; ROUTERS],
+    u: usize,
+    count: usize,
+) -> u32
+    requires { ⌜ Slots (now to) (now cost) (now old) u count ⌝ }
+    ensures { λ r. ⌜ r ≡ leastBy (slotCost (now (to .entry)) (now (cost .entry)) (now (old .entry)) u) (getD (now (old .entry)) u 0) (below count) ⌝ }
+{
+    let first = u * NEIGHBOURS;
+    let mut best = old[u];
+    let mut j = count;
+    while 0 < j {
+        j -= 1;
+        let v = to[first + j] as usize;
+        let through = cost[first + j] as u32 + old[v];
+        if through < best {
+            best = through;
+        }
+    }
+    best
+}
+
+// One round: the least sums over paths of one arc more.
+fn next_round(a: Arcs, n: usize, old: [u32; ROUTERS]) -> [u32; ROUTERS]
+    requires { ⌜ AllSlots a n old ⌝ }
+    ensures { λ r. ⌜ r ≡ roundIn a n old ++ drop n old ⌝ }
+{
+    let mut next = old;
+    let mut u: usize = 0;
+    while u < n {
+        let count = a.count[u] as usize;
+        next[u] = least(&a.to, &a.cost, &old, u, count);
+        u += 1;
+    }
+    next
+}
+
+// Whether the first n of two rows of distances are the same.
+fn same(n: usize, a: [u32; ROUTERS], b: [u32; ROUTERS]) -> bool
+    requires { ⌜ n ≤ mostRouters ⌝ }
+    ensures { λ r. ⌜ (r ≡ true → take n a ≡ take n b) ⌝ }
+{
+    let mut u: usize = 0;
+    while u < n {
+        if a[u] != b[u] {
+            return false;
+        }
+        u += 1;
+    }
+    true
+}
+
+// Before the first round: 0 at the destination, absent elsewhere.
+fn first_round(n: usize, d: usize) -> [u32; ROUTERS]
+    requires { ⌜ (n ≤ mostRouters) × (d < mostRouters) ⌝ }
+    ensures { λ r. ⌜ r ≡ set (replicate mostRouters (n * 65536)) d 0 ⌝ }
+{
+    let absent = n as u32 * STEP;
+    let mut ds = [absent; ROUTERS];
+    ds[d] = 0;
+    ds
+}
+
+// The distances to d, by place: rounds until one changes nothing.
+pub(crate) fn settled(t: Topology, a: Arcs, d: usize) -> [u32; ROUTERS]
+    requires { ⌜ T (sound t) × Holds (networkOf t) a × (d < t .routers) ⌝ }
+    ensures { λ r. ⌜ Settled (networkOf t) d r ⌝ }
+{
+    let n = t.routers;
+    let mut ds = first_round(n, d);
+    let mut k: usize = 1;
+    while k < n {
+        let next = next_round(a, n, ds);
+        if same(n, ds, next) {
+            return ds;
+        }
+        ds = next;
+        k += 1;
+    }
+    ds
+}

@@ -1,0 +1,85 @@
+// Distances and orders (01, Order).
+use stations::Answer;
+use stations::Place;
+use stations::ROUTERS;
+use stations::Topology;
+
+mod distances;
+mod placing;
+mod proposal;
+pub mod unchecked;
+
+ghost use mathlib.Core.Path.{_≡_};
+ghost use Rattle.stations.specs.Outcome.{Outcome};
+ghost use Rattle.order.specs.Calls.{building, checking};
+
+// 01, Order: shortest-path mode is ANHOR-SP, free mode ANHOR.
+pub enum Mode {
+    ShortestPath,
+    Free,
+}
+
+// What is known while routers are placed, by place: whether it is placed; `near`, how many of its neighbours are placed, 001's c; and `left`, how
+// many of its shortest next hops are still to be placed, n_sp - c_sp in 001's counters (in free mode 0).
+pub struct State {
+    pub placed: [bool; ROUTERS],
+    pub near: [u8; ROUTERS],
+    pub left: [u8; ROUTERS],
+}
+
+// Builds the order for a destination: refusals 14, 15 and 24.
+pub fn build(t: Topology, destination: Place, mode: Mode, out: &mut [u8]) -> Answer
+    ensures { λ r. ⌜ record { answer = r; buffer = now (out .exit) } ≡ building t (destination .0) mode (now (out .entry)) ⌝ }
+{
+    if !soundness::is_sound(t) {
+        return Answer { number: 14, at: 0 };
+    }
+    let d = destination.index();
+    let n = t.routers;
+    if n <= d {
+        return Answer { number: 15, at: d };
+    }
+    if out.len() < n {
+        return Answer { number: 24, at: n };
+    }
+    unchecked::build(t, destination, mode, out);
+    Answer { number: 0, at: n }
+}
+
+// Checks a proposed order: refusals 14, 15 and 17 to 20.
+pub fn check(t: Topology, destination: Place, mode: Mode, order: &[u8]) -> Answer
+    ensures { λ r. ⌜ r ≡ checking t (destination .0) mode (now (order .entry)) ⌝ }
+{
+    if !soundness::is_sound(t) {
+        return Answer { number: 14, at: 0 };
+    }
+    let d = destination.index();
+    let n = t.routers;
+    if n <= d {
+        return Answer { number: 15, at: d };
+    }
+    if order.len() != n {
+        return Answer {
+            number: 17,
+            at: order.len(),
+        };
+    }
+    let wrong = proposal::wrong_rank(n, order);
+    if wrong < n {
+        return Answer {
+            number: 18,
+            at: wrong,
+        };
+    }
+    if order[0] != destination.0 {
+        return Answer { number: 19, at: 0 };
+    }
+    let unready = unchecked::unready_rank(t, destination, mode, order);
+    if unready < n {
+        return Answer {
+            number: 20,
+            at: unready,
+        };
+    }
+    Answer { number: 0, at: 0 }
+}
