@@ -1,0 +1,94 @@
+-- Each turn passes a line, or the part of one that goes on; the buffer keeps its length.
+-- Assumes nothing.
+use Prim.Native.Nat.{ℕ, _-_, _≤_}
+use mathlib.Core.List.{List}
+use mathlib.Core.Path.{_≡_, refl, ap, sym, _∙_}
+use native.Mathlib.Omega.{arith}
+use lib.ListN.{length, take, drop, length-drop}
+use lib.Seq.{length-take-le}
+use Rattle.console.specs.Lines.{newline}
+use Rattle.console.proofs.Scan.{to-end, before-length}
+use Rattle.console.proofs.take.Statement.{statement}
+use Rattle.console.proofs.take.Tie as tie
+
+abbrev Inv-loop : tie.InvT-loop
+Inv-loop line₀ text next₀ at₀ line next at = length line ≡ length line₀
+
+abbrev μ-loop : tie.MeasureT-loop
+μ-loop line₀ text next₀ at₀ line next at = length text - at
+
+-- the rest of the text, from where the turn begins
+abbrev rest : tie.After-width Inv-loop μ-loop → List ℕ
+rest c =
+    let text = c .before .before .before .before .before .before .args .text .now in
+    let at = c .before .before .before .loop .at in
+    take (length text - at) (drop at text)
+
+-- the part that is passed is within it
+short : (c : tie.After-width Inv-loop μ-loop) → c .width .result ≤ length (rest c)
+short c = omega (arith, c .width .ensures, before-length newline (rest c))
+
+within : (c : tie.After-width Inv-loop μ-loop) → c .width .result ≤ length (c .before .before .before .before .before .before .args .text .now)
+within c =
+    let text = c .before .before .before .before .before .before .args .text .now in
+    let at = c .before .before .before .loop .at in
+    omega (arith, short c, ap length (to-end text at), length-drop at text)
+
+loop-holds : tie.Need-loop-holds Inv-loop μ-loop
+loop-holds c = refl
+
+sub-rest : tie.Need-sub-rest Inv-loop μ-loop
+sub-rest c = omega arith
+
+part-rest-start : tie.Need-part-rest-start Inv-loop μ-loop
+part-rest-start c = omega arith
+
+part-rest-end : tie.Need-part-rest-end Inv-loop μ-loop
+part-rest-end c = omega arith
+
+width-requires : tie.Need-width-requires Inv-loop μ-loop
+width-requires c κs = tt
+
+slice-aggregate-take-part : tie.Need-slice-aggregate-take-part Inv-loop μ-loop
+slice-aggregate-take-part c = sym (length-take-le _ _ (short (c .before .before)))
+
+take-part-requires : tie.Need-take-part-requires Inv-loop μ-loop
+take-part-requires c κs = omega arith
+
+add-at : tie.Need-add-at Inv-loop μ-loop
+add-at c = omega (arith, within (c .before .before .before .before .before))
+
+add-at-2 : tie.Need-add-at-2 Inv-loop μ-loop
+add-at-2 c = omega (arith, within (c .before .before .before .before .before))
+
+loop-less : tie.Need-loop-less Inv-loop μ-loop
+loop-less c = omega arith
+
+loop-again : tie.Need-loop-again Inv-loop μ-loop
+loop-again c = c .before .before .take-part .kept .1 .0 ∙ c .before .before .before .before .before .before .before .before .loop .inv
+
+same-length : tie.Need-same-length Inv-loop μ-loop
+same-length c = c .before .loop .inv
+
+returns : tie.Need-returns Inv-loop μ-loop
+returns c = tt
+
+pub take-spec : {M : Type 1} → statement M
+take-spec =
+    tie.close
+    (tie.spec
+    Inv-loop
+    μ-loop
+    loop-holds
+    sub-rest
+    part-rest-start
+    part-rest-end
+    width-requires
+    slice-aggregate-take-part
+    take-part-requires
+    add-at
+    add-at-2
+    loop-less
+    loop-again
+    same-length
+    returns)
