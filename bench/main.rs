@@ -1,0 +1,116 @@
+//! What bench/run times beside the proved program: the same work in plain Rust, and plain Dijkstra. Both take the proved program's input: the mode, how
+//! often, and a topology stream.
+mod plain;
+
+use plain::{Link, Mode, Topology, LINKS, ROUTERS};
+use std::io::{Read, Write};
+
+/// A ring of 64 in which each router is linked to the next four, all at cost 1: 256 links, and many equal paths.
+fn ring() -> Vec<(u8, u8, u16)> {
+    (0..64u32).flat_map(|u| (1..5).map(move |k| (u as u8, ((u + k) % 64) as u8, 1))).collect()
+}
+
+/// A random network of 64: a random tree, and then random links up to 256, at most 16 neighbours to a router, costs 1 to 65,535.
+fn random() -> Vec<(u8, u8, u16)> {
+    let mut seed: u64 = 42;
+    let mut next = |n: u64| {
+        seed = seed.wrapping_mul(6364136223846793005).wrapping_add(1442695040888963407);
+        (seed >> 33) % n
+    };
+    let mut links: Vec<(u8, u8, u16)> = Vec::new();
+    let mut degree = [0; 64];
+    while links.len() < 256 {
+        let built = links.len() as u64 + 1;
+        let (a, b) = if built < 64 { (built, next(built)) } else { (next(64), next(64)) };
+        let (a, b) = (a as u8, b as u8);
+        let there = links.iter().any(|l| (l.0, l.1) == (a, b) || (l.1, l.0) == (a, b));
+        if a == b || there || degree[a as usize] == 16 || degree[b as usize] == 16 {
+            continue;
+        }
+        degree[a as usize] += 1;
+        degree[b as usize] += 1;
+        links.push((a, b, next(65535) as u16 + 1));
+    }
+    links
+}
+
+fn input(mode: u8, times: u16, links: &[(u8, u8, u16)]) -> Vec<u8> {
+    let mut bytes = vec![mode, (times >> 8) as u8, times as u8];
+    for id in 1..65u32 {
+        bytes.push(1);
+        bytes.extend(id.wrapping_mul(2654435761).to_be_bytes());
+    }
+    for &(a, b, cost) in links {
+        bytes.extend([2, a, b]);
+        bytes.extend(cost.to_be_bytes());
+    }
+    bytes.push(3);
+    bytes
+}
+
+/// The topology of a stream that is known to be sound.
+fn topology(stream: &[u8]) -> Topology {
+    let none = Link { first: 0, second: 0, cost: 0 };
+    let mut t = Topology { routers: 0, links: 0, limit: 16, id: [0; ROUTERS], link: [none; LINKS] };
+    for record in stream.chunks(5) {
+        match record[0] {
+            1 => {
+                t.id[t.routers] = u32::from_be_bytes([record[1], record[2], record[3], record[4]]);
+                t.routers += 1;
+            }
+            2 => {
+                t.link[t.links] = Link { first: record[1], second: record[2], cost: u16::from_be_bytes([record[3], record[4]]) };
+                t.links += 1;
+            }
+            _ => {}
+        }
+    }
+    t
+}
+
+fn added(sum: u32, byte: u8) -> u32 {
+    (sum * 31 + byte as u32) % 65521
+}
+
+fn orders(t: &Topology, mode: Mode, times: u32) -> u32 {
+    let mut sum = 0;
+    for _ in 0..times {
+        for d in 0..ROUTERS as u8 {
+            let mut out = [0u8; ROUTERS];
+            plain::build(t, d, mode, &mut out);
+            sum = out.iter().fold(sum, |s, &b| added(s, b));
+        }
+    }
+    sum
+}
+
+fn next_hops(t: &Topology, times: u32) -> u32 {
+    let mut sum = 0;
+    for _ in 0..times {
+        let a = plain::arcs_of(t);
+        for d in 0..ROUTERS {
+            let (_, hops) = plain::ecmp(&a, t.routers, d);
+            sum = hops.iter().fold(sum, |s, &h| added(s, h as u8));
+        }
+    }
+    sum
+}
+
+fn main() {
+    let args: Vec<String> = std::env::args().collect();
+    if args[1] == "input" {
+        let links = if args[2] == "ring" { ring() } else { random() };
+        let times: u16 = args[4].parse().expect("a number");
+        std::io::stdout().write_all(&input(args[3].as_bytes()[0], times, &links)).expect("standard output");
+        return;
+    }
+    let mut bytes = Vec::new();
+    std::io::stdin().read_to_end(&mut bytes).expect("standard input");
+    let mode = if bytes[0] == b's' { Mode::ShortestPath } else { Mode::Free };
+    let times = u32::from(bytes[1]) * 256 + u32::from(bytes[2]);
+    let t = topology(&bytes[3..]);
+    match args[1].as_str() {
+        "plain" => println!("{}", orders(&t, mode, times)),
+        _ => println!("{}", next_hops(&t, times)),
+    }
+}
