@@ -61,12 +61,14 @@ apart-listed c u m = below-lt (length (c .ids)) (mem-keep _ (below (length (c .i
 abbrev pub from-zeros : Topology → Bool
 from-zeros t = every (eqb 0) (drop (t .routers) (t .id)) && every isNoLink (drop (t .links) (t .link))
 
-abbrev pub from-uncrowded : Topology → Bool
-from-uncrowded t = uncrowded t && (connected t && from-zeros t)
+abbrev pub from-connected : Topology → Bool
+from-connected t = connected t && from-zeros t
+
+abbrev pub neighbours-fit : Topology → Bool
+neighbours-fit t = pairs-apart (contents t .links) && uncrowded t
 
 abbrev pub from-ids : Topology → Bool
-from-ids t =
-    distinct (contents t .ids) && (links-sound (t .routers) (contents t .links) && (pairs-apart (contents t .links) && from-uncrowded t))
+from-ids t = distinct (contents t .ids) && (links-sound (t .routers) (contents t .links) && (neighbours-fit t && from-connected t))
 
 module _ (t : Topology) (vs : List Val) (good : Is the-row t vs) where
   slots : slotted t ≡ true
@@ -84,9 +86,9 @@ module _ (t : Topology) (vs : List Val) (good : Is the-row t vs) where
   past-limits e = rw (listed (limits-counted t e), slots, e) (simp (and-assoc, and-true))
 
   pub well-linked : Counted t → distinct (contents t .ids) ≡ true → links-sound (t .routers) (contents t .links) ≡ true →
-      pairs-apart (contents t .links) ≡ true → T (wellLinked t)
+      neighbours-fit t ≡ true → T (wellLinked t)
   unfolding wellLinked soundLinks
-  well-linked counted ids links pairs = rw (listed counted, ids, links, pairs) tt
+  well-linked counted ids links fit = rw (listed counted, ids, links) (both (pairs-apart (contents t .links)) (uncrowded t) (subst T (sym fit) tt) .0)
 
   -- the first place that is apart is below the number of routers, if there is one
   pub all-joined : Counted t → t .routers ≤ firstOr (t .routers) (apart (contents t)) → connected t ≡ true

@@ -20,10 +20,7 @@ pub fn is_sound(t: Topology) -> bool
     if !testing::links_join(t) {
         return false;
     }
-    if !testing::pairs_differ(t) {
-        return false;
-    }
-    if !testing::uncrowded(t) {
+    if !testing::neighbours_fit(t) {
         return false;
     }
     if unchecked::lowest_apart(t) < t.routers {

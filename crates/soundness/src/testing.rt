@@ -1,10 +1,11 @@
-// The tests behind refusal 14, one function each.
+// The tests behind refusal 14.
 use super::unchecked;
 use stations::LINKS;
 use stations::NEIGHBOURS;
 use stations::NEXT_HOPS;
 use stations::ROUTERS;
 use stations::Topology;
+ghost use mathlib.Core.Bool.{_&&_};
 ghost use mathlib.Core.List.{map};
 ghost use mathlib.Core.Path.{_≡_};
 ghost use lib.Dec.{eqb};
@@ -81,13 +82,14 @@ pub(crate) fn links_join(t: Topology) -> bool
     true
 }
 
-// A table of pairs of places holds the pairs that are linked so far, each in both orders.
-pub(crate) fn pairs_differ(t: Topology) -> bool
+// A table of pairs of places holds the pairs that are linked so far, each in both orders; beside it each place has the number of neighbours so far.
+pub(crate) fn neighbours_fit(t: Topology) -> bool
     requires { ⌜ Joining t ⌝ }
-    ensures { λ r. ⌜ r ≡ pairsDiffer (map seen (contents t .links)) ⌝ }
+    ensures { λ r. ⌜ r ≡ (pairsDiffer (map seen (contents t .links)) && said.uncrowded t) ⌝ }
 {
     let links = t.links;
     let mut linked = [false; ROUTERS * ROUTERS];
+    let mut count = [0usize; ROUTERS];
     let mut i: usize = 0;
     while i < links {
         let l = t.link[i];
@@ -98,23 +100,6 @@ pub(crate) fn pairs_differ(t: Topology) -> bool
         }
         linked[first * ROUTERS + second] = true;
         linked[second * ROUTERS + first] = true;
-        i += 1;
-    }
-    true
-}
-
-// A table of places counts the neighbours that the links so far give to each.
-pub(crate) fn uncrowded(t: Topology) -> bool
-    requires { ⌜ Joining t ⌝ }
-    ensures { λ r. ⌜ r ≡ said.uncrowded t ⌝ }
-{
-    let links = t.links;
-    let mut count = [0usize; ROUTERS];
-    let mut i: usize = 0;
-    while i < links {
-        let l = t.link[i];
-        let first = l.first.index();
-        let second = l.second.index();
         let at_first = count[first];
         let at_second = count[second];
         if NEIGHBOURS <= at_first {

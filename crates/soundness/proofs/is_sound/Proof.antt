@@ -8,11 +8,11 @@ use lib.Dec.{T}
 use Rattle.network.specs.Lists.{distinct}
 use Rattle.stations.specs.Topology.{contents}
 use Rattle.stations.specs.Inner.{Counted}
-use Rattle.soundness.specs.Sound.{inLimits, uncrowded, sound}
+use Rattle.soundness.specs.Sound.{inLimits, sound}
 use Rattle.soundness.specs.Inner.{Joining}
-use Rattle.soundness.proofs.Links.{links-sound, pairs-apart}
-use Rattle.soundness.proofs.InTurn.{limits-counted, limits-some, from-ids, from-uncrowded, from-zeros, past-limits, well-linked, some-apart}
-use Rattle.soundness.proofs.InTurn.{all-joined}
+use Rattle.soundness.proofs.Links.{links-sound}
+use Rattle.soundness.proofs.InTurn.{limits-counted, limits-some, neighbours-fit, from-ids, from-connected, from-zeros}
+use Rattle.soundness.proofs.InTurn.{past-limits, well-linked, some-apart, all-joined}
 use Rattle.soundness.proofs.is_sound.Statement.{statement}
 use Rattle.soundness.proofs.is_sound.Tie as tie
 
@@ -35,14 +35,14 @@ links c = sym (c .before .links-join .ensures) ∙ not-false _ (c .if3 .left)
 joining : (c : tie.Else3) → Joining (c .before .before .before .before .before .before .args .t)
 joining c = record { counted = counted (c .before .before .before .before); join = subst T (sym (links c)) tt }
 
-pairs : (c : tie.Else4) → pairs-apart (contents (c .before .before .before .before .before .before .before .before .args .t) .links) ≡ true
-pairs c = sym (c .before .pairs-differ .ensures) ∙ not-false _ (c .if4 .left)
+fit : (c : tie.Else4) → neighbours-fit (c .before .before .before .before .before .before .before .before .args .t) ≡ true
+fit c = sym (c .before .neighbours-fit .ensures) ∙ not-false _ (c .if4 .left)
 
-left-4 : (c : tie.Else4) → let t = c .before .before .before .before .before .before .before .before .args .t in sound t ≡ from-uncrowded t
+left-4 : (c : tie.Else4) → let t = c .before .before .before .before .before .before .before .before .args .t in sound t ≡ from-connected t
 left-4 c =
     let l = c .before .before in
     let i = l .before .before in
-    left-1 (i .before .before) ∙ rw (ids i, links l, pairs c)
+    left-1 (i .before .before) ∙ rw (ids i, links l, fit c)
 
 in-limits-requires : tie.Need-in-limits-requires
 in-limits-requires c κs = search needs
@@ -65,46 +65,34 @@ returns-3 c =
     let i = c .before .before in
     sym (left-1 (i .before .before) ∙ rw (ids i, sym (c .before .links-join .ensures) ∙ not-true _ (c .if3 .taken)))
 
-pairs-differ-requires : tie.Need-pairs-differ-requires
-pairs-differ-requires c κs = joining c
+neighbours-fit-requires : tie.Need-neighbours-fit-requires
+neighbours-fit-requires c κs = joining c
 
 returns-4 : tie.Need-returns-4
 returns-4 c =
     let l = c .before .before in
     let i = l .before .before in
-    sym (left-1 (i .before .before) ∙ rw (ids i, links l, sym (c .before .pairs-differ .ensures) ∙ not-true _ (c .if4 .taken)))
-
-uncrowded-requires : tie.Need-uncrowded-requires
-uncrowded-requires c κs = joining (c .before .before)
-
-returns-5 : tie.Need-returns-5
-returns-5 c = sym (left-4 (c .before .before) ∙ rw (sym (c .before .uncrowded .ensures) ∙ not-true _ (c .if5 .taken)))
+    sym (left-1 (i .before .before) ∙ rw (ids i, links l, sym (c .before .neighbours-fit .ensures) ∙ not-true _ (c .if4 .taken)))
 
 lowest-apart-requires : tie.Need-lowest-apart-requires
 lowest-apart-requires c κs =
-    let p = c .before .before in
-    let l = p .before .before in
+    let l = c .before .before in
     let i = l .before .before in
     let s = i .before .before in
-    (counted s, well-linked _ _ (s .before .before .good .0) (counted s) (ids i) (links l) (pairs p), limits-some _ (limits s))
+    (counted s, well-linked _ _ (s .before .before .good .0) (counted s) (ids i) (links l) (fit c), limits-some _ (limits s))
 
-room : (c : tie.Else5) → uncrowded (c .before .before .before .before .before .before .before .before .before .before .args .t) ≡ true
-room c = sym (c .before .uncrowded .ensures) ∙ not-false _ (c .if5 .left)
+returns-5 : tie.Need-returns-5
+returns-5 c =
+    sym (left-4 (c .before .before .before) ∙ rw (some-apart _ (rw (c .before .before .lowest-apart .ensures) at (c .if5 .taken))))
 
-returns-6 : tie.Need-returns-6
-returns-6 c =
-    let r = c .before .before .before in
-    sym (left-4 (r .before .before) ∙ rw (room r, some-apart _ (rw (c .before .before .lowest-apart .ensures) at (c .if6 .taken))))
+abbrev start : tie.Else5 → tie.Else1
+start c = c .before .before .before .before .before .before .before .before .before
 
-abbrev start : tie.Else6 → tie.Else1
-start c = c .before .before .before .before .before .before .before .before .before .before .before
-
-left-6 : (c : tie.Else6) → let t = start c .before .before .args .t in sound t ≡ from-zeros t
-left-6 c =
-    let r = c .before .before .before in
+left-5 : (c : tie.Else5) → let t = start c .before .before .args .t in sound t ≡ from-zeros t
+left-5 c =
     let s = start c in
-    left-4 (r .before .before)
-    ∙ rw (room r, all-joined _ _ (s .before .before .good .0) (counted s) (rw (c .before .before .lowest-apart .ensures) at (c .if6 .left)))
+    left-4 (c .before .before .before)
+    ∙ rw (all-joined _ _ (s .before .before .good .0) (counted s) (rw (c .before .before .lowest-apart .ensures) at (c .if5 .left)))
 
 ids-end-requires : tie.Need-ids-end-requires
 ids-end-requires c κs = counted (start c)
@@ -112,13 +100,13 @@ ids-end-requires c κs = counted (start c)
 links-end-requires : tie.Need-links-end-requires
 links-end-requires c κs = counted (start (c .before .before))
 
-returns-7 : tie.Need-returns-7
-returns-7 c =
+returns-6 : tie.Need-returns-6
+returns-6 c =
     let e = c .before in
-    c .links-end .ensures ∙ sym (left-6 (e .before .before) ∙ rw (sym (e .before .ids-end .ensures) ∙ e .if7 .taken))
+    c .links-end .ensures ∙ sym (left-5 (e .before .before) ∙ rw (sym (e .before .ids-end .ensures) ∙ e .if6 .taken))
 
-returns-8 : tie.Need-returns-8
-returns-8 c = c .if7 .left ∙ sym (left-6 (c .before .before) ∙ rw (sym (c .before .ids-end .ensures) ∙ c .if7 .left))
+returns-7 : tie.Need-returns-7
+returns-7 c = c .if6 .left ∙ sym (left-5 (c .before .before) ∙ rw (sym (c .before .ids-end .ensures) ∙ c .if6 .left))
 
 pub is-sound-spec : {M : Type 1} → statement M
 is-sound-spec =
@@ -130,13 +118,11 @@ is-sound-spec =
     returns-2
     links-join-requires
     returns-3
-    pairs-differ-requires
+    neighbours-fit-requires
     returns-4
-    uncrowded-requires
-    returns-5
     lowest-apart-requires
-    returns-6
+    returns-5
     ids-end-requires
     links-end-requires
-    returns-7
-    returns-8)
+    returns-6
+    returns-7)
