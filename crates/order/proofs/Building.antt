@@ -2,12 +2,13 @@
 -- is selected, since the order has length N; that one is chosen.
 -- Assumes nothing.
 use Prim.Native.Nat.{ℕ, suc, _+_, _-_, _≤_, _<_}
+use mathlib.Core.Bool.{false}
 use mathlib.Core.List.{List, [], _∷_, _++_, List·Memᴰ·not-nil, append-nil}
 use mathlib.Core.Option.{Option, none, some}
 use mathlib.Core.Path.{_≡_, refl, sym, ap, _∙_}
 use native.Mathlib.Numerals.{add-one}
 use native.Mathlib.Omega.{arith}
-use lib.ListN.{length, getD, set, drop, length-append, length-drop, length-set}
+use lib.ListN.{length, getD, set, drop, replicate, length-append, length-drop, length-set}
 use lib.Seq.{drop-cons, drop-set-lt, set-split, set-at, append-snoc}
 use Rattle.network.specs.Network.{Network, size}
 use Rattle.network.specs.Distance.{distances}
@@ -19,9 +20,8 @@ use Rattle.stations.specs.declared.Topology.{Topology}
 use Rattle.stations.specs.Topology.{networkOf}
 use Rattle.arcs.specs.declared.Arcs.{Arcs}
 use Rattle.order.specs.declared.Mode as own
-use Rattle.order.specs.declared.State.{State}
 use Rattle.order.specs.Calls.{modeOf}
-use Rattle.order.specs.Inner.{chosen, placeOr, Room, Started, Stepped, Kept}
+use Rattle.order.specs.Inner.{chosen, placeOr, Waits, State, state, Room, Stepped, Kept}
 use Rattle.order.proofs.Reached.{built-long}
 use Rattle.order.proofs.Turn.{Given, facts, begun, chosen-one, room, placed-too}
 
@@ -60,14 +60,14 @@ module _ {t : Topology} {a : Arcs} {d : ℕ} {m : own.Mode} {ds first out : List
   goes-on = let one : t .routers - rank ≡ suc (t .routers - (rank + 1)) = omega arith in rw one at (b .goes-on)
 
   -- the order has length N, so some router is selected, and that one is chosen
-  taken : (o : Option ℕ) → selected ≡ o → selected ≡ some (chosen s m (t .id) (t .routers))
+  taken : (o : Option ℕ) → selected ≡ o → selected ≡ some (chosen s (t .id) (t .routers))
   unfolding continued placeOr selected
   taken none e =
       let whole = built-long t (b .given .is-sound) d (b .given .place) (modeOf m) in
       absurd (omega (arith, whole, ap length (rw (e, append-nil) at goes-on), b .long))
   taken (some u) e = e ∙ ap some (sym (chosen-one (b .given) (b .right) ∙ ap (placeOr (t .routers)) e))
 
-  module _ {u : ℕ} (e : u ≡ chosen s m (t .id) (t .routers)) where
+  module _ {u : ℕ} (e : u ≡ chosen s (t .id) (t .routers)) where
     picked : selected ≡ some u
     picked = rw e (taken selected refl)
 
@@ -78,10 +78,10 @@ module _ {t : Topology} {a : Arcs} {d : ℕ} {m : own.Mode} {ds first out : List
     pub place : u < t .routers
     place = omega (arith, starts-in n (facts (b .given) .well-formed) d (inside (b .given .place)) (candidate .path), facts (b .given) .routers)
 
-    pub has-room : Room s (a .to) (a .cost) ds u (getD (a .count) u 0)
+    pub has-room : Room s (a .to) (a .cost) ds m u (getD (a .count) u 0)
     has-room = room (b .given) (b .right) place (candidate .unplaced)
 
-    pub again : {r : State} → Stepped s (a .to) (a .cost) ds u (getD (a .count) u 0) r → Building t a d m ds first (set out rank u) r (rank + 1)
+    pub again : {r : State} → Stepped s (a .to) (a .cost) ds m u (getD (a .count) u 0) r → Building t a d m ds first (set out rank u) r (rank + 1)
     unfolding then continued
     again step =
         let inside : rank < length first = omega (arith, b .room) in
@@ -99,8 +99,8 @@ module _ {t : Topology} {a : Arcs} {d : ℕ} {m : own.Mode} {ds first out : List
 
 module _ {t : Topology} {a : Arcs} {d : ℕ} {m : own.Mode} {ds : List ℕ} (first : List ℕ) {x : ℕ} (same : d ≡ x) where
   -- after d is placed
-  pub first-turn : {s r : State} → Given t a d m ds → t .routers ≤ length first → Started a (t .routers) ds m s →
-      Stepped s (a .to) (a .cost) ds d (getD (a .count) d 0) r → Building t a d m ds (set first 0 x) (set first 0 x) r 1
+  pub first-turn : {left : List ℕ} {r : State} → Given t a d m ds → t .routers ≤ length first → Waits a (t .routers) ds m left →
+      Stepped (state (replicate 64 false) (replicate 64 0) left) (a .to) (a .cost) ds m d (getD (a .count) d 0) r → Building t a d m ds (set first 0 x) (set first 0 x) r 1
   unfolding build
   first-turn g enough start step =
       let some-place : 0 < length first = omega (arith, g .place) in

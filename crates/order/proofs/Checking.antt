@@ -7,7 +7,7 @@ use mathlib.Core.Path.{_≡_, sym, _∙_}
 use native.Mathlib.Decide.{ℕ-discrete}
 use native.Mathlib.Numerals.{add-one}
 use native.Mathlib.Omega.{arith}
-use lib.ListN.{length, getD, take}
+use lib.ListN.{length, getD, take, replicate}
 use lib.Seq.{take-suc}
 use Rattle.network.specs.Distance.{distances}
 use Rattle.network.specs.Order.{candidate}
@@ -16,10 +16,9 @@ use Rattle.stations.specs.Topology.{networkOf}
 use Rattle.stations.specs.Inner.{firstOr}
 use Rattle.arcs.specs.declared.Arcs.{Arcs}
 use Rattle.order.specs.declared.Mode.{Mode}
-use Rattle.order.specs.declared.State.{State}
 use Rattle.order.specs.Calls.{modeOf, unreadyRanks}
 use Rattle.order.specs.Proposed.{Proposed}
-use Rattle.order.specs.Inner.{readyIn, Room, Started, Stepped, Kept}
+use Rattle.order.specs.Inner.{readyIn, Waits, State, state, Room, Stepped, Kept}
 use Rattle.order.proofs.Ranges.{keep-none, keep-first}
 use Rattle.order.proofs.Entries.{entry-right}
 use Rattle.order.proofs.Turn.{Given, begun, is-candidate, room, placed-too}
@@ -52,11 +51,11 @@ module _ {t : Topology} {a : Arcs} {d : ℕ} {m : Mode} {ds order : List ℕ} {s
     pub place : getD order rank 0 < t .routers
     place = here .0
 
-    pub has-room : Room s (a .to) (a .cost) ds (getD order rank 0) (getD (a .count) (getD order rank 0) 0)
+    pub has-room : Room s (a .to) (a .cost) ds m (getD order rank 0) (getD (a .count) (getD order rank 0) 0)
     has-room = room (w .given) (w .right) place (here .1)
 
     -- this one is not a candidate
-    pub unready : readyIn s m (getD order rank 0) ≡ false → rank ≡ firstOr (t .routers) (unreadyRanks (networkOf t) d (modeOf m) order)
+    pub unready : readyIn s (getD order rank 0) ≡ false → rank ≡ firstOr (t .routers) (unreadyRanks (networkOf t) d (modeOf m) order)
     unfolding unreadyRanks
     unready e =
         sym
@@ -69,8 +68,8 @@ module _ {t : Topology} {a : Arcs} {d : ℕ} {m : Mode} {ds order : List ℕ} {s
         }))
 
     -- this one is a candidate
-    pub again : {r : State} → readyIn s m (getD order rank 0) ≡ true →
-        Stepped s (a .to) (a .cost) ds (getD order rank 0) (getD (a .count) (getD order rank 0) 0) r → Checking t a d m ds order r (rank + 1)
+    pub again : {r : State} → readyIn s (getD order rank 0) ≡ true →
+        Stepped s (a .to) (a .cost) ds m (getD order rank 0) (getD (a .count) (getD order rank 0) 0) r → Checking t a d m ds order r (rank + 1)
     again e step =
         let inside : rank < length order = omega (arith, w .proposed .long) in
         record {
@@ -87,8 +86,8 @@ module _ {t : Topology} {a : Arcs} {d : ℕ} {m : Mode} {ds order : List ℕ} {s
         so-far-too r h (yes e′) k = rw e′ (sym (is-candidate (w .given) (w .right) place) ∙ e)
         so-far-too r h (no apart) k = w .so-far r h (omega arith)
 
-pub first-turn : {t : Topology} {a : Arcs} {d : ℕ} {m : Mode} {ds order : List ℕ} {s r : State} → Given t a d m ds → Proposed t d order →
-    Started a (t .routers) ds m s → Stepped s (a .to) (a .cost) ds d (getD (a .count) d 0) r → Checking t a d m ds order r 1
+pub first-turn : {t : Topology} {a : Arcs} {d : ℕ} {m : Mode} {ds order left : List ℕ} {r : State} → Given t a d m ds → Proposed t d order →
+    Waits a (t .routers) ds m left → Stepped (state (replicate 64 false) (replicate 64 0) left) (a .to) (a .cost) ds m d (getD (a .count) d 0) r → Checking t a d m ds order r 1
 first-turn {order} g p start step =
     let inside : 0 < length order = omega (arith, p .long, p .place) in
     record {

@@ -81,14 +81,6 @@ module _ {n : Network} {a : Arcs} (g : Setting n a) where
       sym (in-slots u h (λ b. eqb (b .to) v && eqb (b .cost + getD ds u 0) (getD ds v 0)))
       ∙ none-kept _ (arcsOf n u) (λ (b, m, t). omega (arith, eqb→eq (b .to) v (both (eqb (b .to) v) _ t .0), g .formed .sound u b m .place))
 
-  -- u serves no router that is no farther, since costs are at least 1
-  pub serving-none : (ds : List ℕ) (u v : ℕ) → u < size n → getD ds v 0 ≤ getD ds u 0 → serving (a .to) (a .cost) ds u (getD (a .count) u 0) v ≡ 0
-  unfolding serving slotTo slotArc
-  serving-none ds u v h near =
-      sym (in-slots u h (λ b. eqb (b .to) v && eqb (b .cost + getD ds u 0) (getD ds v 0)))
-      ∙ none-kept _ (arcsOf n u)
-      (λ (b, m, t). omega (arith, eqb→eq (b .cost + getD ds u 0) (getD ds v 0) (both (eqb (b .to) v) _ t .1), g .formed .sound u b m .cost-least))
-
   -- before any router is placed, each waits for as many as its slots lead to
   pub waiting-first : (ds slots : List ℕ) → Agrees n ds slots → (u : ℕ) → u < size n →
       waiting n ds [] u ≡ length (keep (slotShort (a .to) (a .cost) slots u) (below (getD (a .count) u 0)))

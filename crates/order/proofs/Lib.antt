@@ -13,7 +13,6 @@ pub mod Stored
 pub mod Marked
 pub mod Chosen
 pub mod Stepping
-pub mod Machine
 pub mod Ranges
 pub mod Reached
 pub mod Entries

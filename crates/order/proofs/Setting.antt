@@ -7,7 +7,7 @@ use mathlib.Core.Path.{_≡_, refl, _∙_}
 use native.Mathlib.Nat.{not-suc-le-zero, le-of-suc-le-suc}
 use native.Mathlib.Omega.{arith}
 use lib.Dec.{T}
-use lib.ListN.{length, getD, replicate}
+use lib.ListN.{length, getD}
 use lib.Seq.{getD-take}
 use Rattle.network.specs.Network.{Network, size, idOf, arcsOf, WellFormed, linked}
 use Rattle.network.specs.Distance.{absent, distanceIn, distances}
@@ -46,14 +46,9 @@ unfolding distanceIn
 settled-agrees {n} {d} {slots} most s u h =
     rw (← s .first) (getD-take (size n) slots u (absent n) h ∙ getD-within slots u (absent n) 0 (omega (arith, s .long)))
 
--- the distances that the code goes by: in shortest-path mode those of the network, in free mode zeros
+-- the distances that the code goes by: in shortest-path mode those of the network
 pub record GoneBy (n : Network) (ds : List ℕ) (m : Mode) (slots : List ℕ) : Type 0 where
   pub shortest : m ≡ mode.ShortestPath → Agrees n ds slots
-  pub free : m ≡ mode.Free → slots ≡ replicate 64 0
-
-pub gone-by : {n : Network} {d : ℕ} {m : Mode} {slots : List ℕ} → size n ≤ 64 → (m ≡ mode.ShortestPath → Settled n d slots) →
-    (m ≡ mode.Free → slots ≡ replicate 64 0) → GoneBy n (distances n d) m slots
-gone-by most settled free = record { shortest = λ e. settled-agrees most (settled e); free = free }
 
 module _ {t : Topology} (w : SoundNetwork t) where
   pub topology-setting : Sound t → {a : Arcs} → Holds (networkOf t) a → Setting (networkOf t) a

@@ -1,6 +1,7 @@
 -- What the functions that place routers share: the slots that they go through are sound, and the counters stay right from turn to turn.
 -- Assumes nothing.
 use Prim.Native.Nat.{ℕ, _+_, _*_, _≤_, _<_}
+use mathlib.Core.Bool.{false}
 use mathlib.Core.List.{List, [], _∷_, _++_, List·Memᴰ}
 use mathlib.Core.Path.{_≡_}
 use native.Mathlib.Omega.{arith}
@@ -19,12 +20,11 @@ use Rattle.arcs.proofs.Links.{links-of}
 use Rattle.arcs.proofs.Use.{count-is, to-is, cost-is}
 use Rattle.order.specs.declared.Mode.{Mode}
 use Rattle.order.specs.declared.Mode.the-variants as mode
-use Rattle.order.specs.declared.State.{State}
 use Rattle.order.specs.Calls.{modeOf}
-use Rattle.order.specs.Inner.{slotTo, Slots, AllSlots, Settled, DistancesFor, Started, readyIn, chosen, placeOr, Room, Stepped, Kept}
+use Rattle.order.specs.Inner.{slotTo, Slots, AllSlots, Settled, DistancesFor, Waits, State, state, readyIn, chosen, placeOr, Room, Stepped, Kept}
 use Rattle.soundness.proofs.Sound.{sound-exact, sound-networks}
 use Rattle.order.proofs.Ranges.{getD-mem}
-use Rattle.order.proofs.Setting.{Setting, GoneBy, gone-by, topology-setting, topology-reached, topology-ids}
+use Rattle.order.proofs.Setting.{Setting, GoneBy, settled-agrees, topology-setting, topology-reached, topology-ids}
 use Rattle.order.proofs.Kept.{kept-start, kept-room, kept-step, ready-is, chosen-is}
 
 -- what is known while routers are placed: the topology is sound, its arcs are held, and the distances are those that the mode needs
@@ -39,14 +39,10 @@ near : (n : Network) (d : ℕ) (m : Mode) (ds : List ℕ) → DistancesFor n d m
 near n d mode.ShortestPath ds h = (h .long, h .near)
 near n d mode.Free ds e = rw e (length-replicate {A = ℕ} 64 0, λ v h. omega (arith, getD-replicate {A = ℕ} 64 v 0 0 h))
 
--- and they are the network's in shortest-path mode, zeros in free mode
+-- and they are the network's in shortest-path mode
 for-shortest : (n : Network) (d : ℕ) (m : Mode) (ds : List ℕ) → DistancesFor n d m ds → m ≡ mode.ShortestPath → Settled n d ds
 for-shortest n d mode.ShortestPath ds h e = h
 for-shortest n d mode.Free ds h e = let never : _≡_ {A = ℕ} 0 1 = cc in absurd (omega arith)
-
-for-free : (n : Network) (d : ℕ) (m : Mode) (ds : List ℕ) → DistancesFor n d m ds → m ≡ mode.Free → ds ≡ replicate 64 0
-for-free n d mode.ShortestPath ds h e = let never : _≡_ {A = ℕ} 0 1 = cc in absurd (omega arith)
-for-free n d mode.Free ds h e = h
 
 module _ {t : Topology} {a : Arcs} {d : ℕ} {m : Mode} {ds : List ℕ} (g : Given t a d m ds) where
   pub facts : SoundNetwork t
@@ -85,26 +81,26 @@ module _ {t : Topology} {a : Arcs} {d : ℕ} {m : Mode} {ds : List ℕ} (g : Giv
   setting = topology-setting facts (sound-exact t .0 (g .is-sound)) (g .holds)
 
   by : GoneBy (networkOf t) (distances (networkOf t) d) m ds
-  by = gone-by (setting .most) (for-shortest (networkOf t) d m ds (g .for-mode)) (for-free (networkOf t) d m ds (g .for-mode))
+  by = record { shortest = λ e. settled-agrees (setting .most) (for-shortest (networkOf t) d m ds (g .for-mode) e) }
 
   -- the counters are right for the routers that are placed
   abbrev pub Right : List ℕ → State → Type 0
   Right placed s = Kept (networkOf t) (distances (networkOf t) d) m placed s
 
-  pub begun : {s : State} → Started a (t .routers) ds m s → Right [] s
+  pub begun : {left : List ℕ} → Waits a (t .routers) ds m left → Right [] (state (replicate 64 false) (replicate 64 0) left)
   begun h = kept-start setting by (rw (facts .routers) h)
 
   module _ {s : State} {placed : List ℕ} (kept : Right placed s) where
-    pub chosen-one : chosen s m (t .id) (t .routers) ≡ placeOr (t .routers) (select (networkOf t) (distances (networkOf t) d) (modeOf m) placed)
+    pub chosen-one : chosen s (t .id) (t .routers) ≡ placeOr (t .routers) (select (networkOf t) (distances (networkOf t) d) (modeOf m) placed)
     chosen-one = rw (facts .routers) at (chosen-is kept (topology-reached facts d (g .place)) (t .id) (topology-ids facts))
 
     module _ {u : ℕ} (h : u < t .routers) where
-      pub is-candidate : readyIn s m u ≡ candidate (networkOf t) (distances (networkOf t) d) (modeOf m) placed u
+      pub is-candidate : readyIn s u ≡ candidate (networkOf t) (distances (networkOf t) d) (modeOf m) placed u
       is-candidate = ready-is kept (topology-reached facts d (g .place)) u (inside h)
 
       module _ (out : List·Memᴰ u placed → ⊥) where
-        pub room : Room s (a .to) (a .cost) ds u (getD (a .count) u 0)
+        pub room : Room s (a .to) (a .cost) ds m u (getD (a .count) u 0)
         room = kept-room setting by kept u (inside h) out
 
-        pub placed-too : {r : State} → Stepped s (a .to) (a .cost) ds u (getD (a .count) u 0) r → Right (placed ++ (u ∷ [])) r
+        pub placed-too : {r : State} → Stepped s (a .to) (a .cost) ds m u (getD (a .count) u 0) r → Right (placed ++ (u ∷ [])) r
         placed-too step = kept-step setting by kept u (inside h) out step

@@ -1,12 +1,12 @@
 -- What the private functions ask of the slots that they go through, and what they make of them; only they rest on it, no open contract does.
 -- Router u has the slots from u * mostNeighbours on.
 -- Assumes nothing.
-use Prim.Native.Nat.{ℕ, _+_, _*_, _≤_, _<_}
-use mathlib.Core.Bool.{Bool, false, true, not, _&&_}
+use Prim.Native.Nat.{ℕ, _+_, _-_, _*_, _≤_, _<_}
+use mathlib.Core.Bool.{Bool, false, true, cond, not, _&&_}
 use mathlib.Core.List.{List, map}
 use mathlib.Core.Option.{Option, none, some}
 use mathlib.Core.Path.{_≡_}
-use lib.Dec.{eqb, ltb}
+use lib.Dec.{eqb}
 use lib.ListN.{length, getD, set, take, replicate}
 use Rattle.network.specs.Lists.{below, keep, leastBy, foremost, wins, member}
 use Rattle.network.specs.Network.{Network, size}
@@ -16,7 +16,6 @@ use Rattle.stations.specs.Limits.{mostRouters, mostNeighbours}
 use Rattle.arcs.specs.declared.Arcs.{Arcs}
 use Rattle.order.specs.declared.Mode.{Mode}
 use Rattle.order.specs.declared.Mode.the-variants as mode
-use Rattle.order.specs.declared.State.{State}
 
 -- the most that an absent distance can be: for each router one more than the greatest cost
 abbrev pub farthest : ℕ
@@ -63,17 +62,25 @@ abbrev pub DistancesFor : Network → ℕ → Mode → List ℕ → Type 0
 DistancesFor n d mode.ShortestPath ds = Settled n d ds
 DistancesFor n d mode.Free ds = ds ≡ replicate mostRouters 0
 
--- nothing is placed, and in shortest-path mode each router waits for as many as it has shortest next hops
-pub record Started (a : Arcs) (n : ℕ) (ds : List ℕ) (m : Mode) (s : State) : Type 0 where
-  pub placed-none : s .placed ≡ replicate mostRouters false
-  pub near-none : s .near ≡ replicate mostRouters 0
-  pub left-all : m ≡ mode.ShortestPath → (u : ℕ) → u < n →
-      getD (s .left) u 0 ≡ length (keep (slotShort (a .to) (a .cost) ds u) (below (getD (a .count) u 0)))
+-- what each router waits for before any is placed: in shortest-path mode for as many as it has shortest next hops, in free mode for one neighbour
+pub record Waits (a : Arcs) (n : ℕ) (ds : List ℕ) (m : Mode) (left : List ℕ) : Type 0 where
+  pub long : length left ≡ mostRouters
+  pub each : m ≡ mode.ShortestPath → (u : ℕ) → u < n →
+      getD left u 0 ≡ length (keep (slotShort (a .to) (a .cost) ds u) (below (getD (a .count) u 0)))
+  pub one : m ≡ mode.Free → left ≡ replicate mostRouters 1
 
--- u is an unplaced candidate, by the counters
-unfoldable pub readyIn : State → Mode → ℕ → Bool
-readyIn s mode.ShortestPath u = not (getD (s .placed) u false) && eqb (getD (s .left) u 0) 0
-readyIn s mode.Free u = not (getD (s .placed) u false) && ltb 0 (getD (s .near) u 0)
+-- the counters, by place: whether it is placed, how many neighbours are placed, and how many routers it waits for
+pub record State : Type 0 where
+  pub placed : List Bool
+  pub near : List ℕ
+  pub left : List ℕ
+
+abbrev pub state : List Bool → List ℕ → List ℕ → State
+state placed near left = record { placed = placed; near = near; left = left }
+
+-- u is an unplaced candidate, by the counters: it waits for nothing more
+unfoldable pub readyIn : State → ℕ → Bool
+readyIn s u = not (getD (s .placed) u false) && eqb (getD (s .left) u 0) 0
 
 -- u is taken rather than v: more placed neighbours, or as many and the higher ID
 unfoldable pub betterIn : State → List ℕ → ℕ → ℕ → Bool
@@ -84,8 +91,13 @@ placeOr n none = n
 placeOr n (some u) = u
 
 -- the candidate that is taken, by the counters; n where there is none
-unfoldable pub chosen : State → Mode → List ℕ → ℕ → ℕ
-chosen s m ids n = placeOr n (foremost (betterIn s ids) (keep (readyIn s m) (below n)))
+unfoldable pub chosen : State → List ℕ → ℕ → ℕ
+chosen s ids n = placeOr n (foremost (betterIn s ids) (keep (readyIn s) (below n)))
+
+-- what a router waits for after a neighbour is placed, where the cost in all by way of it is `through`
+unfoldable pub leftAfter : Mode → ℕ → ℕ → ℕ → ℕ
+leftAfter mode.ShortestPath through distance left = cond (eqb through distance) (left - 1) left
+leftAfter mode.Free through distance left = 0
 
 -- how many of the first `count` slots of u lead to v, and how many of those make u a shortest next hop of v
 unfoldable pub leading : List ℕ → ℕ → ℕ → ℕ → ℕ
@@ -96,21 +108,33 @@ serving to cost ds u count v =
     length (keep (λ j. eqb (slotTo to u j) v && eqb (getD cost (u * mostNeighbours + j) 0 + getD ds u 0) (getD ds v 0)) (below count))
 
 -- the counters have room for the router at u
-pub record Room (s : State) (to cost ds : List ℕ) (u count : ℕ) : Type 0 where
+pub record Room (s : State) (to cost ds : List ℕ) (m : Mode) (u count : ℕ) : Type 0 where
+  pub placed-long : length (s .placed) ≡ mostRouters
+  pub near-long : length (s .near) ≡ mostRouters
+  pub left-long : length (s .left) ≡ mostRouters
   pub near-most : (v : ℕ) → v < mostRouters → getD (s .near) v 0 ≤ mostRouters
-  pub left-least : (v : ℕ) → v < mostRouters → serving to cost ds u count v ≤ getD (s .left) v 0
+  pub left-least : m ≡ mode.ShortestPath → (v : ℕ) → v < mostRouters → serving to cost ds u count v ≤ getD (s .left) v 0
 
--- the counters after the router at u is placed
-pub record Stepped (s : State) (to cost ds : List ℕ) (u count : ℕ) (r : State) : Type 0 where
+-- the counters after `count` slots of the router at u, which is placed then
+pub record Stepped (s : State) (to cost ds : List ℕ) (m : Mode) (u count : ℕ) (r : State) : Type 0 where
   pub placed-there : r .placed ≡ set (s .placed) u true
+  pub near-long : length (r .near) ≡ mostRouters
+  pub left-long : length (r .left) ≡ mostRouters
   pub near-more : (v : ℕ) → v < mostRouters → getD (r .near) v 0 ≡ getD (s .near) v 0 + leading to u count v
-  pub left-less : (v : ℕ) → v < mostRouters → getD (r .left) v 0 + serving to cost ds u count v ≡ getD (s .left) v 0
+  pub left-less : m ≡ mode.ShortestPath → (v : ℕ) → v < mostRouters →
+      getD (r .left) v 0 + serving to cost ds u count v ≡ getD (s .left) v 0
+  pub left-free : m ≡ mode.Free → (v : ℕ) → v < mostRouters →
+      getD (r .left) v 0 ≡ cond (eqb (leading to u count v) 0) (getD (s .left) v 0) 0
 
--- the counters are right for the routers that are placed: in shortest-path mode `left` is how many shortest next hops are not placed yet
+-- the counters are right for the routers that are placed: `left` is in shortest-path mode how many shortest next hops are not placed yet, in free mode
+-- one until a neighbour is placed
 pub record Kept (n : Network) (ds : List ℕ) (m : Mode) (placed : List ℕ) (s : State) : Type 0 where
   pub placed-long : length (s .placed) ≡ mostRouters
+  pub near-long : length (s .near) ≡ mostRouters
+  pub left-long : length (s .left) ≡ mostRouters
   pub placed-is : (u : ℕ) → u < size n → getD (s .placed) u false ≡ member u placed
   pub near-is : (u : ℕ) → u < size n → getD (s .near) u 0 ≡ placedNeighbours n placed u
   pub near-past : (u : ℕ) → size n ≤ u → u < mostRouters → getD (s .near) u 0 ≡ 0
   pub left-is : m ≡ mode.ShortestPath → (u : ℕ) → u < size n →
       getD (s .left) u 0 ≡ length (keep (λ a. not (leadsInto placed a)) (shortestNextHops n ds u))
+  pub left-free : m ≡ mode.Free → (u : ℕ) → u < size n → getD (s .left) u 0 ≡ cond (eqb (placedNeighbours n placed u) 0) 1 0

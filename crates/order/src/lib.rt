@@ -1,7 +1,6 @@
 // Distances and orders (01, Order).
 use stations::Answer;
 use stations::Place;
-use stations::ROUTERS;
 use stations::Topology;
 
 mod distances;
@@ -17,14 +16,6 @@ ghost use Rattle.order.specs.Calls.{building, checking};
 pub enum Mode {
     ShortestPath,
     Free,
-}
-
-// What is known while routers are placed, by place: whether it is placed; `near`, how many of its neighbours are placed, 001's c; and `left`, how
-// many of its shortest next hops are still to be placed, n_sp - c_sp in 001's counters (in free mode 0).
-pub struct State {
-    pub placed: [bool; ROUTERS],
-    pub near: [u8; ROUTERS],
-    pub left: [u8; ROUTERS],
 }
 
 // Builds the order for a destination: refusals 14, 15 and 24.

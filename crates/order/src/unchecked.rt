@@ -43,15 +43,37 @@ pub fn build(t: Topology, destination: Place, mode: Mode, out: &mut [u8])
     let d = destination.index();
     let a = arcs::unchecked::of(t);
     let ds = placing::distances_for(t, a, d, mode);
-    let empty = placing::start(a, n, ds, mode);
+    let mut placed = [false; ROUTERS];
+    let mut near = [0u8; ROUTERS];
+    let mut left = placing::waits(a, n, ds, mode);
     let count = a.count[d] as usize;
-    let mut s = placing::with_placed(empty, &a.to, &a.cost, &ds, d, count);
+    placing::place(
+        &mut placed,
+        &mut near,
+        &mut left,
+        mode,
+        &a.to,
+        &a.cost,
+        &ds,
+        d,
+        count,
+    );
     out[0] = destination.0;
     let mut rank: usize = 1;
     while rank < n {
-        let u = placing::select(s, mode, &t.id, n);
+        let u = placing::select(&placed, &near, &left, &t.id, n);
         let count = a.count[u] as usize;
-        s = placing::with_placed(s, &a.to, &a.cost, &ds, u, count);
+        placing::place(
+            &mut placed,
+            &mut near,
+            &mut left,
+            mode,
+            &a.to,
+            &a.cost,
+            &ds,
+            u,
+            count,
+        );
         out[rank] = u as u8;
         rank += 1;
     }
@@ -65,17 +87,39 @@ pub fn unready_rank(t: Topology, destination: Place, mode: Mode, order: &[u8]) -
     let d = destination.index();
     let a = arcs::unchecked::of(t);
     let ds = placing::distances_for(t, a, d, mode);
-    let empty = placing::start(a, t.routers, ds, mode);
+    let mut placed = [false; ROUTERS];
+    let mut near = [0u8; ROUTERS];
+    let mut left = placing::waits(a, t.routers, ds, mode);
     let count = a.count[d] as usize;
-    let mut s = placing::with_placed(empty, &a.to, &a.cost, &ds, d, count);
+    placing::place(
+        &mut placed,
+        &mut near,
+        &mut left,
+        mode,
+        &a.to,
+        &a.cost,
+        &ds,
+        d,
+        count,
+    );
     let mut rank: usize = 1;
     while rank < t.routers {
         let u = order[rank] as usize;
-        if !placing::is_ready(s, mode, u) {
+        if placed[u] || left[u] != 0 {
             return rank;
         }
         let count = a.count[u] as usize;
-        s = placing::with_placed(s, &a.to, &a.cost, &ds, u, count);
+        placing::place(
+            &mut placed,
+            &mut near,
+            &mut left,
+            mode,
+            &a.to,
+            &a.cost,
+            &ds,
+            u,
+            count,
+        );
         rank += 1;
     }
     rank

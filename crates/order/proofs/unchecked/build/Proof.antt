@@ -7,17 +7,17 @@ use mathlib.Core.Path.{_∙_}
 use native.Mathlib.Omega.{arith}
 use borrow.Author.Count.{falls}
 use lib.ListN.{getD, length-set}
-use Rattle.order.specs.Inner.{Slots}
+use Rattle.order.specs.Inner.{Slots, state}
 use Rattle.order.proofs.Turn.{Given, slots, all-slots, begun, room}
 use Rattle.order.proofs.Building.{Building, same-long, first-turn, place, has-room, again, finished}
 use Rattle.order.proofs.unchecked.build.Statement.{statement}
 use Rattle.order.proofs.unchecked.build.Tie as tie
 
 abbrev Inv-loop : tie.InvT-loop
-Inv-loop mode out₀ t n d a ds count s₀ rank₀ out s rank = Building t a d mode ds out₀ out s rank
+Inv-loop mode out₀ t n d a ds placed₀ near₀ left₀ count rank₀ out placed near left rank = Building t a d mode ds out₀ out (state placed near left) rank
 
 abbrev μ-loop : tie.MeasureT-loop
-μ-loop mode out₀ t n d a ds count s₀ rank₀ out s rank = n - rank
+μ-loop mode out₀ t n d a ds placed₀ near₀ left₀ count rank₀ out placed near left rank = n - rank
 
 index-requires : tie.Need-index-requires Inv-loop μ-loop
 index-requires c κs = tt
@@ -42,8 +42,8 @@ given c =
       for-mode = c .distances-for .ensures;
     }
 
-start-requires : tie.Need-start-requires Inv-loop μ-loop
-start-requires c κs = all-slots (given c)
+waits-requires : tie.Need-waits-requires Inv-loop μ-loop
+waits-requires c κs = all-slots (given c)
 
 element-copy-out-count : tie.Need-element-copy-out-count Inv-loop μ-loop
 element-copy-out-count c = let g = given (c .before) in slots g _ (g .place) .place
@@ -51,32 +51,40 @@ element-copy-out-count c = let g = given (c .before) in slots g _ (g .place) .pl
 cast-count : tie.Need-cast-count Inv-loop μ-loop
 cast-count c = let g = given (c .before .before) in omega (arith, slots g _ (g .place) .few)
 
-with-placed-requires : tie.Need-with-placed-requires Inv-loop μ-loop
-with-placed-requires c κs =
-    let g = given (c .before .before .before .before .before .before) in
-    (slots g _ (g .place), room g (begun g (c .before .before .before .before .before .start .ensures)) (g .place) List·Memᴰ·not-nil)
+-- from the call that places d back to what it waits for
+abbrev waited : tie.After-ds Inv-loop μ-loop → tie.After-waits Inv-loop μ-loop
+waited c = c .before .before .before .before .before .before .before .before
+
+abbrev start : tie.After-ds Inv-loop μ-loop → tie.Start Inv-loop μ-loop
+start c = waited c .before .before .before .before .before
+
+place-requires : tie.Need-place-requires Inv-loop μ-loop
+place-requires c κs =
+    let g = given (waited c .before) in (slots g _ (g .place), room g (begun g (waited c .waits .ensures)) (g .place) List·Memᴰ·not-nil)
 
 slice-write-out : tie.Need-slice-write-out Inv-loop μ-loop
-slice-write-out c = let start = c .before .before .before .before .before .before .before .before .before .before .before in omega (arith, start .pre)
+slice-write-out c = omega (arith, start (c .before) .pre)
 
 loop-holds : tie.Need-loop-holds Inv-loop μ-loop
 loop-holds c =
-    let first = c .before .before .before .before .before .before in
-    let start = first .before .before .before .before .before in
-    first-turn (start .args .out .now) (first .before .before .before .index .ensures) (given (first .before)) (start .pre .2) (first .start .ensures)
-    (c .with-placed .ensures)
+    let w = waited (c .before) in
+    first-turn (start (c .before) .args .out .now) (w .before .before .before .index .ensures) (given (w .before)) (start (c .before) .pre .2)
+    (w .waits .ensures) (c .place .ensures)
+
+-- from the call that selects back to the turn
+abbrev turn : tie.After-select-arg Inv-loop μ-loop → tie.In-loop Inv-loop μ-loop
+turn c = c .before .before .before .before .before
 
 select-requires : tie.Need-select-requires Inv-loop μ-loop
-select-requires c κs = all-slots (c .before .before .before .loop .inv .given) .most
+select-requires c κs = all-slots (turn c .before .loop .inv .given) .most
 
 at-place : (c : tie.After-select Inv-loop μ-loop) →
-    let first = c .before .before .before .before .before .before .before .before .before .before .before in
-    Slots (first .before .before .of .result .to) (first .before .before .of .result .cost) (first .before .distances-for .result) (c .select .result)
-    (getD (first .before .before .of .result .count) (c .select .result) 0)
+    let w = waited (turn (c .before) .before .before .before) in
+    let a = w .before .before .of .result in
+    Slots (a .to) (a .cost) (w .before .distances-for .result) (c .select .result) (getD (a .count) (c .select .result) 0)
 at-place c =
-    let turn = c .before .before .before in
-    let b = turn .before .loop .inv in
-    slots (b .given) _ (place b (turn .loop-test .taken) (c .select .ensures))
+    let b = turn (c .before) .before .loop .inv in
+    slots (b .given) _ (place b (turn (c .before) .loop-test .taken) (c .select .ensures))
 
 element-copy-out-count-2 : tie.Need-element-copy-out-count-2 Inv-loop μ-loop
 element-copy-out-count-2 c = at-place c .place
@@ -84,42 +92,42 @@ element-copy-out-count-2 c = at-place c .place
 cast-count-2 : tie.Need-cast-count-2 Inv-loop μ-loop
 cast-count-2 c = omega (arith, at-place (c .before) .few)
 
-with-placed-requires-2 : tie.Need-with-placed-requires-2 Inv-loop μ-loop
-with-placed-requires-2 c κs =
-    let here = c .before .before .before .before .before in
-    let turn = here .before .before .before in
-    (at-place here, has-room (turn .before .loop .inv) (turn .loop-test .taken) (here .select .ensures))
+-- from the call that places it back to the call that selects
+abbrev selected : tie.After-ds2 Inv-loop μ-loop → tie.After-select Inv-loop μ-loop
+selected c = c .before .before .before .before .before .before .before .before
+
+place-requires-2 : tie.Need-place-requires-2 Inv-loop μ-loop
+place-requires-2 c κs =
+    let here = turn (selected c .before) in
+    (at-place (selected c), has-room (here .before .loop .inv) (here .loop-test .taken) (selected c .select .ensures))
 
 cast-out : tie.Need-cast-out Inv-loop μ-loop
-cast-out c = omega (arith, at-place (c .before .before .before .before .before .before) .place)
+cast-out c = omega (arith, at-place (selected (c .before)) .place)
 
 slice-write-out-2 : tie.Need-slice-write-out-2 Inv-loop μ-loop
 slice-write-out-2 c =
-    let turn = c .before .before .before .before .before .before .before .before .before in
-    omega (arith, turn .loop-test .taken, turn .before .loop .inv .room, same-long (turn .before .loop .inv))
+    let here = turn (selected (c .before) .before) in
+    omega (arith, here .loop-test .taken, here .before .loop .inv .room, same-long (here .before .loop .inv))
 
 add-rank : tie.Need-add-rank Inv-loop μ-loop
 add-rank c =
-    let turn = c .before .before .before .before .before .before .before .before .before in
-    omega (arith, turn .loop-test .taken, all-slots (turn .before .loop .inv .given) .most)
+    let here = turn (selected (c .before) .before) in omega (arith, here .loop-test .taken, all-slots (here .before .loop .inv .given) .most)
 
 loop-less : tie.Need-loop-less Inv-loop μ-loop
-loop-less c = falls _ _ (c .before .before .before .before .before .before .before .before .before .loop-test .taken)
+loop-less c = falls _ _ (turn (selected (c .before) .before) .loop-test .taken)
 
 loop-again : tie.Need-loop-again Inv-loop μ-loop
 loop-again c =
-    let here = c .before .before .before .before .before .before in
-    let turn = here .before .before .before in
-    again (turn .before .loop .inv) (turn .loop-test .taken) (here .select .ensures) (c .with-placed2 .ensures)
+    let here = turn (selected (c .before) .before) in
+    again (here .before .loop .inv) (here .loop-test .taken) (selected (c .before) .select .ensures) (c .place2 .ensures)
 
 same-length : tie.Need-same-length Inv-loop μ-loop
 same-length c = same-long (c .before .loop .inv) ∙ simp length-set
 
 returns : tie.Need-returns Inv-loop μ-loop
 returns c =
-    let first = c .before .before .before .before .before .before .before .before in
-    finished (first .before .before .before .before .before .args .out .now) (first .before .before .before .index .ensures) (c .before .loop .inv)
-    (c .loop-test .left)
+    let begin = c .before .before .before in
+    finished (start begin .args .out .now) (waited begin .before .before .before .index .ensures) (c .before .loop .inv) (c .loop-test .left)
 
 pub build-spec : {M : Type 1} → statement M
 build-spec =
@@ -130,16 +138,16 @@ build-spec =
     index-requires
     of-requires
     distances-for-requires
-    start-requires
+    waits-requires
     element-copy-out-count
     cast-count
-    with-placed-requires
+    place-requires
     slice-write-out
     loop-holds
     select-requires
     element-copy-out-count-2
     cast-count-2
-    with-placed-requires-2
+    place-requires-2
     cast-out
     slice-write-out-2
     add-rank

@@ -3,22 +3,22 @@
 -- Assumes nothing.
 use Prim.Native.Nat.{_-_}
 use mathlib.Core.List.{List·Memᴰ·not-nil}
-use mathlib.Core.Path.{_∙_, sym}
+use mathlib.Core.Logic.{⊎-elim}
 use native.Mathlib.Omega.{arith}
 use borrow.Author.Count.{falls}
 use borrow.Author.Tests.{not-true, not-false}
 use lib.ListN.{getD}
-use Rattle.order.specs.Inner.{Slots}
+use Rattle.order.specs.Inner.{Slots, state, readyIn}
 use Rattle.order.proofs.Turn.{Given, slots, all-slots, begun, room}
 use Rattle.order.proofs.Checking.{Checking, first-turn, place, has-room, unready, again, none-unready}
 use Rattle.order.proofs.unchecked.unready_rank.Statement.{statement}
 use Rattle.order.proofs.unchecked.unready_rank.Tie as tie
 
 abbrev Inv-loop : tie.InvT-loop
-Inv-loop t mode order d a ds count s₀ rank₀ s rank = Checking t a d mode ds order s rank
+Inv-loop t mode order d a ds placed₀ near₀ left₀ count rank₀ placed near left rank = Checking t a d mode ds order (state placed near left) rank
 
 abbrev μ-loop : tie.MeasureT-loop
-μ-loop t mode order d a ds count s₀ rank₀ s rank = t .routers - rank
+μ-loop t mode order d a ds placed₀ near₀ left₀ count rank₀ placed near left rank = t .routers - rank
 
 index-requires : tie.Need-index-requires Inv-loop μ-loop
 index-requires c κs = tt
@@ -43,8 +43,8 @@ given c =
       for-mode = c .distances-for .ensures;
     }
 
-start-requires : tie.Need-start-requires Inv-loop μ-loop
-start-requires c κs = all-slots (given c)
+waits-requires : tie.Need-waits-requires Inv-loop μ-loop
+waits-requires c κs = all-slots (given c)
 
 element-copy-out-count : tie.Need-element-copy-out-count Inv-loop μ-loop
 element-copy-out-count c = let g = given (c .before) in slots g _ (g .place) .place
@@ -52,28 +52,31 @@ element-copy-out-count c = let g = given (c .before) in slots g _ (g .place) .pl
 cast-count : tie.Need-cast-count Inv-loop μ-loop
 cast-count c = let g = given (c .before .before) in omega (arith, slots g _ (g .place) .few)
 
-with-placed-requires : tie.Need-with-placed-requires Inv-loop μ-loop
-with-placed-requires c κs =
-    let g = given (c .before .before .before .before .before .before) in
-    (slots g _ (g .place), room g (begun g (c .before .before .before .before .before .start .ensures)) (g .place) List·Memᴰ·not-nil)
+-- from the call that places d back to what it waits for
+abbrev waited : tie.After-ds Inv-loop μ-loop → tie.After-waits Inv-loop μ-loop
+waited c = c .before .before .before .before .before .before .before .before
+
+abbrev start : tie.After-ds Inv-loop μ-loop → tie.Start Inv-loop μ-loop
+start c = waited c .before .before .before .before .before
+
+place-requires : tie.Need-place-requires Inv-loop μ-loop
+place-requires c κs =
+    let g = given (waited c .before) in (slots g _ (g .place), room g (begun g (waited c .waits .ensures)) (g .place) List·Memᴰ·not-nil)
 
 loop-holds : tie.Need-loop-holds Inv-loop μ-loop
 loop-holds c =
-    let first = c .before .before .before .before .before .before in
-    let start = first .before .before .before .before .before in
-    first-turn (given (first .before)) (rw (first .before .before .before .index .ensures) (start .pre)) (first .start .ensures)
-    (c .with-placed .ensures)
+    let w = waited (c .before) in
+    first-turn (given (w .before)) (rw (w .before .before .before .index .ensures) (start (c .before) .pre)) (w .waits .ensures) (c .place .ensures)
 
 shared-slice-read-u : tie.Need-shared-slice-read-u Inv-loop μ-loop
 shared-slice-read-u c = omega (arith, c .before .before .before .loop .inv .proposed .long, c .before .if1 .taken)
 
 -- the router of this turn
 at-place : (c : tie.After-shared-slice-known2 Inv-loop μ-loop) →
-    let first = c .before .before .before .before .before .before .before .before .before .before in
-    let start = first .before .before .before .before .before in
-    let u = getD (start .args .order .now) (c .before .before .before .loop .rank) 0 in
-    Slots (first .before .before .of .result .to) (first .before .before .of .result .cost) (first .before .distances-for .result) u
-    (getD (first .before .before .of .result .count) u 0)
+    let begin = c .before .before .before .before .before in
+    let a = waited begin .before .before .of .result in
+    let u = getD (start begin .args .order .now) (c .before .before .before .loop .rank) 0 in
+    Slots (a .to) (a .cost) (waited begin .before .distances-for .result) u (getD (a .count) u 0)
 at-place c =
     let w = c .before .before .before .loop .inv in
     slots (w .given) _ (place w (c .before .if1 .taken))
@@ -81,15 +84,20 @@ at-place c =
 cast-u : tie.Need-cast-u Inv-loop μ-loop
 cast-u c = omega (arith, at-place c .place)
 
-is-ready-requires : tie.Need-is-ready-requires Inv-loop μ-loop
-is-ready-requires c κs = at-place c .place
+array-read-if2 : tie.Need-array-read-if2 Inv-loop μ-loop
+array-read-if2 c = at-place c .place
+
+array-read-if3 : tie.Need-array-read-if3 Inv-loop μ-loop
+array-read-if3 c = at-place (c .before) .place
 
 returns : tie.Need-returns Inv-loop μ-loop
+unfolding readyIn
 returns c =
-    let turn = c .before .before in
-    rw (← turn .before .before .before .before .before .before .before .before .before .before .before .before .before .index .ensures)
-    (unready (turn .before .before .before .loop .inv) (turn .before .if1 .taken)
-    (sym (c .before .is-ready .ensures) ∙ not-true (c .before .is-ready .result) (c .if2 .taken)))
+    let here = c .before in
+    let at = here .before .before .before in
+    rw (← waited (at .before .before) .before .before .before .index .ensures)
+    (unready (at .loop .inv) (here .before .if1 .taken)
+    (⊎-elim (λ w. rw (w .taken)) (λ w. rw (w .0 .left) (not-true _ (w .1 .taken))) (c .if2 .came)))
 
 element-copy-out-count-2 : tie.Need-element-copy-out-count-2 Inv-loop μ-loop
 element-copy-out-count-2 c = at-place (c .before .before) .place
@@ -97,31 +105,33 @@ element-copy-out-count-2 c = at-place (c .before .before) .place
 cast-count-2 : tie.Need-cast-count-2 Inv-loop μ-loop
 cast-count-2 c = omega (arith, at-place (c .before .before .before) .few)
 
-with-placed-requires-2 : tie.Need-with-placed-requires-2 Inv-loop μ-loop
-with-placed-requires-2 c κs =
-    let turn = c .before .before .before .before .before .before .before in
-    (at-place turn, has-room (turn .before .before .before .loop .inv) (turn .before .if1 .taken))
+-- from the call that places it back to the tests of the turn
+abbrev passed : tie.After-ds2 Inv-loop μ-loop → tie.Else3 Inv-loop μ-loop
+passed c = c .before .before .before .before .before .before .before .before
+
+abbrev turn : tie.After-ds2 Inv-loop μ-loop → tie.Then1 Inv-loop μ-loop
+turn c = passed c .before .before .before
+
+place-requires-2 : tie.Need-place-requires-2 Inv-loop μ-loop
+place-requires-2 c κs = (at-place (passed c .before .before), has-room (turn c .before .before .loop .inv) (turn c .if1 .taken))
 
 add-rank : tie.Need-add-rank Inv-loop μ-loop
-add-rank c =
-    let turn = c .before .before .before .before .before .before .before .before in
-    omega (arith, turn .before .if1 .taken, all-slots (turn .before .before .before .loop .inv .given) .most)
+add-rank c = let here = turn (c .before) in omega (arith, here .if1 .taken, all-slots (here .before .before .loop .inv .given) .most)
 
 loop-less : tie.Need-loop-less Inv-loop μ-loop
-loop-less c = falls _ _ (c .before .before .before .before .before .before .before .before .before .if1 .taken)
+loop-less c = falls _ _ (turn (c .before) .if1 .taken)
 
 loop-again : tie.Need-loop-again Inv-loop μ-loop
+unfolding readyIn
 loop-again c =
-    let test = c .before .before .before .before .before .before in
-    let turn = test .before .before in
-    again (turn .before .before .before .loop .inv) (turn .before .if1 .taken)
-    (sym (test .before .is-ready .ensures) ∙ not-false (test .before .is-ready .result) (test .if2 .left))
-    (c .with-placed2 .ensures)
+    let here = turn (c .before) in
+    let tests = passed (c .before) in
+    again (here .before .before .loop .inv) (here .if1 .taken) (rw (tests .before .if2 .left) (not-false _ (tests .if3 .left))) (c .place2 .ensures)
 
 returns-2 : tie.Need-returns-2 Inv-loop μ-loop
 returns-2 c =
-    rw (← c .before .before .before .before .before .before .before .before .before .before .before .before .index .ensures)
-    (none-unready (c .before .before .loop .inv) (c .if1 .left))
+    let at = c .before .before in
+    rw (← waited (at .before .before) .before .before .before .index .ensures) (none-unready (at .loop .inv) (c .if1 .left))
 
 pub unready-rank-spec : {M : Type 1} → statement M
 unready-rank-spec =
@@ -132,18 +142,19 @@ unready-rank-spec =
     index-requires
     of-requires
     distances-for-requires
-    start-requires
+    waits-requires
     element-copy-out-count
     cast-count
-    with-placed-requires
+    place-requires
     loop-holds
     shared-slice-read-u
     cast-u
-    is-ready-requires
+    array-read-if2
+    array-read-if3
     returns
     element-copy-out-count-2
     cast-count-2
-    with-placed-requires-2
+    place-requires-2
     add-rank
     loop-less
     loop-again
