@@ -99,7 +99,7 @@ module _ {t : Topology} {a : Arcs} {d : ℕ} {m : own.Mode} {ds first out : List
 
 module _ {t : Topology} {a : Arcs} {d : ℕ} {m : own.Mode} {ds : List ℕ} (first : List ℕ) {x : ℕ} (same : d ≡ x) where
   -- after d is placed
-  pub first-turn : {left : List ℕ} {r : State} → Given t a d m ds → t .routers ≤ length first → Waits a (t .routers) ds m left →
+  pub first-turn : {left : List ℕ} {r : State} → Given t a d m ds → t .routers ≤ length first → Waits (a .count) (a .to) (a .cost) (t .routers) ds m left →
       Stepped (state (replicate 64 false) (replicate 64 0) left) (a .to) (a .cost) ds m d (getD (a .count) d 0) r → Building t a d m ds (set first 0 x) (set first 0 x) r 1
   unfolding build
   first-turn g enough start step =

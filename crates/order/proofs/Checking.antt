@@ -87,7 +87,7 @@ module _ {t : Topology} {a : Arcs} {d : ℕ} {m : Mode} {ds order : List ℕ} {s
         so-far-too r h (no apart) k = w .so-far r h (omega arith)
 
 pub first-turn : {t : Topology} {a : Arcs} {d : ℕ} {m : Mode} {ds order left : List ℕ} {r : State} → Given t a d m ds → Proposed t d order →
-    Waits a (t .routers) ds m left → Stepped (state (replicate 64 false) (replicate 64 0) left) (a .to) (a .cost) ds m d (getD (a .count) d 0) r → Checking t a d m ds order r 1
+    Waits (a .count) (a .to) (a .cost) (t .routers) ds m left → Stepped (state (replicate 64 false) (replicate 64 0) left) (a .to) (a .cost) ds m d (getD (a .count) d 0) r → Checking t a d m ds order r 1
 first-turn {order} g p start step =
     let inside : 0 < length order = omega (arith, p .long, p .place) in
     record {

@@ -42,7 +42,7 @@ no-more i = cases (ℕ-discrete i 0)
     cases (no apart) = rw (ne-eqb i 0 apart, lt-ltb 0 i (omega arith))
 
 module _ {n : Network} {a : Arcs} (g : Setting n a) {ds slots : List ℕ} {m : Mode} (by : GoneBy n ds m slots) where
-  pub kept-start : {left : List ℕ} → Waits a (size n) slots m left → Kept n ds m [] (state (replicate 64 false) (replicate 64 0) left)
+  pub kept-start : {left : List ℕ} → Waits (a .count) (a .to) (a .cost) (size n) slots m left → Kept n ds m [] (state (replicate 64 false) (replicate 64 0) left)
   unfolding placedNeighbours leadsInto member any
   kept-start {left} w =
       let most = g .most in

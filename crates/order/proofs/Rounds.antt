@@ -60,40 +60,40 @@ module _ (n : Network) (a : Arcs) (count : ℕ) (held : Held n a count) where
         (λ j m. slot-through u j h (below-lt _ m))
         ∙ ap (leastBy (through n (take count ds)) (distanceIn n (take count ds) u)) (held .holds .arcs u (let sized = held .sized in omega arith))
 
-    pub round-slots : roundIn a count ds ≡ round n (take count ds)
+    pub round-slots : roundIn (a .count) (a .to) (a .cost) count ds ≡ round n (take count ds)
     unfolding roundIn round
     round-slots = rw (held .sized) (map-same _ _ (below count) (λ u m. least-slots u (below-lt count m)))
 
-  length-round : (ds : List ℕ) → length (roundIn a count ds) ≡ count
+  length-round : (ds : List ℕ) → length (roundIn (a .count) (a .to) (a .cost) count ds) ≡ count
   unfolding roundIn
   length-round ds = length-map-below _ count
 
   -- a round makes no distance longer
-  round-near : (ds : List ℕ) (u : ℕ) → u < count → getD (roundIn a count ds) u 0 ≤ getD ds u 0
+  round-near : (ds : List ℕ) (u : ℕ) → u < count → getD (roundIn (a .count) (a .to) (a .cost) count ds) u 0 ≤ getD ds u 0
   unfolding roundIn
   round-near ds u h = rw getD-below (least-start _ _ _)
 
-  pub next-row : (d k : ℕ) (ds : List ℕ) → Row n d k count ds → Row n d (suc k) count (roundIn a count ds ++ drop count ds)
+  pub next-row : (d k : ℕ) (ds : List ℕ) → Row n d k count ds → Row n d (suc k) count (roundIn (a .count) (a .to) (a .cost) count ds ++ drop count ds)
   unfolding rounds
   next-row d k ds row =
       let most = held .most in
       record {
-        first = take-at (roundIn a count ds) (drop count ds) count (length-round ds) ∙ round-slots ds (row .long) ∙ ap (round n) (row .first);
-        long = omega (arith, length-append (roundIn a count ds) (drop count ds), length-round ds, length-drop count ds, row .long);
+        first = take-at (roundIn (a .count) (a .to) (a .cost) count ds) (drop count ds) count (length-round ds) ∙ round-slots ds (row .long) ∙ ap (round n) (row .first);
+        long = omega (arith, length-append (roundIn (a .count) (a .to) (a .cost) count ds) (drop count ds), length-round ds, length-drop count ds, row .long);
         near = λ v h. near v h (decLt v count);
       }
     where
-      near : (v : ℕ) → v < 64 → Dec (v < count) → getD (roundIn a count ds ++ drop count ds) v 0 ≤ 4194304
+      near : (v : ℕ) → v < 64 → Dec (v < count) → getD (roundIn (a .count) (a .to) (a .cost) count ds ++ drop count ds) v 0 ≤ 4194304
       near v h (yes k) =
           let long = length-round ds in
-          omega (arith, List·getD-append (roundIn a count ds) (drop count ds) 0 v (omega arith), round-near ds v k, row .near v h)
+          omega (arith, List·getD-append (roundIn (a .count) (a .to) (a .cost) count ds) (drop count ds) 0 v (omega arith), round-near ds v k, row .near v h)
       near v h (no k) =
-          let past : length (roundIn a count ds) + (v - count) ≡ v = omega (arith, length-round ds) in
+          let past : length (roundIn (a .count) (a .to) (a .cost) count ds) + (v - count) ≡ v = omega (arith, length-round ds) in
           let same : count + (v - count) ≡ v = omega arith in
-          let there = rw past at (getD-append-add (roundIn a count ds) (drop count ds) (v - count) 0) in
+          let there = rw past at (getD-append-add (roundIn (a .count) (a .to) (a .cost) count ds) (drop count ds) (v - count) 0) in
           omega (arith, there, rw same at (getD-drop count ds (v - count) 0), row .near v h)
 
-  pub row-slots : {d k : ℕ} {ds : List ℕ} → Row n d k count ds → AllSlots a count ds
+  pub row-slots : {d k : ℕ} {ds : List ℕ} → Row n d k count ds → AllSlots (a .count) (a .to) (a .cost) count ds
   row-slots row = all-slots n a count held _ (row .long) (row .near)
 
   module _ (d : ℕ) (d-in : d < count) where

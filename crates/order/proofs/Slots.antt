@@ -94,7 +94,7 @@ module _ (n : Network) (a : Arcs) (count : ℕ) (held : Held n a count) (u : ℕ
 
 -- so the slots are as the inner functions ask, at any row of distances that fit
 pub all-slots : (n : Network) (a : Arcs) (count : ℕ) → Held n a count → (ds : List ℕ) → length ds ≡ 64 →
-    ((v : ℕ) → v < 64 → getD ds v 0 ≤ 4194304) → AllSlots a count ds
+    ((v : ℕ) → v < 64 → getD ds v 0 ≤ 4194304) → AllSlots (a .count) (a .to) (a .cost) count ds
 all-slots n a count held ds long near =
     let most = held .most in
     record {

@@ -1,13 +1,13 @@
 -- What the functions that place routers share: the slots that they go through are sound, and the counters stay right from turn to turn.
 -- Assumes nothing.
-use Prim.Native.Nat.{ℕ, _+_, _*_, _≤_, _<_}
+use Prim.Native.Nat.{ℕ, _+_, _≤_, _<_}
 use mathlib.Core.Bool.{false}
 use mathlib.Core.List.{List, [], _∷_, _++_, List·Memᴰ}
 use mathlib.Core.Path.{_≡_}
 use native.Mathlib.Omega.{arith}
 use lib.Dec.{T}
 use lib.ListN.{length, getD, replicate, length-replicate, getD-replicate}
-use Rattle.network.specs.Network.{Arc, Network, size, arcsOf, greatestCost}
+use Rattle.network.specs.Network.{Network, size}
 use Rattle.network.specs.Distance.{distances}
 use Rattle.network.specs.Order.{candidate, select}
 use Rattle.stations.specs.declared.Topology.{Topology}
@@ -16,14 +16,12 @@ use Rattle.soundness.specs.Sound.{sound}
 use Rattle.soundness.specs.Theorems.{SoundNetwork}
 use Rattle.arcs.specs.declared.Arcs.{Arcs}
 use Rattle.arcs.specs.Arcs.{Holds}
-use Rattle.arcs.proofs.Links.{links-of}
-use Rattle.arcs.proofs.Use.{count-is, to-is, cost-is}
 use Rattle.order.specs.declared.Mode.{Mode}
 use Rattle.order.specs.declared.Mode.the-variants as mode
 use Rattle.order.specs.Calls.{modeOf}
-use Rattle.order.specs.Inner.{slotTo, Slots, AllSlots, Settled, DistancesFor, Waits, State, state, readyIn, chosen, placeOr, Room, Stepped, Kept}
+use Rattle.order.specs.Inner.{AllSlots, Settled, DistancesFor, Waits, State, state, readyIn, chosen, placeOr, Room, Stepped, Kept}
 use Rattle.soundness.proofs.Sound.{sound-exact, sound-networks}
-use Rattle.order.proofs.Ranges.{getD-mem}
+use Rattle.order.proofs.Slots.{sound-held, all-slots}
 use Rattle.order.proofs.Setting.{Setting, GoneBy, settled-agrees, topology-setting, topology-reached, topology-ids}
 use Rattle.order.proofs.Kept.{kept-start, kept-room, kept-step, ready-is, chosen-is}
 
@@ -48,31 +46,10 @@ module _ {t : Topology} {a : Arcs} {d : ℕ} {m : Mode} {ds : List ℕ} (g : Giv
   pub facts : SoundNetwork t
   facts = sound-networks t (g .is-sound)
 
-  sound-slot : (u : ℕ) → u < t .routers → (j : ℕ) → j < getD (a .count) u 0 → (slotTo (a .to) u j < 64) × (getD (a .cost) (u * 16 + j) 0 ≤ 65535)
-  unfolding slotTo greatestCost
-  sound-slot u h j k =
-      let z : Arc = record { to = 0; cost = 0; link = 0 } in
-      let w = links-of t (g .is-sound) in
-      let inside : u < size (networkOf t) = omega (arith, w .size-is) in
-      let below : j < length (arcsOf (networkOf t) u) = omega (arith, count-is (g .holds) inside) in
-      let arc = facts .well-formed .sound u _ (getD-mem (arcsOf (networkOf t) u) j z below) in (
-        omega (arith, to-is (g .holds) inside below z, arc .place, w .size-is, w .routers-most),
-        omega (arith, cost-is (g .holds) inside below z, arc .cost-most),
-      )
-
-  pub slots : (u : ℕ) → u < t .routers → Slots (a .to) (a .cost) ds u (getD (a .count) u 0)
-  slots u h =
-      let w = links-of t (g .is-sound) in
-      record {
-        place = omega (arith, w .routers-most);
-        few = omega (arith, count-is (g .holds) {u = u} (omega (arith, w .size-is)), w .few u h);
-        leads = λ j k. sound-slot u h j k .0;
-        cheap = λ j k. sound-slot u h j k .1;
-        near = near (networkOf t) d m ds (g .for-mode) .1;
-      }
-
-  pub all-slots : AllSlots a (t .routers) ds
-  all-slots = record { most = links-of t (g .is-sound) .routers-most; long = near (networkOf t) d m ds (g .for-mode) .0; each = slots }
+  pub every-slot : AllSlots (a .count) (a .to) (a .cost) (t .routers) ds
+  every-slot =
+      let (long, fits) = near (networkOf t) d m ds (g .for-mode) in
+      all-slots (networkOf t) a (t .routers) (sound-held t a (g .is-sound) (g .holds)) ds long fits
 
   inside : {u : ℕ} → u < t .routers → u < size (networkOf t)
   inside h = omega (arith, facts .routers)
@@ -87,7 +64,7 @@ module _ {t : Topology} {a : Arcs} {d : ℕ} {m : Mode} {ds : List ℕ} (g : Giv
   abbrev pub Right : List ℕ → State → Type 0
   Right placed s = Kept (networkOf t) (distances (networkOf t) d) m placed s
 
-  pub begun : {left : List ℕ} → Waits a (t .routers) ds m left → Right [] (state (replicate 64 false) (replicate 64 0) left)
+  pub begun : {left : List ℕ} → Waits (a .count) (a .to) (a .cost) (t .routers) ds m left → Right [] (state (replicate 64 false) (replicate 64 0) left)
   begun h = kept-start setting by (rw (facts .routers) h)
 
   module _ {s : State} {placed : List ℕ} (kept : Right placed s) where

@@ -13,7 +13,6 @@ use Rattle.network.specs.Network.{Network, size}
 use Rattle.network.specs.Distance.{distances}
 use Rattle.network.specs.Order.{placedNeighbours, shortestNextHops, leadsInto}
 use Rattle.stations.specs.Limits.{mostRouters, mostNeighbours}
-use Rattle.arcs.specs.declared.Arcs.{Arcs}
 use Rattle.order.specs.declared.Mode.{Mode}
 use Rattle.order.specs.declared.Mode.the-variants as mode
 
@@ -42,14 +41,14 @@ pub record Slots (to cost ds : List ℕ) (u count : ℕ) : Type 0 where
   pub near : (v : ℕ) → v < mostRouters → getD ds v 0 ≤ farthest
 
 -- the same of the first n routers
-pub record AllSlots (a : Arcs) (n : ℕ) (ds : List ℕ) : Type 0 where
+pub record AllSlots (counts to cost : List ℕ) (n : ℕ) (ds : List ℕ) : Type 0 where
   pub most : n ≤ mostRouters
   pub long : length ds ≡ mostRouters
-  pub each : (u : ℕ) → u < n → Slots (a .to) (a .cost) ds u (getD (a .count) u 0)
+  pub each : (u : ℕ) → u < n → Slots to cost ds u (getD counts u 0)
 
 -- one round over the slots
-unfoldable pub roundIn : Arcs → ℕ → List ℕ → List ℕ
-roundIn a n ds = map (λ u. leastBy (slotCost (a .to) (a .cost) ds u) (getD ds u 0) (below (getD (a .count) u 0))) (below n)
+unfoldable pub roundIn : List ℕ → List ℕ → List ℕ → ℕ → List ℕ → List ℕ
+roundIn counts to cost n ds = map (λ u. leastBy (slotCost to cost ds u) (getD ds u 0) (below (getD counts u 0))) (below n)
 
 -- the distances to d in the first slots, and in no slot more than absent can be
 pub record Settled (n : Network) (d : ℕ) (ds : List ℕ) : Type 0 where
@@ -63,10 +62,10 @@ DistancesFor n d mode.ShortestPath ds = Settled n d ds
 DistancesFor n d mode.Free ds = ds ≡ replicate mostRouters 0
 
 -- what each router waits for before any is placed: in shortest-path mode for as many as it has shortest next hops, in free mode for one neighbour
-pub record Waits (a : Arcs) (n : ℕ) (ds : List ℕ) (m : Mode) (left : List ℕ) : Type 0 where
+pub record Waits (counts to cost : List ℕ) (n : ℕ) (ds : List ℕ) (m : Mode) (left : List ℕ) : Type 0 where
   pub long : length left ≡ mostRouters
   pub each : m ≡ mode.ShortestPath → (u : ℕ) → u < n →
-      getD left u 0 ≡ length (keep (slotShort (a .to) (a .cost) ds u) (below (getD (a .count) u 0)))
+      getD left u 0 ≡ length (keep (slotShort to cost ds u) (below (getD counts u 0)))
   pub one : m ≡ mode.Free → left ≡ replicate mostRouters 1
 
 -- the counters, by place: whether it is placed, how many neighbours are placed, and how many routers it waits for

@@ -46,15 +46,21 @@ fn least<'a>(
 }
 
 // One round: the least sums over paths of one arc more.
-fn next_round(a: Arcs, n: usize, old: [u32; ROUTERS]) -> [u32; ROUTERS]
-    requires { ⌜ AllSlots a n old ⌝ }
-    ensures { λ r. ⌜ r ≡ roundIn a n old ++ drop n old ⌝ }
+fn next_round<'a>(
+    counts: &'a [u8; ROUTERS],
+    to: &'a [u8; SLOTS],
+    cost: &'a [u16; SLOTS],
+    n: usize,
+    old: &'a [u32; ROUTERS],
+) -> [u32; ROUTERS]
+    requires { ⌜ AllSlots (now counts) (now to) (now cost) n (now old) ⌝ }
+    ensures { λ r. ⌜ r ≡ roundIn (now (counts .entry)) (now (to .entry)) (now (cost .entry)) n (now (old .entry)) ++ drop n (now (old .entry)) ⌝ }
 {
-    let mut next = old;
+    let mut next = *old;
     let mut u: usize = 0;
     while u < n {
-        let count = a.count[u] as usize;
-        next[u] = least(&a.to, &a.cost, &old, u, count);
+        let count = counts[u] as usize;
+        next[u] = least(to, cost, old, u, count);
         u += 1;
     }
     next
@@ -95,7 +101,7 @@ pub(crate) fn settled(t: Topology, a: Arcs, d: usize) -> [u32; ROUTERS]
     let mut ds = first_round(n, d);
     let mut k: usize = 1;
     while k < n {
-        let next = next_round(a, n, ds);
+        let next = next_round(&a.count, &a.to, &a.cost, n, &ds);
         if same(n, ds, next) {
             return ds;
         }

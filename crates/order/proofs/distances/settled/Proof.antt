@@ -12,14 +12,14 @@ use Rattle.order.proofs.distances.settled.Statement.{statement}
 use Rattle.order.proofs.distances.settled.Tie as tie
 
 abbrev Inv-loop : tie.InvT-loop
-Inv-loop a d n ds₀ k₀ ds k = (1 ≤ k) × (k ≤ n) × ((m : Network) → Held m a n → Row m d (k - 1) n ds)
+Inv-loop d a n ds₀ k₀ ds k = (1 ≤ k) × (k ≤ n) × ((m : Network) → Held m a n → Row m d (k - 1) n ds)
 
 abbrev μ-loop : tie.MeasureT-loop
-μ-loop a d n ds₀ k₀ ds k = n - k
+μ-loop d a n ds₀ k₀ ds k = n - k
 
 -- the network is held
-held : (c : tie.Start Inv-loop μ-loop) → Held (networkOf (c .args .t)) (c .args .a) (c .args .t .routers)
-held c = sound-held (c .args .t) (c .args .a) (c .pre .0) (c .pre .1)
+held : (c : tie.Start Inv-loop μ-loop) → Held (networkOf (c .args .t)) (c .args .t2) (c .args .t .routers)
+held c = sound-held (c .args .t) (c .args .t2) (c .pre .0) (c .pre .1)
 
 first-round-requires : tie.Need-first-round-requires Inv-loop μ-loop
 first-round-requires c κs = let most = held c .most in (most, omega (arith, c .pre .2))
@@ -29,27 +29,33 @@ loop-holds c =
     let in-it : c .before .args .d < c .before .args .t .routers = c .before .pre .2 in
     (omega arith, omega arith, λ m h. subst (Row m _ 0 _) (sym (c .first-round .ensures)) (first-row m _ _ h _ in-it))
 
+-- from a round's call back to its turn
+abbrev turn : tie.After-ds Inv-loop μ-loop → tie.In-loop Inv-loop μ-loop
+turn c = c .before .before .before .before .before
+
+abbrev start : tie.In-loop Inv-loop μ-loop → tie.Start Inv-loop μ-loop
+start c = c .before .before .before
+
 -- the row that a round makes
 next : (c : tie.After-next-round Inv-loop μ-loop) (m : Network) →
-    Held m (c .before .before .before .before .args .a) (c .before .before .before .before .args .t .routers) →
-    Row m (c .before .before .before .before .args .d) (suc (c .before .before .loop .k - 1)) (c .before .before .before .before .args .t .routers)
-    (c .next-round .result)
-next c m h = subst (Row m _ _ _) (sym (c .next-round .ensures)) (next-row m _ _ h _ _ _ (c .before .before .loop .inv .2 m h))
+    let args = start (turn (c .before)) .args in
+    Held m (args .t2) (args .t .routers) → Row m (args .d) (suc (turn (c .before) .before .loop .k - 1)) (args .t .routers) (c .next-round .result)
+next c m h = subst (Row m _ _ _) (sym (c .next-round .ensures)) (next-row m _ _ h _ _ _ (turn (c .before) .before .loop .inv .2 m h))
 
 next-round-requires : tie.Need-next-round-requires Inv-loop μ-loop
-next-round-requires c κs = let h = held (c .before .before .before) in row-slots _ _ _ h (c .before .loop .inv .2 _ h)
+next-round-requires c κs = let h = held (start (turn c)) in row-slots _ _ _ h (turn c .before .loop .inv .2 _ h)
 
 same-requires : tie.Need-same-requires Inv-loop μ-loop
-same-requires c κs = held (c .before .before .before .before) .most
+same-requires c κs = held (start (turn (c .before))) .most
 
 returns : tie.Need-returns Inv-loop μ-loop
 returns c =
-    let head = c .before .before .before .before in
-    let h = held (head .before .before) in
-    stopped _ _ _ h (head .before .before .pre .2) (head .loop .inv .2 _ h) (next (c .before .before) _ h) (c .before .same .ensures (c .if1 .taken))
+    let here = turn (c .before .before .before) in
+    let h = held (start here) in
+    stopped _ _ _ h (start here .pre .2) (here .before .loop .inv .2 _ h) (next (c .before .before) _ h) (c .before .same .ensures (c .if1 .taken))
 
 add-k : tie.Need-add-k Inv-loop μ-loop
-add-k c = omega (arith, held (c .before .before .before .before .before .before) .most)
+add-k c = omega (arith, held (start (turn (c .before .before .before))) .most)
 
 loop-less : tie.Need-loop-less Inv-loop μ-loop
 loop-less c = omega arith

@@ -8,7 +8,7 @@ use native.Mathlib.Omega.{arith}
 use borrow.Author.Count.{falls}
 use lib.ListN.{getD, length-set}
 use Rattle.order.specs.Inner.{Slots, state}
-use Rattle.order.proofs.Turn.{Given, slots, all-slots, begun, room}
+use Rattle.order.proofs.Turn.{Given, every-slot, begun, room}
 use Rattle.order.proofs.Building.{Building, same-long, first-turn, place, has-room, again, finished}
 use Rattle.order.proofs.unchecked.build.Statement.{statement}
 use Rattle.order.proofs.unchecked.build.Tie as tie
@@ -43,13 +43,13 @@ given c =
     }
 
 waits-requires : tie.Need-waits-requires Inv-loop μ-loop
-waits-requires c κs = all-slots (given c)
+waits-requires c κs = every-slot (given c)
 
 element-copy-out-count : tie.Need-element-copy-out-count Inv-loop μ-loop
-element-copy-out-count c = let g = given (c .before) in slots g _ (g .place) .place
+element-copy-out-count c = let g = given (c .before) in every-slot g .each _ (g .place) .place
 
 cast-count : tie.Need-cast-count Inv-loop μ-loop
-cast-count c = let g = given (c .before .before) in omega (arith, slots g _ (g .place) .few)
+cast-count c = let g = given (c .before .before) in omega (arith, every-slot g .each _ (g .place) .few)
 
 -- from the call that places d back to what it waits for
 abbrev waited : tie.After-ds Inv-loop μ-loop → tie.After-waits Inv-loop μ-loop
@@ -60,7 +60,7 @@ start c = waited c .before .before .before .before .before
 
 place-requires : tie.Need-place-requires Inv-loop μ-loop
 place-requires c κs =
-    let g = given (waited c .before) in (slots g _ (g .place), room g (begun g (waited c .waits .ensures)) (g .place) List·Memᴰ·not-nil)
+    let g = given (waited c .before) in (every-slot g .each _ (g .place), room g (begun g (waited c .waits .ensures)) (g .place) List·Memᴰ·not-nil)
 
 slice-write-out : tie.Need-slice-write-out Inv-loop μ-loop
 slice-write-out c = omega (arith, start (c .before) .pre)
@@ -76,7 +76,7 @@ abbrev turn : tie.After-select-arg Inv-loop μ-loop → tie.In-loop Inv-loop μ-
 turn c = c .before .before .before .before .before
 
 select-requires : tie.Need-select-requires Inv-loop μ-loop
-select-requires c κs = all-slots (turn c .before .loop .inv .given) .most
+select-requires c κs = every-slot (turn c .before .loop .inv .given) .most
 
 at-place : (c : tie.After-select Inv-loop μ-loop) →
     let w = waited (turn (c .before) .before .before .before) in
@@ -84,7 +84,7 @@ at-place : (c : tie.After-select Inv-loop μ-loop) →
     Slots (a .to) (a .cost) (w .before .distances-for .result) (c .select .result) (getD (a .count) (c .select .result) 0)
 at-place c =
     let b = turn (c .before) .before .loop .inv in
-    slots (b .given) _ (place b (turn (c .before) .loop-test .taken) (c .select .ensures))
+    every-slot (b .given) .each _ (place b (turn (c .before) .loop-test .taken) (c .select .ensures))
 
 element-copy-out-count-2 : tie.Need-element-copy-out-count-2 Inv-loop μ-loop
 element-copy-out-count-2 c = at-place c .place
@@ -111,7 +111,7 @@ slice-write-out-2 c =
 
 add-rank : tie.Need-add-rank Inv-loop μ-loop
 add-rank c =
-    let here = turn (selected (c .before) .before) in omega (arith, here .loop-test .taken, all-slots (here .before .loop .inv .given) .most)
+    let here = turn (selected (c .before) .before) in omega (arith, here .loop-test .taken, every-slot (here .before .loop .inv .given) .most)
 
 loop-less : tie.Need-loop-less Inv-loop μ-loop
 loop-less c = falls _ _ (turn (selected (c .before) .before) .loop-test .taken)

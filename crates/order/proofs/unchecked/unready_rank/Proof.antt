@@ -9,7 +9,7 @@ use borrow.Author.Count.{falls}
 use borrow.Author.Tests.{not-true, not-false}
 use lib.ListN.{getD}
 use Rattle.order.specs.Inner.{Slots, state, readyIn}
-use Rattle.order.proofs.Turn.{Given, slots, all-slots, begun, room}
+use Rattle.order.proofs.Turn.{Given, every-slot, begun, room}
 use Rattle.order.proofs.Checking.{Checking, first-turn, place, has-room, unready, again, none-unready}
 use Rattle.order.proofs.unchecked.unready_rank.Statement.{statement}
 use Rattle.order.proofs.unchecked.unready_rank.Tie as tie
@@ -44,13 +44,13 @@ given c =
     }
 
 waits-requires : tie.Need-waits-requires Inv-loop μ-loop
-waits-requires c κs = all-slots (given c)
+waits-requires c κs = every-slot (given c)
 
 element-copy-out-count : tie.Need-element-copy-out-count Inv-loop μ-loop
-element-copy-out-count c = let g = given (c .before) in slots g _ (g .place) .place
+element-copy-out-count c = let g = given (c .before) in every-slot g .each _ (g .place) .place
 
 cast-count : tie.Need-cast-count Inv-loop μ-loop
-cast-count c = let g = given (c .before .before) in omega (arith, slots g _ (g .place) .few)
+cast-count c = let g = given (c .before .before) in omega (arith, every-slot g .each _ (g .place) .few)
 
 -- from the call that places d back to what it waits for
 abbrev waited : tie.After-ds Inv-loop μ-loop → tie.After-waits Inv-loop μ-loop
@@ -61,7 +61,7 @@ start c = waited c .before .before .before .before .before
 
 place-requires : tie.Need-place-requires Inv-loop μ-loop
 place-requires c κs =
-    let g = given (waited c .before) in (slots g _ (g .place), room g (begun g (waited c .waits .ensures)) (g .place) List·Memᴰ·not-nil)
+    let g = given (waited c .before) in (every-slot g .each _ (g .place), room g (begun g (waited c .waits .ensures)) (g .place) List·Memᴰ·not-nil)
 
 loop-holds : tie.Need-loop-holds Inv-loop μ-loop
 loop-holds c =
@@ -79,7 +79,7 @@ at-place : (c : tie.After-shared-slice-known2 Inv-loop μ-loop) →
     Slots (a .to) (a .cost) (waited begin .before .distances-for .result) u (getD (a .count) u 0)
 at-place c =
     let w = c .before .before .before .loop .inv in
-    slots (w .given) _ (place w (c .before .if1 .taken))
+    every-slot (w .given) .each _ (place w (c .before .if1 .taken))
 
 cast-u : tie.Need-cast-u Inv-loop μ-loop
 cast-u c = omega (arith, at-place c .place)
@@ -116,7 +116,7 @@ place-requires-2 : tie.Need-place-requires-2 Inv-loop μ-loop
 place-requires-2 c κs = (at-place (passed c .before .before), has-room (turn c .before .before .loop .inv) (turn c .if1 .taken))
 
 add-rank : tie.Need-add-rank Inv-loop μ-loop
-add-rank c = let here = turn (c .before) in omega (arith, here .if1 .taken, all-slots (here .before .before .loop .inv .given) .most)
+add-rank c = let here = turn (c .before) in omega (arith, here .if1 .taken, every-slot (here .before .before .loop .inv .given) .most)
 
 loop-less : tie.Need-loop-less Inv-loop μ-loop
 loop-less c = falls _ _ (turn (c .before) .if1 .taken)
