@@ -37,38 +37,36 @@ tallied-none = record {
 }
 
 -- one more at both ends of a link
-abbrev once : List ℕ → network.Link → List ℕ
-once count l = set count (l .first) (getD count (l .first) 0 + 1)
+abbrev once : List ℕ → ℕ → List ℕ
+once count a = set count a (getD count a 0 + 1)
 
-abbrev pub twice : List ℕ → network.Link → List ℕ
-twice count l = set (set count (l .first) (getD count (l .first) 0 + 1)) (l .second) (getD count (l .second) 0 + 1)
+abbrev pub twice : List ℕ → ℕ → ℕ → List ℕ
+twice count a b = set (once count a) b (getD count b 0 + 1)
 
-module _ {count : List ℕ} {ls : List network.Link} (w : Tallied count ls) (l : network.Link) (hf : l .first < 64) (hs : l .second < 64)
-    (apart : l .first ≢ l .second) (rf : getD count (l .first) 0 < 16) (rs : getD count (l .second) 0 < 16) where
-  once-long : length (once count l) ≡ 64
-  once-long = length-set count (l .first) (getD count (l .first) 0 + 1) ∙ w .long
+module _ {count : List ℕ} {ls : List network.Link} (w : Tallied count ls) (l : network.Link) {a b : ℕ} (f : a ≡ l .first) (s : b ≡ l .second)
+    (ha : a < 64) (hb : b < 64) (apart : a ≢ b) (ra : getD count a 0 < 16) (rb : getD count b 0 < 16) where
+  once-long : length (once count a) ≡ 64
+  once-long = length-set count a (getD count a 0 + 1) ∙ w .long
 
-  step : (u : ℕ) → u < 64 → (p q : Bool) → eqb (l .first) u ≡ p → eqb (l .second) u ≡ q →
-      (getD (twice count l) u 0 ≡ getD count u 0 + cond p 1 (cond q 1 0)) × (getD (twice count l) u 0 ≤ 16)
+  step : (u : ℕ) → u < 64 → (p q : Bool) → eqb a u ≡ p → eqb b u ≡ q →
+      (getD (twice count a b) u 0 ≡ getD count u 0 + cond p 1 (cond q 1 0)) × (getD (twice count a b) u 0 ≤ 16)
   step u h true q e e′ =
-      let f : l .first ≡ u = eqb-true (l .first) u e in
-      let v = getD-set-other (once count l) (l .second) (l .first) (getD count (l .second) 0 + 1) 0 apart in
-      let v′ = getD-set-same count (l .first) (getD count (l .first) 0 + 1) 0 (omega (arith, w .long)) in
-      rw (← f) (omega (arith, v, v′), omega (arith, v, v′))
+      let v = getD-set-other (once count a) b a (getD count b 0 + 1) 0 apart in
+      let v′ = getD-set-same count a (getD count a 0 + 1) 0 (omega (arith, w .long)) in
+      rw (← eqb-true a u e) (omega (arith, v, v′), omega (arith, v, v′))
   step u h false true e e′ =
-      let s : l .second ≡ u = eqb-true (l .second) u e′ in
-      let v = getD-set-same (once count l) (l .second) (getD count (l .second) 0 + 1) 0 (omega (arith, once-long)) in
-      rw (← s) (v, omega (arith, v))
+      let v = getD-set-same (once count a) b (getD count b 0 + 1) 0 (omega (arith, once-long)) in
+      rw (← eqb-true b u e′) (v, omega (arith, v))
   step u h false false e e′ =
-      let v = getD-set-other (once count l) (l .second) u (getD count (l .second) 0 + 1) 0 (λ q. eqb-false (l .second) u e′ (sym q)) in
-      let v′ = getD-set-other count (l .first) u (getD count (l .first) 0 + 1) 0 (λ q. eqb-false (l .first) u e (sym q)) in
+      let v = getD-set-other (once count a) b u (getD count b 0 + 1) 0 (λ q. eqb-false b u e′ (sym q)) in
+      let v′ = getD-set-other count a u (getD count a 0 + 1) 0 (λ q. eqb-false a u e (sym q)) in
       (omega (arith, v, v′), omega (arith, v, v′, w .most u h))
 
-  pub tallied-more : Tallied (twice count l) (ls ++ (l ∷ []))
+  pub tallied-more : Tallied (twice count a b) (ls ++ (l ∷ []))
   unfolding ending
   tallied-more = record {
-    long = length-set (once count l) (l .second) (getD count (l .second) 0 + 1) ∙ once-long;
-    at = λ u h. step u h _ _ refl refl .0 ∙ rw (arcs-more u 0 ls l, w .at u h);
+    long = length-set (once count a) b (getD count b 0 + 1) ∙ once-long;
+    at = λ u h. step u h _ _ refl refl .0 ∙ rw (arcs-more u 0 ls l, w .at u h, f, s);
     most = λ u h. step u h _ _ refl refl .1;
   }
 

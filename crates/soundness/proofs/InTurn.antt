@@ -64,11 +64,11 @@ from-zeros t = every (eqb 0) (drop (t .routers) (t .id)) && every isNoLink (drop
 abbrev pub from-connected : Topology → Bool
 from-connected t = connected t && from-zeros t
 
-abbrev pub neighbours-fit : Topology → Bool
-neighbours-fit t = pairs-apart (contents t .links) && uncrowded t
+abbrev pub links-fit : Topology → Bool
+links-fit t = links-sound (t .routers) (contents t .links) && pairs-apart (contents t .links) && uncrowded t
 
 abbrev pub from-ids : Topology → Bool
-from-ids t = distinct (contents t .ids) && (links-sound (t .routers) (contents t .links) && (neighbours-fit t && from-connected t))
+from-ids t = distinct (contents t .ids) && (links-fit t && from-connected t)
 
 module _ (t : Topology) (vs : List Val) (good : Is the-row t vs) where
   slots : slotted t ≡ true
@@ -85,10 +85,11 @@ module _ (t : Topology) (vs : List Val) (good : Is the-row t vs) where
   unfolding sound wellLinked soundLinks unusedZero
   past-limits e = rw (listed (limits-counted t e), slots, e) (simp (and-assoc, and-true))
 
-  pub well-linked : Counted t → distinct (contents t .ids) ≡ true → links-sound (t .routers) (contents t .links) ≡ true →
-      neighbours-fit t ≡ true → T (wellLinked t)
+  pub well-linked : Counted t → distinct (contents t .ids) ≡ true → links-fit t ≡ true → T (wellLinked t)
   unfolding wellLinked soundLinks
-  well-linked counted ids links fit = rw (listed counted, ids, links) (both (pairs-apart (contents t .links)) (uncrowded t) (subst T (sym fit) tt) .0)
+  well-linked counted ids fit =
+      let joined = links-sound (t .routers) (contents t .links) && pairs-apart (contents t .links) in
+      rw (listed counted, ids) (both joined (uncrowded t) (subst T (sym fit) tt) .0)
 
   -- the first place that is apart is below the number of routers, if there is one
   pub all-joined : Counted t → t .routers ≤ firstOr (t .routers) (apart (contents t)) → connected t ≡ true

@@ -1,25 +1,18 @@
 -- Links of the struct, tested as links of a network: each one sound, and no pair linked twice.
 -- Assumes nothing.
-use Prim.Native.Nat.{ℕ, _≤_, _<_}
+use Prim.Native.Nat.{ℕ}
 use mathlib.Core.Bool.{Bool, true, false, not}
 use mathlib.Core.List.{List, [], _∷_, map, map-append}
-use mathlib.Core.Path.{_≡_, refl, _∙_}
-use native.Mathlib.Omega.{arith}
-use lib.ListN.{length, take, getD, length-map, List·getD-map}
-use lib.Seq.{length-take-le, getD-take}
+use mathlib.Core.Path.{_≡_, refl}
 use Rattle.network.specs.Lists.{every, any}
 use Rattle.network.specs.Network as network
 use Rattle.network.specs.Network.{soundLink, samePair, pairsDiffer}
 use Rattle.network.specs.Theorems.Network.{SoundLink}
 use Rattle.network.proofs.Tests.{as-true, as-false}
-use Rattle.network.proofs.Lists.{every-all}
-use Rattle.network.proofs.Selection.{getD-mem}
 use Rattle.network.proofs.SoundLinks.{link-fact}
 use Rattle.stations.specs.declared.Link.{Link}
-use Rattle.stations.specs.declared.Topology.{Topology}
-use Rattle.stations.specs.Topology.{noLink, contents, seen}
+use Rattle.stations.specs.Topology.{seen}
 use Rattle.stations.proofs.Prefix.{every-more, pairs-more}
-use Rattle.soundness.specs.Inner.{Joining}
 use Rattle.soundness.proofs.Turns.{Growing}
 
 abbrev pub links-sound : ℕ → List Link → Bool
@@ -42,13 +35,3 @@ module _ (n : ℕ) (l : network.Link) where
 
   pub unsound-fails : (SoundLink n l → ⊥) → soundLink n l ≡ false
   unsound-fails no′ = as-false (soundLink n l) (λ t. no′ (link-fact n l .0 t))
-
--- a link of a topology whose links are all sound
-pub sound-at : (t : Topology) → Joining t → (i : ℕ) → i < t .links → t .links ≤ length (t .link) →
-    SoundLink (t .routers) (seen (getD (t .link) i noLink))
-unfolding contents
-sound-at t joining i k h =
-    let ls = map seen (take (t .links) (t .link)) in
-    let long : length ls ≡ t .links = length-map (take (t .links) (t .link)) seen ∙ length-take-le (t .links) (t .link) h in
-    let s = every-all (soundLink (t .routers)) ls (joining .join) _ (getD-mem ls i (seen noLink) (omega arith)) in
-    rw (List·getD-map seen (take (t .links) (t .link)) i noLink, getD-take (t .links) (t .link) i noLink k) at (link-fact (t .routers) _ .0 s)

@@ -39,7 +39,7 @@ still table i j h e = step (truth (eqb j i))
 abbrev once : List Bool → Link → List Bool
 once table l = set table (l .first * 64 + l .second) true
 
-abbrev pub twice : List Bool → Link → List Bool
+abbrev twice : List Bool → Link → List Bool
 twice table l = set (set table (l .first * 64 + l .second) true) (l .second * 64 + l .first) true
 
 module _ {table : List Bool} {ls : List Link} (w : Tabled table ls) (l : Link) (hf : l .first < 64) (hs : l .second < 64) where
@@ -64,8 +64,10 @@ module _ {table : List Bool} {ls : List Link} (w : Tabled table ls) (l : Link) (
     step (inr o) =
         rw (any-more (samePair k) ls l, as-false (samePair k l) o, or-false) (kept (λ p. o (pair-fact k l .1 p)) ∙ w .at k gf gs)
 
-  pub tabled-more : Tabled (twice table l) (ls ++ (l ∷ []))
-  tabled-more = record {
-    long = length-set (once table l) (l .second * 64 + l .first) true ∙ once-long;
-    at = λ k gf gs. step k gf gs (truth (samePair k l));
-  }
+  pub tabled-more : {a b : ℕ} → a ≡ l .first → b ≡ l .second → Tabled (set (set table (a * 64 + b) true) (b * 64 + a) true) (ls ++ (l ∷ []))
+  tabled-more e e′ =
+      rw (e, e′)
+      record {
+        long = length-set (once table l) (l .second * 64 + l .first) true ∙ once-long;
+        at = λ k gf gs. step k gf gs (truth (samePair k l));
+      }

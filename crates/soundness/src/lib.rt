@@ -17,10 +17,7 @@ pub fn is_sound(t: Topology) -> bool
     if !testing::ids_differ(t) {
         return false;
     }
-    if !testing::links_join(t) {
-        return false;
-    }
-    if !testing::neighbours_fit(t) {
+    if !testing::links_fit(t) {
         return false;
     }
     if unchecked::lowest_apart(t) < t.routers {

@@ -14,9 +14,7 @@ ghost use Rattle.network.specs.Lists.{distinct, every};
 ghost use Rattle.network.specs.Network.{pairsDiffer, soundLink};
 ghost use Rattle.stations.specs.Topology.{contents, seen};
 ghost use Rattle.stations.specs.Inner.{Counted};
-ghost use Rattle.soundness.specs.Sound.{inLimits, isNoLink};
-ghost use Rattle.soundness.specs.Sound as said;
-ghost use Rattle.soundness.specs.Inner.{Joining};
+ghost use Rattle.soundness.specs.Sound.{inLimits, uncrowded, isNoLink};
 
 pub(crate) fn in_limits(t: Topology) -> bool
     ensures { λ r. ⌜ r ≡ inLimits t ⌝ }
@@ -54,12 +52,16 @@ pub(crate) fn ids_differ(t: Topology) -> bool
     true
 }
 
-pub(crate) fn links_join(t: Topology) -> bool
+// Goes once through the links. A table of pairs of places holds the pairs that are linked so far, each in both orders; beside it each place has the
+// number of its neighbours so far.
+pub(crate) fn links_fit(t: Topology) -> bool
     requires { ⌜ Counted t ⌝ }
-    ensures { λ r. ⌜ r ≡ every (soundLink (t .routers)) (map seen (contents t .links)) ⌝ }
+    ensures { λ r. let ls = map seen (contents t .links) in ⌜ r ≡ (every (soundLink (t .routers)) ls && pairsDiffer ls && uncrowded t) ⌝ }
 {
     let n = t.routers;
     let links = t.links;
+    let mut linked = [false; ROUTERS * ROUTERS];
+    let mut count = [0usize; ROUTERS];
     let mut i: usize = 0;
     while i < links {
         let l = t.link[i];
@@ -77,24 +79,6 @@ pub(crate) fn links_join(t: Topology) -> bool
         if l.cost == 0 {
             return false;
         }
-        i += 1;
-    }
-    true
-}
-
-// A table of pairs of places holds the pairs that are linked so far, each in both orders; beside it each place has the number of neighbours so far.
-pub(crate) fn neighbours_fit(t: Topology) -> bool
-    requires { ⌜ Joining t ⌝ }
-    ensures { λ r. ⌜ r ≡ (pairsDiffer (map seen (contents t .links)) && said.uncrowded t) ⌝ }
-{
-    let links = t.links;
-    let mut linked = [false; ROUTERS * ROUTERS];
-    let mut count = [0usize; ROUTERS];
-    let mut i: usize = 0;
-    while i < links {
-        let l = t.link[i];
-        let first = l.first.index();
-        let second = l.second.index();
         if linked[first * ROUTERS + second] {
             return false;
         }

@@ -1,0 +1,275 @@
+-- The loop's invariant: the links before `i` are sound and no two link one pair; tables have their pairs and each place's neighbours, at most 16.
+-- Assumes nothing.
+use Prim.Native.Nat.{ℕ, _+_, _*_, _-_, _≤_, _<_}
+use mathlib.Core.Bool.{false, not, and-false}
+use mathlib.Core.List.{map}
+use mathlib.Core.Logic.{_⊎_, inl, inr, ⊎-elim}
+use mathlib.Core.Path.{_≡_, ap, sym, _∙_}
+use native.Mathlib.Omega.{arith}
+use borrow.Author.Needs.{needs}
+use lib.ListN.{length, take, getD}
+use Rattle.network.specs.Lists.{any}
+use Rattle.network.specs.Network.{Link, samePair}
+use Rattle.network.specs.Theorems.Network.{SoundLink}
+use Rattle.network.proofs.Selection.{getD-mem}
+use Rattle.stations.specs.declared.Topology.{Topology}
+use Rattle.stations.specs.Topology.{noLink, contents, seen}
+use Rattle.stations.proofs.Machine.{ids-length, links-length, cost-fits}
+use Rattle.stations.proofs.Prefix.{map-more}
+use Rattle.soundness.proofs.InTurn.{links-fit}
+use Rattle.soundness.proofs.Turns.{Passing, passed, failed, none-passed, all-passed}
+use Rattle.soundness.proofs.Links.{links-sound, sound-grow, sound-passes, unsound-fails, pairs-apart, pairs-grow}
+use Rattle.soundness.proofs.Pairs.{Tabled, tabled-none, tabled-more}
+use Rattle.soundness.proofs.Crowds.{Tallied, tallied-none, tallied-more, all-uncrowded, crowded}
+use Rattle.soundness.proofs.testing.links_fit.Statement.{statement}
+use Rattle.soundness.proofs.testing.links_fit.Tie as tie
+
+abbrev Inv-loop : tie.InvT-loop
+Inv-loop t n links linked₀ count₀ i₀ linked count i =
+    let ls = map seen (take i (t .link)) in
+    Passing (links-sound n) (t .link) (t .links) i × Passing pairs-apart (t .link) (t .links) i × Tabled linked ls × Tallied count ls
+    × (length (t .id) ≡ 64)
+
+abbrev μ-loop : tie.MeasureT-loop
+μ-loop t n links linked₀ count₀ i₀ linked count i = links - i
+
+loop-holds : tie.Need-loop-holds Inv-loop μ-loop
+loop-holds c =
+    let long = links-length (c .args .t1) _ (c .good .0) in (
+      none-passed (sound-grow _) _ _ (omega (arith, long, c .pre .links-fit)),
+      none-passed pairs-grow _ _ (omega (arith, long, c .pre .links-fit)),
+      tabled-none,
+      tallied-none,
+      ids-length (c .args .t1) _ (c .good .0),
+    )
+
+mul-l : tie.Need-mul-l Inv-loop μ-loop
+mul-l c = search needs
+
+element-copy-out-l : tie.Need-element-copy-out-l Inv-loop μ-loop
+element-copy-out-l c = search needs
+
+index-requires : tie.Need-index-requires Inv-loop μ-loop
+index-requires c κs = search needs
+
+index-requires-2 : tie.Need-index-requires-2 Inv-loop μ-loop
+index-requires-2 c κs = search needs
+
+-- the topology, and the link of a turn
+abbrev topology : tie.In-loop Inv-loop μ-loop → Topology
+topology w = w .before .before .args .t1
+
+abbrev link-at : tie.In-loop Inv-loop μ-loop → Link
+link-at w = seen (getD (topology w .link) (w .before .loop .i) noLink)
+
+unsound : (w : tie.In-loop Inv-loop μ-loop) → (SoundLink (topology w .routers) (link-at w) → ⊥) → false ≡ links-fit (topology w)
+unfolding contents
+unsound w no′ = rw (sym (failed (sound-grow _) (w .before .loop .inv .0) (omega arith) noLink (unsound-fails _ _ no′)))
+
+returns : tie.Need-returns Inv-loop μ-loop
+unfolding noLink seen
+returns c = unsound (c .before .before .before .before) (λ s. omega (arith, s .first-listed))
+
+returns-2 : tie.Need-returns-2 Inv-loop μ-loop
+unfolding noLink seen
+returns-2 c = unsound (c .before .before .before .before .before) (λ s. omega (arith, s .second-listed))
+
+returns-3 : tie.Need-returns-3 Inv-loop μ-loop
+unfolding noLink seen
+returns-3 c = unsound (c .before .before .before .before .before .before) (λ s. s .ends-differ (omega arith))
+
+returns-4 : tie.Need-returns-4 Inv-loop μ-loop
+unfolding noLink seen
+returns-4 c = unsound (c .before .before .before .before .before .before .before .before) (λ s. omega (arith, s .cost-least))
+
+-- a turn whose link is sound; that its cost is at most 65,535 is what a `u16` tells
+abbrev turn : tie.Else4 Inv-loop μ-loop → tie.In-loop Inv-loop μ-loop
+turn c = c .before .before .before .before .before .before .before .before
+
+abbrev ends-of : tie.Else4 Inv-loop μ-loop → tie.After-index2 Inv-loop μ-loop
+ends-of c = c .before .before .before .before .before
+
+sound-link : (c : tie.Else4 Inv-loop μ-loop) → SoundLink (topology (turn c) .routers) (link-at (turn c))
+unfolding noLink seen
+sound-link c =
+    let w = turn c in
+    let m = getD-mem (topology w .link) (w .before .loop .i) noLink (omega arith) in
+    record {
+      first-listed = omega arith;
+      second-listed = omega arith;
+      ends-differ = λ e. c .before .before .if3 .left (omega arith);
+      cost-least = omega arith;
+      cost-most = omega (arith, cost-fits (topology w) _ (w .before .before .good .0) _ m);
+    }
+
+ends-are : (c : tie.Else4 Inv-loop μ-loop) →
+    (ends-of c .before .index .result ≡ link-at (turn c) .first) × (ends-of c .index2 .result ≡ link-at (turn c) .second)
+unfolding noLink seen
+ends-are c = (ends-of c .before .index .ensures, ends-of c .index2 .ensures)
+
+ends : (c : tie.Else4 Inv-loop μ-loop) → (ends-of c .before .index .result < 64) × (ends-of c .index2 .result < 64)
+ends c = (omega arith, omega arith)
+
+-- what the table of pairs has of it
+asked : (c : tie.Else4 Inv-loop μ-loop) → let w = turn c in
+    getD (w .before .loop .linked) (ends-of c .before .index .result * 64 + ends-of c .index2 .result) false
+    ≡ any (samePair (link-at w)) (map seen (take (w .before .loop .i) (topology w .link)))
+asked c =
+    let w = turn c .before in
+    ap (λ j. getD (w .loop .linked) j false) (omega (arith, ends-are c))
+    ∙ w .loop .inv .2 .at (link-at (turn c)) (omega (arith, sound-link c)) (omega (arith, sound-link c))
+
+mul-if5 : tie.Need-mul-if5 Inv-loop μ-loop
+mul-if5 c = omega (arith, ends c)
+
+add-if5 : tie.Need-add-if5 Inv-loop μ-loop
+add-if5 c = omega (arith, ends c)
+
+array-read-if5 : tie.Need-array-read-if5 Inv-loop μ-loop
+array-read-if5 c = omega (arith, ends c)
+
+returns-5 : tie.Need-returns-5 Inv-loop μ-loop
+unfolding noLink contents
+returns-5 c =
+    let w = turn (c .before) in
+    rw (sym (failed pairs-grow (w .before .loop .inv .1) (omega arith) noLink (ap not (sym (asked (c .before)) ∙ c .if5 .taken))), and-false)
+
+mul-linked : tie.Need-mul-linked Inv-loop μ-loop
+mul-linked c = omega (arith, ends (c .before))
+
+add-linked : tie.Need-add-linked Inv-loop μ-loop
+add-linked c = omega (arith, ends (c .before))
+
+array-write-linked : tie.Need-array-write-linked Inv-loop μ-loop
+array-write-linked c = omega (arith, ends (c .before))
+
+mul-linked-2 : tie.Need-mul-linked-2 Inv-loop μ-loop
+mul-linked-2 c = omega (arith, ends (c .before))
+
+add-linked-2 : tie.Need-add-linked-2 Inv-loop μ-loop
+add-linked-2 c = omega (arith, ends (c .before))
+
+array-write-linked-2 : tie.Need-array-write-linked-2 Inv-loop μ-loop
+array-write-linked-2 c = omega (arith, ends (c .before))
+
+mul-at-first : tie.Need-mul-at-first Inv-loop μ-loop
+mul-at-first c = omega (arith, ends (c .before))
+
+array-read-at-first : tie.Need-array-read-at-first Inv-loop μ-loop
+array-read-at-first c = omega (arith, ends (c .before))
+
+mul-at-second : tie.Need-mul-at-second Inv-loop μ-loop
+mul-at-second c = omega (arith, ends (c .before))
+
+array-read-at-second : tie.Need-array-read-at-second Inv-loop μ-loop
+array-read-at-second c = omega (arith, ends (c .before))
+
+-- one of its ends has 16 neighbours already
+refuse : (c : tie.Else4 Inv-loop μ-loop) (u : ℕ) → (link-at (turn c) .first ≡ u) ⊎ (link-at (turn c) .second ≡ u) →
+    16 ≤ getD (turn c .before .loop .count) u 0 → false ≡ links-fit (topology (turn c))
+refuse c u e many =
+    let w = turn c .before in
+    let t = w .before .args .t1 in
+    let h : u < t .routers = ⊎-elim (λ f. omega (arith, sound-link c)) (λ s. omega (arith, sound-link c)) e in
+    let n = w .loop .inv .3 .at u (omega arith) in
+    rw (sym (crowded t (omega arith) u (w .loop .i) noLink h (omega arith) (w .loop .inv .0 .long) e (omega (arith, n))), and-false)
+
+returns-6 : tie.Need-returns-6 Inv-loop μ-loop
+returns-6 c = let l = c .before .before in refuse l _ (inl (sym (ends-are l .0))) (c .if6 .taken)
+
+returns-7 : tie.Need-returns-7 Inv-loop μ-loop
+returns-7 c = let l = c .before .before .before in refuse l _ (inr (sym (ends-are l .1))) (c .if7 .taken)
+
+add-count : tie.Need-add-count Inv-loop μ-loop
+add-count c = omega arith
+
+mul-count : tie.Need-mul-count Inv-loop μ-loop
+mul-count c = omega (arith, ends (c .before .before .before))
+
+array-write-count : tie.Need-array-write-count Inv-loop μ-loop
+array-write-count c = ends (c .before .before .before) .0
+
+add-count-2 : tie.Need-add-count-2 Inv-loop μ-loop
+add-count-2 c = omega arith
+
+mul-count-2 : tie.Need-mul-count-2 Inv-loop μ-loop
+mul-count-2 c = omega (arith, ends (c .before .before .before))
+
+array-write-count-2 : tie.Need-array-write-count-2 Inv-loop μ-loop
+array-write-count-2 c = ends (c .before .before .before) .1
+
+add-i : tie.Need-add-i Inv-loop μ-loop
+add-i c = search needs
+
+loop-less : tie.Need-loop-less Inv-loop μ-loop
+loop-less c = omega arith
+
+loop-again : tie.Need-loop-again Inv-loop μ-loop
+unfolding noLink
+loop-again c =
+    let p = c .before .before in
+    let l = p .before in
+    let w = turn l .before in
+    let k = link-at (turn l) in
+    let s = sound-link l in
+    let (f, g) = ends-are l in
+    let more = map-more seen (w .before .args .t1 .link) (w .loop .i) noLink (omega arith) in (
+      passed (sound-grow _) (w .loop .inv .0) (omega arith) noLink (sound-passes _ _ s),
+      passed pairs-grow (w .loop .inv .1) (omega arith) noLink (ap not (sym (asked l) ∙ p .if5 .left)),
+      rw more (tabled-more (w .loop .inv .2) k (omega (arith, s)) (omega (arith, s)) f g),
+      rw more
+          (tallied-more (w .loop .inv .3) k f g (ends l .0) (ends l .1) (l .before .before .if3 .left) (c .before .if6 .left) (c .if7 .left)),
+      w .loop .inv .4,
+    )
+
+returns-8 : tie.Need-returns-8 Inv-loop μ-loop
+unfolding contents
+returns-8 c =
+    let w = c .before in
+    let t = w .before .args .t1 in
+    let e : w .loop .i ≡ t .links = omega (arith, w .loop .inv .0 .within) in
+    let n = w .loop .inv .3 in
+    let few = all-uncrowded t (omega arith) (λ u h. rw (← e) (omega (arith, n .at u (omega arith), n .most u (omega arith)))) in
+    rw (sym (all-passed (w .loop .inv .0) (c .loop-test .left)), sym (all-passed (w .loop .inv .1) (c .loop-test .left)), sym few)
+
+pub links-fit-spec : {M : Type 1} → statement M
+links-fit-spec =
+    tie.close
+    (tie.spec
+    Inv-loop
+    μ-loop
+    loop-holds
+    mul-l
+    element-copy-out-l
+    index-requires
+    index-requires-2
+    returns
+    returns-2
+    returns-3
+    returns-4
+    mul-if5
+    add-if5
+    array-read-if5
+    returns-5
+    mul-linked
+    add-linked
+    array-write-linked
+    mul-linked-2
+    add-linked-2
+    array-write-linked-2
+    mul-at-first
+    array-read-at-first
+    mul-at-second
+    array-read-at-second
+    returns-6
+    returns-7
+    add-count
+    mul-count
+    array-write-count
+    add-count-2
+    mul-count-2
+    array-write-count-2
+    add-i
+    loop-less
+    loop-again
+    returns-8)
