@@ -67,16 +67,10 @@ pub(crate) fn links_fit(t: Topology) -> bool
         let l = t.link[i];
         let first = l.first.index();
         let second = l.second.index();
-        if n <= first {
+        if n <= first || n <= second {
             return false;
         }
-        if n <= second {
-            return false;
-        }
-        if first == second {
-            return false;
-        }
-        if l.cost == 0 {
+        if first == second || l.cost == 0 {
             return false;
         }
         if linked[first * ROUTERS + second] {
@@ -86,10 +80,7 @@ pub(crate) fn links_fit(t: Topology) -> bool
         linked[second * ROUTERS + first] = true;
         let at_first = count[first];
         let at_second = count[second];
-        if NEIGHBOURS <= at_first {
-            return false;
-        }
-        if NEIGHBOURS <= at_second {
+        if NEIGHBOURS <= at_first || NEIGHBOURS <= at_second {
             return false;
         }
         count[first] = at_first + 1;

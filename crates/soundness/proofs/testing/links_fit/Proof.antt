@@ -7,6 +7,7 @@ use mathlib.Core.Logic.{_⊎_, inl, inr, ⊎-elim}
 use mathlib.Core.Path.{_≡_, ap, sym, _∙_}
 use native.Mathlib.Omega.{arith}
 use borrow.Author.Needs.{needs}
+use borrow.Author.Tests.{leb-true, leb-false, eqb-true, eqb-false}
 use lib.ListN.{length, take, getD}
 use Rattle.network.specs.Lists.{any}
 use Rattle.network.specs.Network.{Link, samePair}
@@ -68,19 +69,15 @@ unsound w no′ = rw (sym (failed (sound-grow _) (w .before .loop .inv .0) (omeg
 
 returns : tie.Need-returns Inv-loop μ-loop
 unfolding noLink seen
-returns c = unsound (c .before .before .before .before) (λ s. omega (arith, s .first-listed))
+returns c =
+    unsound (c .before .before .before .before)
+    (⊎-elim (λ w s. omega (arith, w .taken, s .first-listed)) (λ w s. omega (arith, leb-true, s .second-listed)) (c .if1 .came))
 
 returns-2 : tie.Need-returns-2 Inv-loop μ-loop
 unfolding noLink seen
-returns-2 c = unsound (c .before .before .before .before .before) (λ s. omega (arith, s .second-listed))
-
-returns-3 : tie.Need-returns-3 Inv-loop μ-loop
-unfolding noLink seen
-returns-3 c = unsound (c .before .before .before .before .before .before) (λ s. s .ends-differ (omega arith))
-
-returns-4 : tie.Need-returns-4 Inv-loop μ-loop
-unfolding noLink seen
-returns-4 c = unsound (c .before .before .before .before .before .before .before .before) (λ s. omega (arith, s .cost-least))
+returns-2 c =
+    unsound (c .before .before .before .before .before .before)
+    (⊎-elim (λ w s. s .ends-differ (omega (arith, w .taken))) (λ w s. omega (arith, eqb-true, s .cost-least)) (c .if3 .came))
 
 -- a turn whose link is sound; that its cost is at most 65,535 is what a `u16` tells
 abbrev turn : tie.Else4 Inv-loop μ-loop → tie.In-loop Inv-loop μ-loop
@@ -89,6 +86,9 @@ turn c = c .before .before .before .before .before .before .before .before
 abbrev ends-of : tie.Else4 Inv-loop μ-loop → tie.After-index2 Inv-loop μ-loop
 ends-of c = c .before .before .before .before .before
 
+second-in : (c : tie.Else4 Inv-loop μ-loop) → ends-of c .index2 .result < topology (turn c) .routers
+second-in c = leb-false _ _ (c .before .before .before .if2 .left)
+
 sound-link : (c : tie.Else4 Inv-loop μ-loop) → SoundLink (topology (turn c) .routers) (link-at (turn c))
 unfolding noLink seen
 sound-link c =
@@ -96,9 +96,9 @@ sound-link c =
     let m = getD-mem (topology w .link) (w .before .loop .i) noLink (omega arith) in
     record {
       first-listed = omega arith;
-      second-listed = omega arith;
+      second-listed = omega (arith, second-in c);
       ends-differ = λ e. c .before .before .if3 .left (omega arith);
-      cost-least = omega arith;
+      cost-least = omega (arith, eqb-false);
       cost-most = omega (arith, cost-fits (topology w) _ (w .before .before .good .0) _ m);
     }
 
@@ -108,7 +108,7 @@ unfolding noLink seen
 ends-are c = (ends-of c .before .index .ensures, ends-of c .index2 .ensures)
 
 ends : (c : tie.Else4 Inv-loop μ-loop) → (ends-of c .before .index .result < 64) × (ends-of c .index2 .result < 64)
-ends c = (omega arith, omega arith)
+ends c = (omega arith, omega (arith, second-in c))
 
 -- what the table of pairs has of it
 asked : (c : tie.Else4 Inv-loop μ-loop) → let w = turn c in
@@ -128,9 +128,9 @@ add-if5 c = omega (arith, ends c)
 array-read-if5 : tie.Need-array-read-if5 Inv-loop μ-loop
 array-read-if5 c = omega (arith, ends c)
 
-returns-5 : tie.Need-returns-5 Inv-loop μ-loop
+returns-3 : tie.Need-returns-3 Inv-loop μ-loop
 unfolding noLink contents
-returns-5 c =
+returns-3 c =
     let w = turn (c .before) in
     rw (sym (failed pairs-grow (w .before .loop .inv .1) (omega arith) noLink (ap not (sym (asked (c .before)) ∙ c .if5 .taken))), and-false)
 
@@ -174,11 +174,11 @@ refuse c u e many =
     let n = w .loop .inv .3 .at u (omega arith) in
     rw (sym (crowded t (omega arith) u (w .loop .i) noLink h (omega arith) (w .loop .inv .0 .long) e (omega (arith, n))), and-false)
 
-returns-6 : tie.Need-returns-6 Inv-loop μ-loop
-returns-6 c = let l = c .before .before in refuse l _ (inl (sym (ends-are l .0))) (c .if6 .taken)
-
-returns-7 : tie.Need-returns-7 Inv-loop μ-loop
-returns-7 c = let l = c .before .before .before in refuse l _ (inr (sym (ends-are l .1))) (c .if7 .taken)
+returns-4 : tie.Need-returns-4 Inv-loop μ-loop
+returns-4 c =
+    let l = c .before .before in
+    ⊎-elim (λ w. refuse l _ (inl (sym (ends-are l .0))) (w .taken)) (λ w. refuse l _ (inr (sym (ends-are l .1))) (leb-true _ _ (w .1 .taken)))
+    (c .if6 .came)
 
 add-count : tie.Need-add-count Inv-loop μ-loop
 add-count c = omega arith
@@ -190,7 +190,7 @@ array-write-count : tie.Need-array-write-count Inv-loop μ-loop
 array-write-count c = ends (c .before .before .before) .0
 
 add-count-2 : tie.Need-add-count-2 Inv-loop μ-loop
-add-count-2 c = omega arith
+add-count-2 c = omega (arith, leb-false)
 
 mul-count-2 : tie.Need-mul-count-2 Inv-loop μ-loop
 mul-count-2 c = omega (arith, ends (c .before .before .before))
@@ -218,13 +218,13 @@ loop-again c =
       passed pairs-grow (w .loop .inv .1) (omega arith) noLink (ap not (sym (asked l) ∙ p .if5 .left)),
       rw more (tabled-more (w .loop .inv .2) k (omega (arith, s)) (omega (arith, s)) f g),
       rw more
-          (tallied-more (w .loop .inv .3) k f g (ends l .0) (ends l .1) (l .before .before .if3 .left) (c .before .if6 .left) (c .if7 .left)),
+          (tallied-more (w .loop .inv .3) k f g (ends l .0) (ends l .1) (l .before .before .if3 .left) (c .before .if6 .left) (leb-false _ _ (c .if7 .left))),
       w .loop .inv .4,
     )
 
-returns-8 : tie.Need-returns-8 Inv-loop μ-loop
+returns-5 : tie.Need-returns-5 Inv-loop μ-loop
 unfolding contents
-returns-8 c =
+returns-5 c =
     let w = c .before in
     let t = w .before .args .t1 in
     let e : w .loop .i ≡ t .links = omega (arith, w .loop .inv .0 .within) in
@@ -245,12 +245,10 @@ links-fit-spec =
     index-requires-2
     returns
     returns-2
-    returns-3
-    returns-4
     mul-if5
     add-if5
     array-read-if5
-    returns-5
+    returns-3
     mul-linked
     add-linked
     array-write-linked
@@ -261,8 +259,7 @@ links-fit-spec =
     array-read-at-first
     mul-at-second
     array-read-at-second
-    returns-6
-    returns-7
+    returns-4
     add-count
     mul-count
     array-write-count
@@ -272,4 +269,4 @@ links-fit-spec =
     add-i
     loop-less
     loop-again
-    returns-8)
+    returns-5)
