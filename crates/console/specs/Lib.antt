@@ -1,5 +1,1 @@
-pub mod Fields
-pub mod Hex
-pub mod Lines
-pub mod Numbers
 pub mod Requests

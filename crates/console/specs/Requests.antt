@@ -14,17 +14,17 @@ use Rattle.topology.specs.Written.{writing}
 use Rattle.stations.specs.declared.Answer.{Answer}
 use Rattle.order.specs.declared.Mode.the-variants as mode
 use Rattle.order.specs.Calls.{building, checking}
-use Rattle.console.specs.declared.fields.Value.{Value}
-use Rattle.console.specs.declared.fields.Value.the-variants.{Is, Wrong}
+use Rattle.text.specs.declared.unchecked.fields.Value.{Value}
+use Rattle.text.specs.declared.unchecked.fields.Value.the-variants.{Is, Wrong}
 use Rattle.console.specs.declared.requests.Request.{Request}
 use Rattle.console.specs.declared.requests.Request.the-variants as request
 use Rattle.console.specs.declared.requests.Aim.{Aim}
 use Rattle.console.specs.declared.requests.Aim.the-variants as aim
 use Rattle.console.specs.declared.requests.Turn.{Turn}
-use Rattle.console.specs.Fields.{field, same, asks}
-use Rattle.console.specs.Numbers.{number}
-use Rattle.console.specs.Hex.{byteCount, bytes}
-use Rattle.console.specs.Lines.{Put, errorLine, answerLine, bufferLine}
+use Rattle.text.specs.Fields.{field, same, asks}
+use Rattle.text.specs.Numbers.{number}
+use Rattle.text.specs.Hex.{byteCount, bytes}
+use Rattle.text.specs.Lines.{Put, errorLine, answerLine, bufferLine}
 
 -- at most 65,536 for ROOM
 abbrev pub mostRoom : ℕ

@@ -5,13 +5,12 @@
 //     write ROOM         NUMBER AT BUFFER, which is ROOM bytes of `aa`, at most 65,536 of them, as the call left it
 //
 // Any other line, and one of more than 262,144 bytes, answers `error` and changes nothing.
-mod fields;
-mod hex;
-mod lines;
 mod requests;
 
 use libc::STDIN_FILENO;
 use libc::STDOUT_FILENO;
+use text::unchecked::fields;
+use text::unchecked::lines;
 use topology::LINKS;
 use topology::Link;
 use topology::Place;

@@ -1,16 +1,16 @@
 // What each request asks and how it is answered: the topology that is held from then on, and the line that answers, in a lent buffer.
-use super::fields;
-use super::fields::Value;
-use super::hex;
-use super::lines;
 use order::Mode;
+use text::unchecked::fields;
+use text::unchecked::fields::Value;
+use text::unchecked::hex;
+use text::unchecked::lines;
 use topology::Place;
 use topology::Topology;
 ghost use mathlib.Core.Path.{_≡_};
 ghost use Prim.Native.Nat.{_≤_};
 ghost use lib.ListN.{length};
-ghost use Rattle.console.specs.Numbers.{number};
-ghost use Rattle.console.specs.Hex.{byteCount, bytes};
+ghost use Rattle.text.specs.Numbers.{number};
+ghost use Rattle.text.specs.Hex.{byteCount, bytes};
 ghost use Rattle.console.specs.Requests.{mostRoom, mostDestination, mostLine, mostAnswer, requestIn, refused, readBy, writeBy, aimOf, orderBy, checkOrderBy, answerHeld, Told};
 ghost use Rattle.console.specs.Requests as said;
 

@@ -6,8 +6,8 @@ use mathlib.Core.Path.{_≡_, refl, ap, sym, _∙_}
 use native.Mathlib.Omega.{arith}
 use lib.ListN.{length, take, drop, length-drop}
 use lib.Seq.{length-take-le}
-use Rattle.console.specs.Lines.{newline}
-use Rattle.console.proofs.Scan.{to-end, before-length}
+use Rattle.text.specs.Lines.{newline}
+use Rattle.text.proofs.Scan.{to-end, before-length}
 use Rattle.console.proofs.take.Statement.{statement}
 use Rattle.console.proofs.take.Tie as tie
 

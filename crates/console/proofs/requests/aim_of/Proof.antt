@@ -4,11 +4,11 @@ use Prim.Native.Nat.{_≤_}
 use mathlib.Core.Bool.{true, false}
 use mathlib.Core.Path.{_≡_, sym, _∙_}
 use native.Mathlib.Omega.{arith}
-use Rattle.console.specs.declared.fields.Value.the-variants.{Is, Wrong}
-use Rattle.console.specs.Fields.{same}
-use Rattle.console.specs.Numbers.{number}
+use Rattle.text.specs.declared.unchecked.fields.Value.the-variants.{Is, Wrong}
+use Rattle.text.specs.Fields.{same}
+use Rattle.text.specs.Numbers.{number}
 use Rattle.console.specs.Requests.{mostDestination, shortestWord, freeWord, aimOf}
-use Rattle.console.proofs.Numbers.{number-bound}
+use Rattle.text.proofs.Numbers.{number-bound}
 use borrow.Author.Needs.{needs}
 use Rattle.console.proofs.requests.aim_of.Statement.{statement}
 use Rattle.console.proofs.requests.aim_of.Tie as tie

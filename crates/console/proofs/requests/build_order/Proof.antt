@@ -7,12 +7,12 @@ use native.Mathlib.Omega.{arith}
 use lib.ListN.{length, take, drop, length-append}
 use lib.Seq.{take-at}
 use Rattle.order.specs.Calls.{building}
-use Rattle.console.specs.declared.fields.Value.the-variants.{Is, Wrong}
-use Rattle.console.specs.Numbers.{number}
+use Rattle.text.specs.declared.unchecked.fields.Value.the-variants.{Is, Wrong}
+use Rattle.text.specs.Numbers.{number}
 use Rattle.console.specs.Requests.{mostRoom, lent, orderBy, bufferAnswer}
 use Rattle.console.proofs.Lent.{lent-length, lent-start}
-use Rattle.console.proofs.Numbers.{number-bound}
-use Rattle.console.proofs.Texts.{buffer-line-length}
+use Rattle.text.proofs.Numbers.{number-bound}
+use Rattle.text.proofs.Texts.{buffer-line-length}
 use borrow.Author.Needs.{needs}
 use Rattle.console.proofs.requests.build_order.Statement.{statement}
 use Rattle.console.proofs.requests.build_order.Tie as tie

@@ -5,12 +5,12 @@ use native.Mathlib.Omega.{arith}
 use lib.ListN.{length, take}
 use lib.Seq.{length-take-le}
 use Rattle.order.specs.Calls.{checking}
-use Rattle.console.specs.declared.fields.Value.the-variants.{Is, Wrong}
-use Rattle.console.specs.Hex.{byteCount, bytes}
+use Rattle.text.specs.declared.unchecked.fields.Value.the-variants.{Is, Wrong}
+use Rattle.text.specs.Hex.{byteCount, bytes}
 use Rattle.console.specs.Requests.{checkOrderBy, checkAnswer}
-use Rattle.console.proofs.Bytes.{counted}
-use Rattle.console.proofs.Stores.{start}
-use Rattle.console.proofs.Texts.{answer-line-length}
+use Rattle.text.proofs.Bytes.{counted}
+use Rattle.text.proofs.Stores.{start}
+use Rattle.text.proofs.Texts.{answer-line-length}
 use borrow.Author.Needs.{needs}
 use Rattle.console.proofs.requests.check_order.Statement.{statement}
 use Rattle.console.proofs.requests.check_order.Tie as tie

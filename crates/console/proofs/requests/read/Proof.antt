@@ -5,12 +5,12 @@ use native.Mathlib.Omega.{arith}
 use lib.ListN.{take}
 use lib.Seq.{length-take-le}
 use Rattle.stream.specs.Reading.{reading}
-use Rattle.console.specs.declared.fields.Value.the-variants.{Is, Wrong}
-use Rattle.console.specs.Hex.{byteCount, bytes}
+use Rattle.text.specs.declared.unchecked.fields.Value.the-variants.{Is, Wrong}
+use Rattle.text.specs.Hex.{byteCount, bytes}
 use Rattle.console.specs.Requests.{readBy, readAnswer}
-use Rattle.console.proofs.Bytes.{counted}
-use Rattle.console.proofs.Stores.{start}
-use Rattle.console.proofs.Texts.{answer-line-length}
+use Rattle.text.proofs.Bytes.{counted}
+use Rattle.text.proofs.Stores.{start}
+use Rattle.text.proofs.Texts.{answer-line-length}
 use borrow.Author.Needs.{needs}
 use Rattle.console.proofs.requests.read.Statement.{statement}
 use Rattle.console.proofs.requests.read.Tie as tie

@@ -2,7 +2,7 @@
 -- Assumes nothing.
 use mathlib.Core.Path.{refl}
 use native.Mathlib.Omega.{arith}
-use Rattle.console.specs.Lines.{errorLine}
+use Rattle.text.specs.Lines.{errorLine}
 use Rattle.console.specs.Requests.{refused}
 use borrow.Author.Needs.{needs}
 use Rattle.console.proofs.requests.refuse.Statement.{statement}

@@ -2,7 +2,7 @@
 -- Assumes nothing.
 use mathlib.Core.Bool.{true, false}
 use mathlib.Core.Path.{_≡_, sym, _∙_}
-use Rattle.console.specs.Fields.{asks}
+use Rattle.text.specs.Fields.{asks}
 use Rattle.console.specs.Requests.{topologyWord, writeWord, orderWord, checkOrderWord, requestIn}
 use borrow.Author.Needs.{needs}
 use Rattle.console.proofs.requests.request_in.Statement.{statement}

@@ -5,7 +5,7 @@ use native.Mathlib.Omega.{arith}
 use lib.ListN.{length}
 use Rattle.console.specs.declared.requests.Request.the-variants as request
 use Rattle.console.specs.Requests.{requestIn, answer, answerTo}
-use Rattle.console.proofs.Scan.{field-length}
+use Rattle.text.proofs.Scan.{field-length}
 use borrow.Author.Needs.{needs}
 use Rattle.console.proofs.requests.respond.Statement.{statement}
 use Rattle.console.proofs.requests.respond.Tie as tie

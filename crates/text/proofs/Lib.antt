@@ -1,0 +1,5 @@
+pub mod Bytes
+pub mod Numbers
+pub mod Scan
+pub mod Stores
+pub mod Texts

@@ -1,0 +1,175 @@
+-- A loop that goes over a text has the rest of it before itself: what a function of `specs/` makes of that rest, by the byte that comes next.
+-- Assumes nothing.
+use Prim.Native.Nat.{ℕ, zero, suc, _+_, _-_, _≤_, _<_}
+use mathlib.Core.Bool.{Bool, true, false, cond, _&&_}
+use mathlib.Core.List.{List, [], _∷_}
+use mathlib.Core.Logic.{_≢_}
+use mathlib.Core.Path.{_≡_, refl, ap, sym, subst}
+use native.Mathlib.Numerals.{add-one}
+use native.Mathlib.Omega.{arith}
+use borrow.Author.Tests.{eq-eqb, ne-eqb}
+use lib.Dec.{T, eqb}
+use lib.ListN.{length, getD, drop, take, drop-of-length-le, length-drop}
+use lib.Seq.{drop-cons, take-all}
+use Rattle.network.specs.Lists.{every}
+use Rattle.text.specs.Fields.{space, before, after, field, spaces, same}
+
+zero-after : (s : List ℕ) → after 0 s ≡ s
+unfolding after
+zero-after [] = refl
+zero-after (c ∷ s) = refl
+
+module _ (s : List ℕ) (i : ℕ) where
+  pub rest : i < length s → drop i s ≡ getD s i 0 ∷ drop (i + 1) s
+  rest h = rw (add-one) (drop-cons s i 0 h)
+
+  pub no-rest : length s ≤ i → drop i s ≡ []
+  no-rest h = drop-of-length-le s h
+
+  -- a part that goes to the end
+  pub to-end : take (length s - i) (drop i s) ≡ drop i s
+  to-end = take-all (length s - i) (drop i s) (omega (arith, length-drop i s))
+
+  pub at-stop : (stop : ℕ) → i < length s → getD s i 0 ≡ stop → length (before stop (drop i s)) ≡ 0
+  unfolding before
+  at-stop stop h e = rw (rest h, eq-eqb (getD s i 0) stop e)
+
+  pub past-byte : (stop : ℕ) → i < length s → getD s i 0 ≢ stop → length (before stop (drop i s)) ≡ suc (length (before stop (drop (i + 1) s)))
+  unfolding before
+  past-byte stop h e = rw (rest h, ne-eqb (getD s i 0) stop e)
+
+  pub after-none : after 0 (drop i s) ≡ drop i s
+  after-none = zero-after (drop i s)
+
+  pub after-space : (n : ℕ) → 1 ≤ n → i < length s → getD s i 0 ≡ space → after n (drop i s) ≡ after (n - 1) (drop (i + 1) s)
+  unfolding after
+  after-space zero l h e = absurd (omega arith)
+  after-space (suc n) l h e =
+      let q : suc n - 1 ≡ n = omega arith in
+      rw (q, rest h, eq-eqb (getD s i 0) space e)
+
+  pub after-byte : (n : ℕ) → 1 ≤ n → i < length s → getD s i 0 ≢ space → after n (drop i s) ≡ after n (drop (i + 1) s)
+  unfolding after
+  after-byte zero l h e = absurd (omega arith)
+  after-byte (suc n) l h e = rw (rest h, ne-eqb (getD s i 0) space e)
+
+  pub spaces-space : i < length s → getD s i 0 ≡ space → spaces (drop i s) ≡ suc (spaces (drop (i + 1) s))
+  unfolding spaces
+  spaces-space h e = rw (rest h, eq-eqb (getD s i 0) space e)
+
+  pub spaces-byte : i < length s → getD s i 0 ≢ space → spaces (drop i s) ≡ spaces (drop (i + 1) s)
+  unfolding spaces
+  spaces-byte h e = rw (rest h, ne-eqb (getD s i 0) space e)
+
+  pub before-end : (stop : ℕ) → length s ≤ i → length (before stop (drop i s)) ≡ 0
+  unfolding before
+  before-end stop h = rw (no-rest h)
+
+  pub after-end : (n : ℕ) → length s ≤ i → after n (drop i s) ≡ drop i s
+  unfolding after
+  after-end n h = rw (no-rest h)
+
+  pub spaces-end : length s ≤ i → spaces (drop i s) ≡ 0
+  unfolding spaces
+  spaces-end h = rw (no-rest h)
+
+module _ (f : ℕ → Bool) (s : List ℕ) (i : ℕ) where
+  pub every-not : i < length s → f (getD s i 0) ≡ false → every f (drop i s) ≡ false
+  unfolding every
+  every-not h e = rw (rest s i h, e)
+
+  pub every-on : i < length s → f (getD s i 0) ≡ true → every f (drop i s) ≡ every f (drop (i + 1) s)
+  unfolding every
+  every-on h e = rw (rest s i h, e)
+
+  pub every-end : length s ≤ i → every f (drop i s) ≡ true
+  unfolding every
+  every-end h = rw (no-rest s i h)
+
+-- two texts side by side
+module _ (s t : List ℕ) (i : ℕ) where
+  pub same-not : i < length s → i < length t → getD s i 0 ≢ getD t i 0 → same (drop i s) (drop i t) ≡ false
+  unfolding same
+  same-not h k e = rw (rest s i h, rest t i k, ne-eqb (getD s i 0) (getD t i 0) e)
+
+  pub same-on : i < length s → i < length t → getD s i 0 ≡ getD t i 0 → same (drop i s) (drop i t) ≡ same (drop (i + 1) s) (drop (i + 1) t)
+  unfolding same
+  same-on h k e = rw (rest s i h, rest t i k, eq-eqb (getD s i 0) (getD t i 0) e)
+
+  pub same-end : length s ≤ i → length t ≤ i → same (drop i s) (drop i t) ≡ true
+  unfolding same
+  same-end h k = rw (no-rest s i h, no-rest t i k)
+
+pub and-no : (a b : Bool) → a ≡ false → (a && b) ≡ false
+and-no a b e = rw (e)
+
+pub and-yes : (a b : Bool) → a ≡ true → (a && b) ≡ b
+and-yes a b e = rw (e)
+
+pub and-left : (a b : Bool) → (a && b) ≡ true → a ≡ true
+and-left true b e = refl
+and-left false b e = e
+
+pub and-right : (a b : Bool) → (a && b) ≡ true → b ≡ true
+and-right true b e = e
+and-right false true e = refl
+and-right false false e = e
+
+and-false : (b : Bool) → (b && false) ≡ false
+and-false true = refl
+and-false false = refl
+
+pub same-length : (s t : List ℕ) → length s ≢ length t → same s t ≡ false
+unfolding same
+same-length [] [] e = absurd (e refl)
+same-length [] (d ∷ t) e = refl
+same-length (c ∷ s) [] e = refl
+same-length (c ∷ s) (d ∷ t) e = rw (same-length s t (λ q. e (ap suc q))) (and-false (eqb c d))
+
+pub length-same : (s t : List ℕ) → same s t ≡ true → length s ≡ length t
+unfolding same
+length-same [] [] e = refl
+length-same [] (d ∷ t) e = absurd (subst T (sym e) tt)
+length-same (c ∷ s) [] e = absurd (subst T (sym e) tt)
+length-same (c ∷ s) (d ∷ t) e = ap suc (length-same s t (and-right (eqb c d) (same s t) e))
+
+-- what stands before the first such byte is the start of the text
+pub take-before : (stop : ℕ) (s : List ℕ) → take (length (before stop s)) s ≡ before stop s
+unfolding before
+take-before stop [] = refl
+take-before stop (c ∷ s) = first (eqb c stop) (take-before stop s)
+  where
+    first : (b : Bool) → take (length (before stop s)) s ≡ before stop s →
+        take (length (cond b [] (c ∷ before stop s))) (c ∷ s) ≡ cond b [] (c ∷ before stop s)
+    first true e = refl
+    first false e = ap (λ (t : List ℕ). c ∷ t) e
+
+pub every-at : (f : ℕ → Bool) (s : List ℕ) (i : ℕ) → every f s ≡ true → i < length s → f (getD s i 0) ≡ true
+unfolding every
+every-at f [] i e h = absurd (omega arith)
+every-at f (c ∷ s) zero e h = and-left (f c) (every f s) e
+every-at f (c ∷ s) (suc i) e h = every-at f s i (and-right (f c) (every f s) e) (omega arith)
+
+pub before-length : (stop : ℕ) (s : List ℕ) → length (before stop s) ≤ length s
+unfolding before
+before-length stop [] = omega arith
+before-length stop (c ∷ s) = first (eqb c stop) (before-length stop s)
+  where
+    first : (b : Bool) → length (before stop s) ≤ length s → length (cond b [] (c ∷ before stop s)) ≤ suc (length s)
+    first true h = omega arith
+    first false h = omega arith
+
+after-length : (n : ℕ) (s : List ℕ) → length (after n s) ≤ length s
+unfolding after
+after-length n [] = omega arith
+after-length zero (c ∷ s) = omega arith
+after-length (suc n) (c ∷ s) = first (eqb c space) (after-length n s) (after-length (suc n) s)
+  where
+    first : (b : Bool) → length (after n s) ≤ length s → length (after (suc n) s) ≤ length s →
+        length (cond b (after n s) (after (suc n) s)) ≤ suc (length s)
+    first true h k = omega arith
+    first false h k = omega arith
+
+pub field-length : (n : ℕ) (s : List ℕ) → length (field n s) ≤ length s
+unfolding field
+field-length n s = omega (arith, before-length space (after n s), after-length n s)

@@ -1,0 +1,23 @@
+-- A field is the start of what stands after the spaces before it, up to the next space.
+-- Assumes nothing.
+use Rattle.text.specs.Fields.{space, field}
+use Rattle.text.proofs.Scan.{take-before}
+use borrow.Author.Needs.{needs}
+use Rattle.text.proofs.unchecked.fields.field.Statement.{statement}
+use Rattle.text.proofs.unchecked.fields.field.Tie as tie
+
+after-requires : tie.Need-after-requires
+after-requires c κs = search needs
+
+width-requires : tie.Need-width-requires
+width-requires c κs = search needs
+
+slice-aggregate-result : tie.Need-slice-aggregate-result
+slice-aggregate-result c = cc (take-before space (c .before .before .after .result .now))
+
+returns : tie.Need-returns
+unfolding field
+returns c = cc (take-before space (c .before .before .after .result .now))
+
+pub field-spec : {M : Type 1} → statement M
+field-spec = tie.close (tie.spec after-requires width-requires slice-aggregate-result returns)

@@ -1,0 +1,43 @@
+-- Each text is put behind the one before.
+-- Assumes nothing.
+use native.Mathlib.Omega.{arith}
+use Rattle.text.specs.Lines.{answerText}
+use Rattle.text.proofs.Stores.{behind}
+use Rattle.text.proofs.Texts.{number-length}
+use borrow.Author.Needs.{needs}
+use Rattle.text.proofs.unchecked.lines.put_answer.Statement.{statement}
+use Rattle.text.proofs.unchecked.lines.put_answer.Tie as tie
+
+put-number-requires : tie.Need-put-number-requires
+put-number-requires c κs = search needs
+
+slice-aggregate-put : tie.Need-slice-aggregate-put
+slice-aggregate-put c = search needs
+
+put-requires : tie.Need-put-requires
+put-requires c κs =
+    omega (arith, number-length (c .before .before .before .before .before .before .before .args .number))
+
+put-number-requires-2 : tie.Need-put-number-requires-2
+put-number-requires-2 c κs =
+    omega (arith, number-length (c .before .before .before .before .before .before .before .before .before .before .before .args .number))
+
+same-length : tie.Need-same-length
+same-length c = search needs
+
+returns : tie.Need-returns
+unfolding answerText
+returns c =
+    let number = c .before .before .before .before .before .before .before .before .before .before .before .put-number .ensures in
+    behind number (behind (c .before .before .before .before .before .before .put .ensures) (c .before .before .put-number2 .ensures))
+
+pub put-answer-spec : {M : Type 1} → statement M
+put-answer-spec =
+    tie.close
+    (tie.spec
+    put-number-requires
+    slice-aggregate-put
+    put-requires
+    put-number-requires-2
+    same-length
+    returns)
