@@ -81,6 +81,13 @@ unfoldable pub distinct : List ℕ → Bool
 distinct [] = true
 distinct (u ∷ us) = cond (member u us) false (distinct us)
 
+-- two lists hold the same numbers, in the same places
+unfoldable pub sameNumbers : List ℕ → List ℕ → Bool
+sameNumbers [] [] = true
+sameNumbers [] (y ∷ ys) = false
+sameNumbers (x ∷ xs) [] = false
+sameNumbers (x ∷ xs) (y ∷ ys) = eqb x y && sameNumbers xs ys
+
 -- 01, Order, and Rows and tables, ties by the higher router ID: x is less than y, or they are equal and the ID i is higher than the ID j
 unfoldable pub wins : ℕ → ℕ → ℕ → ℕ → Bool
 wins x y i j = ltb x y || (eqb x y && ltb j i)

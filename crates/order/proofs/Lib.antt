@@ -23,3 +23,4 @@ pub mod Answers
 pub mod Orders
 pub mod Verdicts
 pub mod Proposals
+pub mod Table

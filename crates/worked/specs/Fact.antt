@@ -1,10 +1,10 @@
 -- A worked fact: which network, destination and mode, what is asked of the order that is built for it, and what is expected.
 -- Assumes nothing.
 use Prim.Native.Nat.{ℕ}
-use mathlib.Core.Bool.{Bool, true, false, cond, _&&_}
-use mathlib.Core.List.{List, [], _∷_, map}
+use mathlib.Core.Bool.{Bool, false, cond, _&&_}
+use mathlib.Core.List.{List, map}
 use lib.Dec.{eqb}
-use Rattle.network.specs.Lists.{below, member}
+use Rattle.network.specs.Lists.{below, member, sameNumbers}
 use Rattle.network.specs.Network.{Network}
 use Rattle.network.specs.Distance.{distances}
 use Rattle.network.specs.Order.{Mode, build}
@@ -47,12 +47,6 @@ pub record Fact : Type 0 where
 unfoldable pub upBut : Network → List ℕ → List ℕ
 upBut n down = map (λ link. cond (member link down) 0 1) (below (n .links))
 
-unfoldable pub same : List ℕ → List ℕ → Bool
-same [] [] = true
-same [] (y ∷ ys) = false
-same (x ∷ xs) [] = false
-same (x ∷ xs) (y ∷ ys) = eqb x y && same xs ys
-
 unfoldable pub leftAt : Packet ℕ → ℕ → ℕ → Bool
 leftAt p station hops = eqb (p .station) station && eqb (p .hops) hops
 
@@ -70,9 +64,9 @@ callOf n d limit order (hop states) = hopping states
 
 -- the claim about a network, a destination and an order
 unfoldable pub claimHolds : Network → ℕ → List ℕ → Claim → Bool
-claimHolds n d order (order-is expected) = same order expected
-claimHolds n d order (row-is limit u expected) = same (map (λ a. a .to) (row n (distances n d) limit order u)) expected
-claimHolds n d order (greatest-are limit expected) = same (greatestHops n d limit order) expected
+claimHolds n d order (order-is expected) = sameNumbers order expected
+claimHolds n d order (row-is limit u expected) = sameNumbers (map (λ a. a .to) (row n (distances n d) limit order u)) expected
+claimHolds n d order (greatest-are limit expected) = sameNumbers (greatestHops n d limit order) expected
 claimHolds n d order (walk-ends limit u schedule expected) = endsSo expected (walk (routers n d limit order) schedule (start u))
 claimHolds n d order (walk-costs limit u schedule expected) = eqb (costOf (route (routers n d limit order) schedule u)) expected
 claimHolds n d order (calls-leave limit steps station hops) =

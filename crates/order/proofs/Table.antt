@@ -1,0 +1,25 @@
+-- The prover computes every fact from the definitions.
+-- Assumes nothing.
+use Rattle.network.specs.Lists.{numbersFrom, below, keep, every, any, leastBy, ahead, foremost, member, distinct, sameNumbers, wins}
+use Rattle.network.specs.Network.{size, idOf, arcsOf, greatestCost, arcsAmong, linked, soundLink, samePair, pairsDiffer, soundLinks}
+use Rattle.network.specs.Distance as of-distance
+use Rattle.network.specs.Distance.{absent, distanceIn, through, round, rounds, distances}
+use Rattle.network.specs.Order.{reached, shortestNextHops, leadsInto, ready, candidate, placedNeighbours, preferred, select, continued, placing}
+use Rattle.network.specs.Order.{build}
+use Rattle.stations.specs.Outcome.{turnedAway, given}
+use Rattle.stations.specs.Topology.{noLink, padded, contents, held, zeros, seen, networkIn, networkOf}
+use Rattle.soundness.specs.Apart.{apart}
+use Rattle.soundness.specs.Sound.{within, inLimits, wellLinked, uncrowded, none?, connected, isNoLink, unusedZero, slotted, sound}
+use Rattle.order.specs.Calls.{modeOf, building, says, wrongRanks, unreadyRanks, atFirst, checking}
+use Rattle.order.specs.Table.{answers, holds, link, T-topology, square, facts, FactsHold}
+
+pub facts-hold : FactsHold
+unfolding numbersFrom below keep every any leastBy ahead foremost member distinct sameNumbers wins
+    size idOf arcsOf greatestCost arcsAmong linked soundLink samePair pairsDiffer soundLinks
+    absent distanceIn through of-distance.atFirst round rounds distances
+    reached shortestNextHops leadsInto ready candidate placedNeighbours preferred select continued placing build
+    turnedAway given noLink padded contents held zeros seen networkIn networkOf apart
+    within inLimits wellLinked uncrowded none? connected isNoLink unusedZero slotted sound
+    modeOf building says wrongRanks unreadyRanks atFirst checking
+    answers holds link T-topology square facts
+facts-hold = tt

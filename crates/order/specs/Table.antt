@@ -1,0 +1,74 @@
+-- The examples of 01, Refusals and where they point, for building and checking orders, and orders that succeed, as one list: the call and what it
+-- answers. A new fact is one line.
+-- Assumes nothing.
+use Prim.Native.Nat.{ℕ}
+use mathlib.Core.Bool.{Bool, _&&_}
+use mathlib.Core.List.{List, [], _∷_}
+use lib.Dec.{T, eqb}
+use Rattle.network.specs.Lists.{every, sameNumbers}
+use Rattle.stations.specs.declared.Answer.{Answer}
+use Rattle.stations.specs.declared.Link.{Link}
+use Rattle.stations.specs.declared.Topology.{Topology}
+use Rattle.stations.specs.Topology.{held, zeros}
+use Rattle.order.specs.declared.Mode.{Mode}
+use Rattle.order.specs.declared.Mode.the-variants as mode
+use Rattle.order.specs.Calls.{building, checking}
+
+pub data Fact : Type 0 where
+  -- checking an order answers a number, at
+  checks : Topology → ℕ → Mode → List ℕ → ℕ → ℕ → Fact
+  -- building into a buffer answers a number, at, and leaves these bytes
+  builds : Topology → ℕ → Mode → List ℕ → ℕ → ℕ → List ℕ → Fact
+
+unfoldable pub answers : Answer → ℕ → ℕ → Bool
+answers a number at = eqb (a .number) number && eqb (a .at) at
+
+unfoldable pub holds : Fact → Bool
+holds (checks t d m order number at) = answers (checking t d m order) number at
+holds (builds t d m buffer number at bytes) =
+    answers (building t d m buffer .answer) number at && sameNumbers (building t d m buffer .buffer) bytes
+
+unfoldable pub link : ℕ → ℕ → ℕ → Link
+link first second cost = record { first = record { 0 = first }; second = record { 0 = second }; cost = cost }
+
+-- 01, Two networks by hand: T
+unfoldable pub T-topology : Topology
+T-topology = held (record { ids = 1 ∷ 2 ∷ 3 ∷ []; links = link 0 1 1 ∷ link 1 2 1 ∷ link 0 2 3 ∷ []; limit = 16 })
+
+-- the rule's "plausible and wrong": place 3 has the two shortest next hops 1 and 2 to place 0
+unfoldable pub square : Topology
+square = held (record { ids = 1 ∷ 2 ∷ 3 ∷ 4 ∷ []; links = link 0 1 1 ∷ link 0 2 1 ∷ link 1 3 1 ∷ link 2 3 1 ∷ []; limit = 16 })
+
+-- By number of the refusal, each beside one that is tested later; then the calls that succeed. 170 is what the buffers hold.
+unfoldable pub facts : List Fact
+facts =
+    checks zeros 0 mode.ShortestPath [] 14 0
+    ∷ checks zeros 5 mode.Free (0 ∷ []) 14 0
+    ∷ builds zeros 0 mode.Free (170 ∷ []) 14 0 (170 ∷ [])
+    ∷ checks T-topology 3 mode.ShortestPath (0 ∷ 1 ∷ 2 ∷ []) 15 3
+    ∷ checks T-topology 255 mode.Free [] 15 255
+    ∷ builds T-topology 3 mode.ShortestPath [] 15 3 []
+    ∷ checks T-topology 0 mode.ShortestPath (0 ∷ 1 ∷ []) 17 2
+    ∷ checks T-topology 0 mode.ShortestPath (0 ∷ 0 ∷ 0 ∷ 0 ∷ []) 17 4
+    ∷ checks T-topology 0 mode.Free [] 17 0
+    ∷ checks T-topology 0 mode.ShortestPath (0 ∷ 1 ∷ 1 ∷ []) 18 2
+    ∷ checks T-topology 0 mode.ShortestPath (0 ∷ 3 ∷ 0 ∷ []) 18 1
+    ∷ checks T-topology 0 mode.ShortestPath (1 ∷ 1 ∷ 0 ∷ []) 18 1
+    ∷ checks T-topology 0 mode.ShortestPath (1 ∷ 0 ∷ 2 ∷ []) 19 0
+    ∷ checks T-topology 2 mode.ShortestPath (0 ∷ 2 ∷ 1 ∷ []) 19 0
+    ∷ checks T-topology 0 mode.ShortestPath (0 ∷ 2 ∷ 1 ∷ []) 20 1
+    ∷ checks square 0 mode.ShortestPath (0 ∷ 2 ∷ 3 ∷ 1 ∷ []) 20 2
+    ∷ checks square 0 mode.Free (0 ∷ 3 ∷ 2 ∷ 1 ∷ []) 20 1
+    ∷ builds T-topology 0 mode.ShortestPath (170 ∷ 170 ∷ []) 24 3 (170 ∷ 170 ∷ [])
+    ∷ checks T-topology 0 mode.ShortestPath (0 ∷ 1 ∷ 2 ∷ []) 0 0
+    ∷ checks T-topology 0 mode.Free (0 ∷ 2 ∷ 1 ∷ []) 0 0
+    ∷ checks square 0 mode.ShortestPath (0 ∷ 1 ∷ 2 ∷ 3 ∷ []) 0 0
+    ∷ checks square 0 mode.Free (0 ∷ 2 ∷ 3 ∷ 1 ∷ []) 0 0
+    ∷ builds T-topology 0 mode.ShortestPath (170 ∷ 170 ∷ 170 ∷ []) 0 3 (0 ∷ 1 ∷ 2 ∷ [])
+    ∷ builds T-topology 0 mode.Free (170 ∷ 170 ∷ 170 ∷ 170 ∷ []) 0 3 (0 ∷ 2 ∷ 1 ∷ 170 ∷ [])
+    ∷ builds square 0 mode.ShortestPath (170 ∷ 170 ∷ 170 ∷ 170 ∷ []) 0 4 (0 ∷ 2 ∷ 1 ∷ 3 ∷ [])
+    ∷ []
+
+-- The one statement: every fact of the list holds, by computing it.
+abbrev pub FactsHold : Type 0
+FactsHold = T (every holds facts)
