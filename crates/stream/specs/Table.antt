@@ -103,10 +103,15 @@ facts =
     ∷ reads (one ++ (2 ∷ 0 ∷ 0 ∷ 0 ∷ 0 ∷ [])) (refused 6 5)
     ∷ reads (two ++ (2 ∷ 0 ∷ 1 ∷ 0 ∷ 0 ∷ [])) (refused 7 10)
     ∷ reads (two ++ (2 ∷ 0 ∷ 1 ∷ 0 ∷ 1 ∷ 2 ∷ 0 ∷ 1 ∷ 0 ∷ 0 ∷ [])) (refused 7 15)
+    ∷ reads (routers 64 ++ (take 1280 ring ++ (2 ∷ 31 ∷ 50 ∷ 0 ∷ 0 ∷ []))) (refused 7 1600)
     ∷ reads (two ++ (2 ∷ 0 ∷ 1 ∷ 0 ∷ 1 ∷ 2 ∷ 1 ∷ 0 ∷ 0 ∷ 1 ∷ [])) (refused 8 15)
     ∷ reads (two ++ (2 ∷ 0 ∷ 1 ∷ 0 ∷ 1 ∷ 2 ∷ 0 ∷ 1 ∷ 0 ∷ 1 ∷ [])) (refused 8 15)
+    ∷ reads (routers 64 ++ (take 1280 ring ++ (2 ∷ 0 ∷ 1 ∷ 0 ∷ 1 ∷ []))) (refused 8 1600)
+    ∷ reads (routers 18 ++ (hub 16 ++ (2 ∷ 1 ∷ 0 ∷ 0 ∷ 1 ∷ []))) (refused 8 170)
     ∷ reads (routers 64 ++ take 1285 ring) (refused 9 1600)
+    ∷ reads (routers 64 ++ (take 1280 ring ++ (2 ∷ 31 ∷ 50 ∷ 0 ∷ 1 ∷ []))) (refused 9 1600)
     ∷ reads (routers 18 ++ hub 17) (refused 10 170)
+    ∷ reads (routers 18 ++ (hub 16 ++ (2 ∷ 17 ∷ 0 ∷ 0 ∷ 1 ∷ []))) (refused 10 170)
     ∷ reads (T-stream ++ (0 ∷ [])) (refused 11 31)
     ∷ reads (3 ∷ 0 ∷ []) (refused 11 1)
     ∷ reads (3 ∷ []) (refused 12 0)
@@ -114,6 +119,8 @@ facts =
     ∷ reads (two ++ (3 ∷ [])) (refused 13 1)
     ∷ reads (three ++ (3 ∷ [])) (refused 13 1)
     ∷ reads (three ++ (2 ∷ 0 ∷ 1 ∷ 0 ∷ 1 ∷ 3 ∷ [])) (refused 13 2)
+    ∷ reads (three ++ (2 ∷ 0 ∷ 2 ∷ 0 ∷ 1 ∷ 3 ∷ [])) (refused 13 1)
+    ∷ reads (routers 4 ++ (2 ∷ 1 ∷ 2 ∷ 0 ∷ 1 ∷ 3 ∷ [])) (refused 13 1)
     ∷ reads (8 ∷ 0 ∷ []) (refused 16 0)
     ∷ reads (8 ∷ 17 ∷ []) (refused 16 0)
     ∷ reads (8 ∷ 3 ∷ 8 ∷ 0 ∷ []) (refused 16 2)
@@ -124,6 +131,7 @@ facts =
     ∷ reads (1 ∷ 1 ∷ 2 ∷ 3 ∷ 4 ∷ 3 ∷ []) (returned (16909060 ∷ []) [] 16)
     ∷ reads (two ++ (2 ∷ 1 ∷ 0 ∷ 1 ∷ 2 ∷ 3 ∷ [])) (returned (1 ∷ 2 ∷ []) ((1, 0, 258) ∷ []) 16)
     ∷ reads (two ++ (2 ∷ 0 ∷ 1 ∷ 255 ∷ 255 ∷ 3 ∷ [])) (returned (1 ∷ 2 ∷ []) ((0, 1, 65535) ∷ []) 16)
+    ∷ reads (two ++ (2 ∷ 0 ∷ 1 ∷ 0 ∷ 1 ∷ 1 ∷ 0 ∷ 0 ∷ 0 ∷ 3 ∷ 8 ∷ 5 ∷ 2 ∷ 1 ∷ 2 ∷ 0 ∷ 1 ∷ 3 ∷ [])) (returned (1 ∷ 2 ∷ 3 ∷ []) ((0, 1, 1) ∷ (1, 2, 1) ∷ []) 5)
     ∷ []
 
 -- The one statement: every fact of the list holds, by computing it.
