@@ -1,26 +1,21 @@
 -- What a sound topology says of its links: their arcs are those of its network, each router has at most 16, and both ends of each link are listed.
 -- Assumes nothing.
 use Prim.Native.Nat.{ℕ, _+_, _≤_, _<_}
-use mathlib.Core.Bool.{_&&_}
 use mathlib.Core.List.{List, [], _∷_, _++_, List·Memᴰ, List·Memᴰ·head, Memᴰ·append-left, Memᴰ·append-right, map, map-append}
 use mathlib.Core.Path.{_≡_, refl, ap, sym, _∙_, subst}
 use native.Mathlib.Numerals.{add-one}
 use native.Mathlib.Omega.{arith}
-use lib.Dec.{T, eqb, leb, eqb→eq, leb→le}
+use lib.Dec.{T}
 use lib.ListN.{length, getD, take, drop, take-append-drop, length-map}
 use lib.Seq.{length-take-le, take-suc, take-take}
-use Rattle.network.specs.Lists.{below}
 use Rattle.network.specs.Network.{Link, size, arcsOf, arcsAmong, linked}
 use Rattle.network.specs.Theorems.Network.{SoundLink}
-use Rattle.network.proofs.Tests.{both, three}
-use Rattle.network.proofs.Lists.{every-all}
-use Rattle.network.proofs.Below.{mem-below, getD-below}
-use Rattle.network.proofs.SoundLinks.{sound-links-exact}
+use Rattle.network.proofs.Below.{getD-below}
 use Rattle.stations.specs.declared.Link as topology
 use Rattle.stations.specs.declared.Topology.{Topology}
 use Rattle.stations.specs.Topology.{contents, seen, networkIn, networkOf}
-use Rattle.soundness.specs.Sound.{within}
-use Rattle.soundness.specs.Sound.{inLimits, wellLinked, uncrowded, connected, unusedZero, slotted, sound}
+use Rattle.soundness.specs.Sound.{sound}
+use Rattle.soundness.proofs.Sound.{sound-exact, sound-networks}
 use Rattle.arcs.proofs.Filled.{Next}
 use Rattle.arcs.proofs.Among.{among-fewer}
 
@@ -39,25 +34,18 @@ pub record Links (t : Topology) : Type 0 where
   pub each : (l : Link) → List·Memᴰ l (firstLinks t (t .links)) → SoundLink (t .routers) l
 
 pub links-of : (t : Topology) → T (sound t) → Links t
-unfolding sound inLimits wellLinked uncrowded slotted within contents networkOf networkIn linked size arcsOf firstLinks
+unfolding contents networkOf networkIn linked size arcsOf firstLinks seen
 links-of t s =
-    let (five, slots) = both (inLimits t && wellLinked t && uncrowded t && connected t && unusedZero t) (slotted t) s in
-    let (four, unused) = both (inLimits t && wellLinked t && uncrowded t && connected t) (unusedZero t) five in
-    let (begin, paths) = both (inLimits t && wellLinked t && uncrowded t) (connected t) four in
-    let (limits, linked-well, few) = three (inLimits t) (wellLinked t) (uncrowded t) begin in
-    let (routers-in, links-in, limit-in) = three (within 64 (t .routers)) (leb (t .links) 256) (within 16 (t .limit)) limits in
-    let (least, most) = both (leb 1 (t .routers)) (leb (t .routers) 64) routers-in in
-    let (id-slots, link-slots, fit) = three (eqb (length (t .id)) 64) (eqb (length (t .link)) 256) _ slots in
-    let listed : length (take (t .routers) (t .id)) ≡ t .routers =
-    length-take-le (t .routers) (t .id) (omega (arith, leb→le (t .routers) 64 most, eqb→eq (length (t .id)) 64 id-slots)) in
+    let tested = sound-exact t .0 s in
+    let listed : length (take (t .routers) (t .id)) ≡ t .routers = sound-networks t s .routers in
     record {
-      routers-most = leb→le (t .routers) 64 most;
-      links-most = leb→le (t .links) 256 links-in;
-      link-slots = eqb→eq (length (t .link)) 256 link-slots;
+      routers-most = tested .routers-most;
+      links-most = tested .links-most;
+      link-slots = tested .link-slots;
       size-is = listed;
       arcs-are = λ u h. getD-below (λ v. arcsAmong v 0 (map seen (take (t .links) (t .link)))) _ u [] (omega arith);
-      few = λ u h. leb→le _ 16 (every-all _ (below (t .routers)) few u (mem-below h));
-      each = λ l m. rw listed at (sound-links-exact _ _ .0 linked-well .each l m);
+      few = tested .neighbours;
+      each = λ l m. rw listed at (tested .linked .each l m);
     }
 
 -- the first i + 1 links are the first i and link i, and link i is one of all

@@ -2,23 +2,17 @@
 -- of it at a cost of 16 bits.
 -- Assumes nothing.
 use Prim.Native.Nat.{ℕ, _+_, _*_, _≤_, _<_}
-use mathlib.Core.Bool.{_&&_}
 use mathlib.Core.List.{List, List·Memᴰ, Memᴰ·map}
 use mathlib.Core.Path.{_≡_, sym, _∙_, ap, subst}
 use native.Mathlib.Omega.{arith}
-use lib.Dec.{T, eqb, leb, eqb→eq, leb→le}
+use lib.Dec.{T}
 use lib.ListN.{length, getD}
-use lib.Seq.{length-take-le}
-use Rattle.network.specs.Lists.{below}
-use Rattle.network.specs.Network.{Network, size, arcsOf, greatestCost, SoundArc, WellFormed, linked}
-use Rattle.network.proofs.Tests.{both}
-use Rattle.network.proofs.Lists.{every-all}
+use Rattle.network.specs.Network.{Network, size, arcsOf, greatestCost, SoundArc, WellFormed}
 use Rattle.network.proofs.Below.{mem-below, length-map-below}
-use Rattle.network.proofs.Linked.{linked-well-formed}
 use Rattle.stations.specs.declared.Topology.{Topology}
-use Rattle.stations.specs.Topology.{contents, networkIn, networkOf}
-use Rattle.soundness.specs.Sound.{within}
-use Rattle.soundness.specs.Sound.{inLimits, wellLinked, uncrowded, connected, unusedZero, slotted, sound}
+use Rattle.stations.specs.Topology.{networkOf}
+use Rattle.soundness.specs.Sound.{sound}
+use Rattle.soundness.proofs.Sound.{sound-exact, sound-networks}
 use Rattle.arcs.specs.declared.Arcs.{Arcs}
 use Rattle.arcs.specs.Arcs.{slotArc, slotArcs, Holds}
 use Rattle.order.specs.Inner.{slotTo, AllSlots}
@@ -31,44 +25,11 @@ pub record Held (n : Network) (a : Arcs) (count : ℕ) : Type 0 where
   pub few : (u : ℕ) → u < count → length (arcsOf n u) ≤ 16
   pub holds : Holds n a
 
-module _ (t : Topology) (a : Arcs) (s : T (sound t)) where
-  parts : T (inLimits t) × T (wellLinked t) × T (uncrowded t) × T (slotted t)
-  unfolding sound
-  parts =
-      let (five, slots) = both (inLimits t && wellLinked t && uncrowded t && connected t && unusedZero t) (slotted t) s in
-      let (four, unused) = both (inLimits t && wellLinked t && uncrowded t && connected t) (unusedZero t) five in
-      let (three, joined) = both (inLimits t && wellLinked t && uncrowded t) (connected t) four in
-      let (two, few) = both (inLimits t && wellLinked t) (uncrowded t) three in
-      let (limits, links) = both (inLimits t) (wellLinked t) two in
-      (limits, links, few, slots)
-
-  most-routers : t .routers ≤ 64
-  unfolding inLimits within
-  most-routers =
-      let (two, limit) = both (within 64 (t .routers) && leb (t .links) 256) (within 16 (t .limit)) (parts .0) in
-      let (routers, links) = both (within 64 (t .routers)) (leb (t .links) 256) two in
-      leb→le (t .routers) 64 (both (leb 1 (t .routers)) (leb (t .routers) 64) routers .1)
-
-  id-slots : length (t .id) ≡ 64
-  unfolding slotted
-  id-slots =
-      let (two, ids) = both (eqb (length (t .id)) 64 && eqb (length (t .link)) 256) _ (parts .3) in
-      eqb→eq (length (t .id)) 64 (both (eqb (length (t .id)) 64) (eqb (length (t .link)) 256) two .0)
-
-  routers-sized : size (networkOf t) ≡ t .routers
-  unfolding networkOf networkIn contents linked size
-  routers-sized = let most = most-routers in let slots = id-slots in length-take-le (t .routers) (t .id) (omega arith)
-
-  well-formed : WellFormed (networkOf t)
-  unfolding networkOf networkIn contents wellLinked
-  well-formed = linked-well-formed _ _ (parts .1)
-
-  few-arcs : (u : ℕ) → u < t .routers → length (arcsOf (networkOf t) u) ≤ 16
-  unfolding uncrowded
-  few-arcs u h = leb→le (length (arcsOf (networkOf t) u)) 16 (every-all _ (below (t .routers)) (parts .2) u (mem-below h))
-
-  pub sound-held : Holds (networkOf t) a → Held (networkOf t) a (t .routers)
-  sound-held h = record { formed = well-formed; sized = routers-sized; most = most-routers; few = few-arcs; holds = h }
+pub sound-held : (t : Topology) (a : Arcs) → T (sound t) → Holds (networkOf t) a → Held (networkOf t) a (t .routers)
+sound-held t a s h =
+    let tested = sound-exact t .0 s in
+    let seen = sound-networks t s in
+    record { formed = seen .well-formed; sized = seen .routers; most = tested .routers-most; few = tested .neighbours; holds = h }
 
 module _ (n : Network) (a : Arcs) (count : ℕ) (held : Held n a count) (u : ℕ) (u-in : u < count) where
   listed : u < size n
