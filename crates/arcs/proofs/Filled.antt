@@ -10,8 +10,8 @@ use lib.ListN.{length, getD, length-append}
 use Rattle.network.specs.Lists.{below, numbersFrom}
 use Rattle.network.specs.Network.{Arc, Link, arcsAmong}
 use Rattle.arcs.specs.declared.Arcs.{Arcs}
-use Rattle.arcs.specs.Arcs.{slotArcs, Slotted}
-use Rattle.arcs.proofs.Slots.{withArc, length-arcs, still-slotted, count-elsewhere, arc-there, arcs-elsewhere}
+use Rattle.arcs.specs.Arcs.{slotArcs, withArc, Slotted}
+use Rattle.arcs.proofs.Slots.{length-arcs, still-slotted, count-elsewhere, arc-there, arcs-elsewhere}
 use Rattle.arcs.proofs.Among.{there, back, among-fewer, among-first, among-second, among-neither}
 
 -- the arcs of each of so many routers among the links

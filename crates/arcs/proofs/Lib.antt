@@ -2,4 +2,3 @@ pub mod Slots
 pub mod Among
 pub mod Filled
 pub mod Links
-pub mod Use

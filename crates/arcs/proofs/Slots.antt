@@ -8,24 +8,13 @@ use mathlib.Core.Path.{_≡_, refl, ap, _∙_}
 use native.Mathlib.Nat.{add-zero}
 use native.Mathlib.Numerals.{add-one}
 use native.Mathlib.Omega.{arith}
-use lib.ListN.{length, getD, set, length-set}
+use lib.ListN.{length, getD, length-set}
 use lib.Seq.{getD-set-same, getD-set-other}
 use Rattle.network.specs.Lists.{below, numbersFrom}
 use Rattle.network.specs.Network.{Arc}
 use Rattle.network.proofs.Below.{below-lt, length-map-below}
 use Rattle.arcs.specs.declared.Arcs.{Arcs}
-use Rattle.arcs.specs.Arcs.{slotArc, slotArcs, Slotted}
-
--- one arc more of the router u, in its next slot
-unfoldable pub withArc : Arcs → ℕ → Arc → Arcs
-withArc a u arc =
-    let slot = u * 16 + getD (a .count) u 0 in
-    record {
-      count = set (a .count) u (getD (a .count) u 0 + 1);
-      to = set (a .to) slot (arc .to);
-      cost = set (a .cost) slot (arc .cost);
-      link = set (a .link) slot (arc .link);
-    }
+use Rattle.arcs.specs.Arcs.{slotArc, slotArcs, withArc, Slotted}
 
 -- a router has as many arcs as its count says
 pub length-arcs : (a : Arcs) (u : ℕ) → length (slotArcs a u) ≡ getD (a .count) u 0

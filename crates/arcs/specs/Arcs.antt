@@ -3,7 +3,7 @@
 use Prim.Native.Nat.{ℕ, _+_, _*_, _<_}
 use mathlib.Core.List.{List, map}
 use mathlib.Core.Path.{_≡_}
-use lib.ListN.{length, getD}
+use lib.ListN.{length, getD, set}
 use Rattle.network.specs.Lists.{below}
 use Rattle.network.specs.Network.{Arc, Network, size, arcsOf}
 use Rattle.stations.specs.Limits.{mostRouters, mostNeighbours}
@@ -21,6 +21,21 @@ slotArc a u j =
 -- the arcs of the router u
 unfoldable pub slotArcs : Arcs → ℕ → List Arc
 slotArcs a u = map (slotArc a u) (below (getD (a .count) u 0))
+
+-- one arc more of the router u, in its next slot
+unfoldable pub withArc : Arcs → ℕ → Arc → Arcs
+withArc a u arc =
+    let slot = u * mostNeighbours + getD (a .count) u 0 in
+    record {
+      count = set (a .count) u (getD (a .count) u 0 + 1);
+      to = set (a .to) slot (arc .to);
+      cost = set (a .cost) slot (arc .cost);
+      link = set (a .link) slot (arc .link);
+    }
+
+-- the four arrays side by side
+abbrev pub inSlots : List ℕ → List ℕ → List ℕ → List ℕ → Arcs
+inSlots count to cost link = record { count = count; to = to; cost = cost; link = link }
 
 -- each array has all its slots
 pub record Slotted (a : Arcs) : Type 0 where

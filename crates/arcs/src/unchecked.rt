@@ -4,10 +4,36 @@ use super::SLOTS;
 use stations::NEIGHBOURS;
 use stations::ROUTERS;
 use stations::Topology;
+ghost use mathlib.Core.Path.{_≡_};
+ghost use Prim.Native.Nat.{_<_};
 ghost use lib.Dec.{T};
+ghost use lib.ListN.{getD};
+ghost use Rattle.stations.specs.Limits.{mostRouters, mostNeighbours};
 ghost use Rattle.stations.specs.Topology.{networkOf};
 ghost use Rattle.soundness.specs.Sound.{sound};
-ghost use Rattle.arcs.specs.Arcs.{Holds};
+ghost use Rattle.arcs.specs.Arcs.{Holds, inSlots, withArc};
+
+// An arc of the router at u, in its next slot.
+fn add<'a>(
+    count: &'a mut [u8; ROUTERS],
+    to: &'a mut [u8; SLOTS],
+    cost: &'a mut [u16; SLOTS],
+    link: &'a mut [u8; SLOTS],
+    u: usize,
+    place: u8,
+    costs: u16,
+    number: u8,
+)
+    requires { ⌜ (u < mostRouters) × (getD (now count) u 0 < mostNeighbours) ⌝ }
+    ensures { λ _. ⌜ inSlots (now (count .exit)) (now (to .exit)) (now (cost .exit)) (now (link .exit)) ≡ withArc (inSlots (now (count .entry)) (now (to .entry)) (now (cost .entry)) (now (link .entry))) u (record { to = place; cost = costs; link = number }) ⌝ }
+{
+    let n = count[u];
+    let slot = u * NEIGHBOURS + n as usize;
+    to[slot] = place;
+    cost[slot] = costs;
+    link[slot] = number;
+    count[u] = n + 1;
+}
 
 // The arcs of every router, in its first slots. What the slots past its count hold is free, and so are the counts past the routers: nothing is said
 // of them.
@@ -16,32 +42,43 @@ pub fn of(t: Topology) -> Arcs
     ensures { λ r. ⌜ Holds (networkOf t) r ⌝ }
 {
     let links = t.links;
-    let mut a = Arcs {
-        count: [0; ROUTERS],
-        to: [0; SLOTS],
-        cost: [0; SLOTS],
-        link: [0; SLOTS],
-    };
+    let mut count = [0u8; ROUTERS];
+    let mut to = [0u8; SLOTS];
+    let mut cost = [0u16; SLOTS];
+    let mut link = [0u8; SLOTS];
     let mut i: usize = 0;
     while i < links {
         let l = t.link[i];
         let number = i as u8;
-        // The link seen from its first end, then from its second: each arc goes to the end's next slot.
-        let u = l.first.0 as usize;
-        let n = a.count[u];
-        let there = u * NEIGHBOURS + n as usize;
-        a.to[there] = l.second.0;
-        a.cost[there] = l.cost;
-        a.link[there] = number;
-        a.count[u] = n + 1;
-        let v = l.second.0 as usize;
-        let m = a.count[v];
-        let back = v * NEIGHBOURS + m as usize;
-        a.to[back] = l.first.0;
-        a.cost[back] = l.cost;
-        a.link[back] = number;
-        a.count[v] = m + 1;
+        // The link seen from its first end, then from its second.
+        let first = l.first.0;
+        let second = l.second.0;
+        add(
+            &mut count,
+            &mut to,
+            &mut cost,
+            &mut link,
+            first as usize,
+            second,
+            l.cost,
+            number,
+        );
+        add(
+            &mut count,
+            &mut to,
+            &mut cost,
+            &mut link,
+            second as usize,
+            first,
+            l.cost,
+            number,
+        );
         i += 1;
     }
-    a
+    Arcs {
+        count: count,
+        to: to,
+        cost: cost,
+        link: link,
+    }
 }

@@ -1,19 +1,19 @@
--- `arcs::unchecked::of` meets its contract. The loop's invariant: the slots hold the arcs of the links passed. The stores of a turn are those of
--- `withArc` for each end of a link; they find room, since all links together give no router more than 16.
+-- `arcs::unchecked::of` meets its contract. The loop's invariant: the slots hold the arcs of the links passed. A turn adds an arc
+-- for each end of a link; there is room for both, since all links together give no router more than 16.
 -- Assumes nothing.
-use Prim.Native.Nat.{ℕ, _+_, _*_, _<_, _≤_, _-_}
-use mathlib.Core.Path.{_≡_, refl, sym, _∙_}
+use Prim.Native.Nat.{ℕ, _<_, _≤_, _-_}
+use mathlib.Core.Path.{_≡_, refl, ap, sym, _∙_, subst}
 use native.Mathlib.Numerals.{add-one-le}
 use native.Mathlib.Omega.{arith}
 use borrow.Author.Count.{falls}
-use lib.ListN.{getD, set, getD-replicate}
+use lib.ListN.{getD, getD-replicate}
 use Rattle.stations.specs.declared.Link.{Link}
 use Rattle.stations.specs.Topology.{seen}
-use Rattle.arcs.proofs.Slots.{withArc}
+use Rattle.arcs.specs.declared.Arcs.{Arcs}
+use Rattle.arcs.specs.Arcs.{withArc, inSlots}
 use Rattle.arcs.proofs.Among.{there, back}
 use Rattle.arcs.proofs.Filled.{Filled, Next, filled-none, room-first, room-second, one-link}
 use Rattle.arcs.proofs.Links.{firstLinks, links-of, next-links, next-fits}
-use Rattle.arcs.proofs.Use.{slot-below}
 use Rattle.arcs.proofs.unchecked.of.Statement.{statement}
 use Rattle.arcs.proofs.unchecked.of.Tie as tie
 
@@ -22,10 +22,10 @@ abbrev none : Link
 none = record { first = record { 0 = 0 }; second = record { 0 = 0 }; cost = 0 }
 
 abbrev Inv-loop : tie.InvT-loop
-Inv-loop t links a₀ i₀ a i = (i ≤ links) × Filled (t .routers) (firstLinks t i) a
+Inv-loop t links count₀ to₀ cost₀ link₀ i₀ count to cost link i = (i ≤ links) × Filled (t .routers) (firstLinks t i) (inSlots count to cost link)
 
 abbrev μ-loop : tie.MeasureT-loop
-μ-loop t links a₀ i₀ a i = links - i
+μ-loop t links count₀ to₀ cost₀ link₀ i₀ count to cost link i = links - i
 
 loop-holds : tie.Need-loop-holds Inv-loop μ-loop
 unfolding firstLinks
@@ -50,7 +50,7 @@ next c =
     let t = c .before .before .args .t1 in
     next-fits t (links-of t (c .before .before .pre)) (c .before .loop .i) (c .loop-test .taken) none
 
--- its ends, and that each has room when its arc is stored
+-- its ends
 first-in : (c : tie.In-loop Inv-loop μ-loop) → link c .first .0 < 64
 unfolding seen
 first-in c = omega (arith, next c .first-in, next c .limit)
@@ -58,30 +58,6 @@ first-in c = omega (arith, next c .first-in, next c .limit)
 second-in : (c : tie.In-loop Inv-loop μ-loop) → link c .second .0 < 64
 unfolding seen
 second-in c = omega (arith, next c .second-in, next c .limit)
-
-first-room : (c : tie.In-loop Inv-loop μ-loop) → getD (c .before .loop .a .count) (link c .first .0) 0 < 16
-unfolding seen
-first-room c = room-first (next c) (c .before .loop .inv .1)
-
-second-room : (c : tie.In-loop Inv-loop μ-loop) →
-    let u = link c .first .0 in
-    let count = c .before .loop .a .count in
-    getD (set count u (getD count u 0 + 1)) (link c .second .0) 0 < 16
-unfolding seen there withArc
-second-room c = room-second (next c) (c .before .loop .inv .1)
-
--- so each next slot is one of the 1024
-first-slot : (c : tie.In-loop Inv-loop μ-loop) →
-    let u = link c .first .0 in
-    u * 16 + getD (c .before .loop .a .count) u 0 < 1024
-first-slot c = slot-below (first-in c) (first-room c)
-
-second-slot : (c : tie.In-loop Inv-loop μ-loop) →
-    let u = link c .first .0 in
-    let v = link c .second .0 in
-    let count = c .before .loop .a .count in
-    v * 16 + getD (set count u (getD count u 0 + 1)) v 0 < 1024
-second-slot c = slot-below (second-in c) (second-room c)
 
 mul-l : tie.Need-mul-l Inv-loop μ-loop
 mul-l c = omega (arith, few c)
@@ -92,87 +68,46 @@ element-copy-out-l c = few c
 cast-number : tie.Need-cast-number Inv-loop μ-loop
 cast-number c = omega (arith, few (c .before))
 
-cast-u : tie.Need-cast-u Inv-loop μ-loop
-cast-u c = omega (arith, first-in (c .before .before))
+-- from the first call back to the turn, and from the second
+abbrev turn : tie.After-link Inv-loop μ-loop → tie.In-loop Inv-loop μ-loop
+turn c = c .before .before .before .before .before
 
-element-copy-out-n : tie.Need-element-copy-out-n Inv-loop μ-loop
-element-copy-out-n c = first-in (c .before .before)
+abbrev added : tie.After-link2 Inv-loop μ-loop → tie.After-add Inv-loop μ-loop
+added c = c .before .before .before .before
 
-mul-there : tie.Need-mul-there Inv-loop μ-loop
-mul-there c = omega (arith, first-in (c .before .before .before))
+cast-add : tie.Need-cast-add Inv-loop μ-loop
+cast-add c = omega (arith, first-in (turn c))
 
-cast-there : tie.Need-cast-there Inv-loop μ-loop
-cast-there c = omega (arith, first-room (c .before .before .before))
+add-requires : tie.Need-add-requires Inv-loop μ-loop
+unfolding seen
+add-requires c κs = let w = turn c in (first-in w, room-first (next w) (w .before .loop .inv .1))
 
-add-there : tie.Need-add-there Inv-loop μ-loop
-add-there c = omega (arith, first-slot (c .before .before .before))
+cast-add-2 : tie.Need-cast-add-2 Inv-loop μ-loop
+cast-add-2 c = omega (arith, second-in (turn (added c .before)))
 
-element-write-a : tie.Need-element-write-a Inv-loop μ-loop
-element-write-a c = first-slot (c .before .before .before)
-
-mul-a : tie.Need-mul-a Inv-loop μ-loop
-mul-a c = omega (arith, first-slot (c .before .before .before))
-
-element-write-a-2 : tie.Need-element-write-a-2 Inv-loop μ-loop
-element-write-a-2 c = first-slot (c .before .before .before)
-
-element-write-a-3 : tie.Need-element-write-a-3 Inv-loop μ-loop
-element-write-a-3 c = first-slot (c .before .before .before)
-
-add-a : tie.Need-add-a Inv-loop μ-loop
-add-a c = omega (arith, first-room (c .before .before .before))
-
-element-write-a-4 : tie.Need-element-write-a-4 Inv-loop μ-loop
-element-write-a-4 c = first-in (c .before .before .before)
-
-cast-v : tie.Need-cast-v Inv-loop μ-loop
-cast-v c = omega (arith, second-in (c .before .before .before .before))
-
-element-copy-out-m : tie.Need-element-copy-out-m Inv-loop μ-loop
-element-copy-out-m c = second-in (c .before .before .before .before)
-
-mul-back : tie.Need-mul-back Inv-loop μ-loop
-mul-back c = omega (arith, second-in (c .before .before .before .before .before))
-
-cast-back : tie.Need-cast-back Inv-loop μ-loop
-cast-back c = omega (arith, second-room (c .before .before .before .before .before))
-
-add-back : tie.Need-add-back Inv-loop μ-loop
-add-back c = omega (arith, second-slot (c .before .before .before .before .before))
-
-element-write-a-5 : tie.Need-element-write-a-5 Inv-loop μ-loop
-element-write-a-5 c = second-slot (c .before .before .before .before .before)
-
-mul-a-2 : tie.Need-mul-a-2 Inv-loop μ-loop
-mul-a-2 c = omega (arith, second-slot (c .before .before .before .before .before))
-
-element-write-a-6 : tie.Need-element-write-a-6 Inv-loop μ-loop
-element-write-a-6 c = second-slot (c .before .before .before .before .before)
-
-element-write-a-7 : tie.Need-element-write-a-7 Inv-loop μ-loop
-element-write-a-7 c = second-slot (c .before .before .before .before .before)
-
-add-a-2 : tie.Need-add-a-2 Inv-loop μ-loop
-add-a-2 c = omega (arith, second-room (c .before .before .before .before .before))
-
-element-write-a-8 : tie.Need-element-write-a-8 Inv-loop μ-loop
-element-write-a-8 c = second-in (c .before .before .before .before .before)
+add-requires-2 : tie.Need-add-requires-2 Inv-loop μ-loop
+unfolding seen there
+add-requires-2 c κs =
+    let w = turn (added c .before) in
+    (second-in w, subst (λ (a : Arcs). getD (a .count) (link w .second .0) 0 < 16) (sym (added c .add .ensures)) (room-second (next w) (w .before .loop .inv .1)))
 
 add-i : tie.Need-add-i Inv-loop μ-loop
-add-i c = omega (arith, few (c .before .before .before .before .before))
+add-i c = omega (arith, few (turn (added (c .before) .before)))
 
 loop-less : tie.Need-loop-less Inv-loop μ-loop
-loop-less c = falls _ _ (c .before .before .before .before .before .loop-test .taken)
+loop-less c = falls _ _ (turn (added (c .before) .before) .loop-test .taken)
 
 loop-again : tie.Need-loop-again Inv-loop μ-loop
-unfolding seen there back withArc
+unfolding seen there back
 loop-again c =
-    let turn = c .before .before .before .before .before in
-    let start = turn .before in
-    let t = start .before .args .t1 in
-    let h = turn .loop-test .taken in (
+    let first = added (c .before) in
+    let w = turn (first .before) in
+    let t = w .before .before .args .t1 in
+    let h = w .loop-test .taken in
+    let twice = c .add2 .ensures ∙ ap (λ (a : Arcs). withArc a (link w .second .0) (back (seen (link w)) (w .before .loop .i))) (first .add .ensures) in (
       add-one-le h,
-      rw (next-links t (links-of t (start .before .pre)) (start .loop .i) h none) (one-link (next turn) (start .loop .inv .1)),
+      rw (next-links t (links-of t (w .before .before .pre)) (w .before .loop .i) h none)
+          (subst (Filled (t .routers) _) (sym twice) (one-link (next w) (w .before .loop .inv .1))),
     )
 
 returns : tie.Need-returns Inv-loop μ-loop
@@ -194,28 +129,10 @@ of-spec =
     mul-l
     element-copy-out-l
     cast-number
-    cast-u
-    element-copy-out-n
-    mul-there
-    cast-there
-    add-there
-    element-write-a
-    mul-a
-    element-write-a-2
-    element-write-a-3
-    add-a
-    element-write-a-4
-    cast-v
-    element-copy-out-m
-    mul-back
-    cast-back
-    add-back
-    element-write-a-5
-    mul-a-2
-    element-write-a-6
-    element-write-a-7
-    add-a-2
-    element-write-a-8
+    cast-add
+    add-requires
+    cast-add-2
+    add-requires-2
     add-i
     loop-less
     loop-again
