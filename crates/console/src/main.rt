@@ -1,9 +1,12 @@
 // The console: calls of the library from a shell, or from another language. It takes one request a line on standard input, with fields parted by
 // one space, numbers in decimal, bytes in lowercase hex and `-` for none, and answers one line each. A topology is held, at first all zeros.
 //
-//     topology STREAM    NUMBER AT; what reading returned is held from then on
-//     write ROOM         NUMBER AT BUFFER, which is ROOM bytes of `aa`, at most 65,536 of them, as the call left it
+//     topology STREAM             NUMBER AT; what reading returned is held from then on
+//     write ROOM                  NUMBER AT BUFFER
+//     order D MODE ROOM           NUMBER AT BUFFER
+//     check-order D MODE ORDER    NUMBER AT
 //
+// BUFFER is ROOM bytes of `aa`, at most 65,536 of them, as the call left it. D is at most 255, and MODE is `shortest` or `free`.
 // Any other line, and one of more than 262,144 bytes, answers `error` and changes nothing.
 mod requests;
 
@@ -22,6 +25,7 @@ ghost use Prim.Native.Nat.{_≤_};
 ghost use lib.ListN.{length};
 ghost use Rattle.stations.specs.Topology.{zeros};
 ghost use Rattle.console.specs.Requests.{mostLine};
+ghost use Rattle.console.specs.Session.{LineAnswered, PartTaken, taken, stateOf};
 
 // The topology that is held, how many bytes of a line have come, LINE + 1 if it is too long, and whether to go on.
 struct Session {
@@ -55,6 +59,7 @@ fn begin() -> Session
 // Answers the line of count bytes in the buffer.
 fn answer(s: Session, line: &[u8]) -> Session
     requires { ⌜ length (now line) ≤ mostLine ⌝ }
+    ensures { λ r. ⌜ LineAnswered s (now (line .entry)) r ⌝ }
 {
     let mut out = requests::room_for_answer();
     let t = s.topology;
@@ -73,6 +78,7 @@ fn answer(s: Session, line: &[u8]) -> Session
 // A part more of the line, and its answer if that was the last.
 fn take_part(s: Session, line: &mut [u8], part: &[u8], is_last: bool) -> Session
     requires { ⌜ length (now line) ≤ mostLine ⌝ }
+    ensures { λ r. ⌜ PartTaken s (now (line .entry)) (now (part .entry)) «is_last» r (now (line .exit)) ⌝ }
 {
     let mut next = s;
     next.count = lines::gather(line, s.count, part);
@@ -82,6 +88,7 @@ fn take_part(s: Session, line: &mut [u8], part: &[u8], is_last: bool) -> Session
 // The lines of what was read, of which the first may have begun before and the last may go on.
 fn take(s: Session, line: &mut [u8], text: &[u8]) -> Session
     requires { ⌜ length (now line) ≤ mostLine ⌝ }
+    ensures { λ r. ⌜ stateOf r (now (line .exit)) ≡ taken (length (now (line .entry))) (now (text .entry)) (stateOf s (now (line .entry))) ⌝ }
 {
     let mut next = s;
     let mut at: usize = 0;

@@ -1,4 +1,4 @@
--- Each turn passes a line, or the part of one that goes on; the buffer keeps its length.
+-- What is left of the text, taken from what is held now, leaves what the whole text leaves; the buffer keeps its length.
 -- Assumes nothing.
 use Prim.Native.Nat.{ℕ, _-_, _≤_}
 use mathlib.Core.List.{List}
@@ -7,12 +7,15 @@ use native.Mathlib.Omega.{arith}
 use lib.ListN.{length, take, drop, length-drop}
 use lib.Seq.{length-take-le}
 use Rattle.text.specs.Lines.{newline}
-use Rattle.text.proofs.Scan.{to-end, before-length}
+use Rattle.text.proofs.Scan.{to-end, no-rest, before-length}
+use Rattle.console.specs.Session.{taken, stateOf}
+use Rattle.console.proofs.Taken.{next-part}
 use Rattle.console.proofs.take.Statement.{statement}
 use Rattle.console.proofs.take.Tie as tie
 
 abbrev Inv-loop : tie.InvT-loop
-Inv-loop line₀ text next₀ at₀ line next at = length line ≡ length line₀
+Inv-loop line₀ text next₀ at₀ line next at =
+    (length line ≡ length line₀) × (taken (length line₀) (drop at text) (stateOf next line) ≡ taken (length line₀) text (stateOf next₀ line₀))
 
 abbrev μ-loop : tie.MeasureT-loop
 μ-loop line₀ text next₀ at₀ line next at = length text - at
@@ -35,7 +38,7 @@ within c =
     omega (arith, short c, ap length (to-end text at), length-drop at text)
 
 loop-holds : tie.Need-loop-holds Inv-loop μ-loop
-loop-holds c = refl
+loop-holds c = (refl, refl)
 
 sub-rest : tie.Need-sub-rest Inv-loop μ-loop
 sub-rest c = omega arith
@@ -65,13 +68,23 @@ loop-less : tie.Need-loop-less Inv-loop μ-loop
 loop-less c = omega arith
 
 loop-again : tie.Need-loop-again Inv-loop μ-loop
-loop-again c = c .before .before .take-part .kept .1 .0 ∙ c .before .before .before .before .before .before .before .before .loop .inv
+loop-again c =
+    let w = c .before .before .before .before .before in
+    let l = w .before .before .before .loop in
+    let text = w .before .before .before .before .before .before .args .text .now in
+    let all = to-end text (l .at) in
+    let p = next-part _ text (rest w) (l .at) (w .width .result) all (w .width .ensures) (l .inv .0) (c .before .before .take-part .ensures) in
+    (c .before .before .take-part .kept .1 .0 ∙ l .inv .0, p ∙ rw (all) (l .inv .1))
 
 same-length : tie.Need-same-length Inv-loop μ-loop
-same-length c = c .before .loop .inv
+same-length c = c .before .loop .inv .0
 
 returns : tie.Need-returns Inv-loop μ-loop
-returns c = tt
+unfolding taken
+returns c =
+    let a = c .before .before .before .before .args in
+    let end = no-rest (a .text .now) (c .before .loop .at) (omega arith) in
+    rw (end) at (c .before .loop .inv .1)
 
 pub take-spec : {M : Type 1} → statement M
 take-spec =

@@ -1,0 +1,38 @@
+-- The part is gathered, and the line answered if it was the last.
+-- Assumes nothing.
+use borrow.Author.Needs.{needs}
+use Rattle.console.proofs.take_part.Statement.{statement}
+use Rattle.console.proofs.take_part.Tie as tie
+
+gather-requires : tie.Need-gather-requires
+gather-requires c κs = search needs
+
+answer-requires : tie.Need-answer-requires
+answer-requires c κs = search needs
+
+same-length : tie.Need-same-length
+same-length c = search needs
+
+returns : tie.Need-returns
+returns c =
+    let g = c .before .before .before .before .before .gather in
+    let last = c .before .before .if1 .taken in
+    record {
+      count = g .result;
+      gathered = g .ensures;
+      held = rw (last) (c .answer .ensures .held);
+      counted = rw (last) (c .answer .ensures .none);
+    }
+
+same-length-2 : tie.Need-same-length-2
+same-length-2 c = search needs
+
+returns-2 : tie.Need-returns-2
+returns-2 c =
+    let g = c .before .before .before .gather in
+    record { count = g .result; gathered = g .ensures; held = rw (c .if1 .left); counted = rw (c .if1 .left) }
+
+pub take-part-spec : {M : Type 1} → statement M
+take-part-spec =
+    tie.close
+    (tie.spec gather-requires answer-requires same-length returns same-length-2 returns-2)
