@@ -36,7 +36,7 @@ crowded-by c place h = rw (arcs-listed c place h)
 
 -- the tests of a link from one of them on, the last first
 module _ (c : Contents) (l : Link) where
-  abbrev from-10 : ℕ
+  abbrev pub from-10 : ℕ
   from-10 = cond (crowded c (l .first .0) || crowded c (l .second .0)) 10 0
 
   abbrev pub from-9 : ℕ

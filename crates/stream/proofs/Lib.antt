@@ -6,4 +6,5 @@ pub mod NoFault
 pub mod Kept
 pub mod AtTurn
 pub mod Returned
+pub mod Verdicts
 pub mod Table

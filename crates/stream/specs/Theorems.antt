@@ -1,15 +1,23 @@
 -- What is proved of reading, over all bytes.
 -- Assumes nothing.
-use Prim.Native.Nat.{ℕ, _<_}
-use mathlib.Core.List.{List, List·Memᴰ}
-use mathlib.Core.Logic.{_≢_}
+use Prim.Native.Nat.{ℕ, _+_, _≤_, _<_}
+use mathlib.Core.Bool.{Bool, true, false}
+use mathlib.Core.List.{List, List·Memᴰ, map}
+use mathlib.Core.Logic.{_↔_, _≢_, _⊎_}
 use mathlib.Core.Path.{_≡_}
 use lib.Dec.{T}
-use lib.ListN.{replicate}
+use lib.ListN.{length, replicate}
+use Rattle.network.specs.Network.{Network, arcsOf, linked, soundLinks}
+use Rattle.network.specs.Distance.{PathTo}
+use Rattle.stations.specs.declared.Answer.{Answer}
+use Rattle.stations.specs.declared.Link.{Link}
 use Rattle.stations.specs.declared.Topology.{Topology}
+use Rattle.stations.specs.Topology.{Contents}
 use Rattle.soundness.specs.Sound.{sound}
+use Rattle.soundness.specs.Theorems.{plain, Lowest}
 use Rattle.stream.specs.declared.Reading.{Reading}
-use Rattle.stream.specs.Reading.{reading}
+use Rattle.stream.specs.declared.Record.the-variants as record-of
+use Rattle.stream.specs.Reading.{fault, ended, reading}
 
 -- every element is a byte
 abbrev pub Bytes : List ℕ → Type 0
@@ -35,3 +43,79 @@ pub record Read (r : Reading) : Type 0 where
 
 abbrev pub ReadsSound : Type 0
 ReadsSound = (s : List ℕ) → Bytes s → Read (reading s)
+
+-- 01, Refusals, 3 and 4: what each number of a router's record says, after what is listed; the tests before it pass.
+pub record RouterFaults (c : Contents) (id : ℕ) : Type 0 where
+  pub says-3 : (fault c (record-of.Router id) ≡ 3) ↔ List·Memᴰ id (c .ids)
+  pub says-4 : (fault c (record-of.Router id) ≡ 4) ↔ ((List·Memᴰ id (c .ids) → ⊥) × (64 ≤ length (c .ids)))
+  pub says-0 : (fault c (record-of.Router id) ≡ 0) ↔ ((List·Memᴰ id (c .ids) → ⊥) × (length (c .ids) < 64))
+
+-- the network of what is listed, and how many neighbours a place has in it
+abbrev pub linkedIn : Contents → Network
+linkedIn c = linked (c .ids) (map plain (c .links))
+
+abbrev pub neighbours : Contents → ℕ → ℕ
+neighbours c u = length (arcsOf (linkedIn c) u)
+
+-- a link that is listed joins the same two places, in either order
+pub record PairLinked (c : Contents) (l : Link) : Type 0 where
+  pub link : Link
+  pub listed : List·Memᴰ link (c .links)
+  pub ends : ((l .first .0 ≡ link .first .0) × (l .second .0 ≡ link .second .0)) ⊎ ((l .first .0 ≡ link .second .0) × (l .second .0 ≡ link .first .0))
+
+-- the tests of a link pass, in their order: 5; then 6; then 7; then 8; then 9
+abbrev pub BothListed : Contents → Link → Type 0
+BothListed c l = (l .first .0 < length (c .ids)) × (l .second .0 < length (c .ids))
+
+abbrev pub Differing : Contents → Link → Type 0
+Differing c l = BothListed c l × (l .first .0 ≢ l .second .0)
+
+abbrev pub Costing : Contents → Link → Type 0
+Costing c l = Differing c l × (l .cost ≢ 0)
+
+abbrev pub Unlinked : Contents → Link → Type 0
+Unlinked c l = Costing c l × (PairLinked c l → ⊥)
+
+abbrev pub WithRoom : Contents → Link → Type 0
+WithRoom c l = Unlinked c l × (length (c .links) < 256)
+
+-- 01, Refusals, 5 to 10: what each number of a link's record says, after what is listed; the tests before it pass.
+pub record LinkFaults (c : Contents) (l : Link) : Type 0 where
+  pub says-5 : (fault c (record-of.Link l) ≡ 5) ↔ ((length (c .ids) ≤ l .first .0) ⊎ (length (c .ids) ≤ l .second .0))
+  pub says-6 : (fault c (record-of.Link l) ≡ 6) ↔ (BothListed c l × (l .first .0 ≡ l .second .0))
+  pub says-7 : (fault c (record-of.Link l) ≡ 7) ↔ (Differing c l × (l .cost ≡ 0))
+  pub says-8 : (fault c (record-of.Link l) ≡ 8) ↔ (Costing c l × PairLinked c l)
+  pub says-9 : (fault c (record-of.Link l) ≡ 9) ↔ (Unlinked c l × (256 ≤ length (c .links)))
+  pub says-10 : (fault c (record-of.Link l) ≡ 10)
+      ↔ (WithRoom c l × ((16 ≤ neighbours c (l .first .0)) ⊎ (16 ≤ neighbours c (l .second .0))))
+  pub says-0 : (fault c (record-of.Link l) ≡ 0) ↔ (WithRoom c l × ((neighbours c (l .first .0) < 16) × (neighbours c (l .second .0) < 16)))
+
+-- 01, Refusals, 16: what each number of a limit's record says
+pub record LimitFaults (c : Contents) (k : ℕ) : Type 0 where
+  pub says-16 : (fault c (record-of.Limit k) ≡ 16) ↔ ((k ≡ 0) ⊎ (16 < k))
+  pub says-0 : (fault c (record-of.Limit k) ≡ 0) ↔ ((1 ≤ k) × (k ≤ 16))
+
+-- 01, Refusals: an answer
+abbrev pub answer : ℕ → ℕ → Answer
+answer number at = record { number = number; at = at }
+
+-- 01, Refusals, 11 to 13: what each answer at the end record says, by whether a byte follows it and where it stands; the tests before it pass. 13
+-- and 0 are said of sound links, as those are that bytes list without a fault.
+pub record EndFaults (c : Contents) (follows : Bool) (at p : ℕ) (a : Answer) : Type 0 where
+  pub says-11 : (a ≡ answer 11 p) ↔ ((p ≡ at + 1) × (follows ≡ true))
+  pub says-12 : (a ≡ answer 12 p) ↔ ((p ≡ at) × (follows ≡ false) × (length (c .ids) ≡ 0))
+  pub says-13 : T (soundLinks (c .ids) (map plain (c .links))) → (a ≡ answer 13 p) ↔ ((follows ≡ false) × (0 < length (c .ids)) × Lowest c p)
+  pub says-0 : T (soundLinks (c .ids) (map plain (c .links))) →
+      (a ≡ answer 0 p) ↔ ((p ≡ 0) × (follows ≡ false) × (0 < length (c .ids)) × ((u : ℕ) → u < length (c .ids) → PathTo (linkedIn c) 0 u))
+
+-- 01, Refusals, the table and the order of the tests: what each number says, record by record, whatever is listed before it.
+pub record Faults (c : Contents) : Type 0 where
+  pub routers : (id : ℕ) → RouterFaults c id
+  pub links : (l : Link) → LinkFaults c l
+  pub limits : (k : ℕ) → LimitFaults c k
+  pub refused : (number : ℕ) → fault c (record-of.Refused number) ≡ number
+  pub end : fault c record-of.End ≡ 0
+  pub at-end : (follows : Bool) (at p : ℕ) → EndFaults c follows at p (ended follows at c .answer)
+
+abbrev pub FaultsEach : Type 0
+FaultsEach = (c : Contents) → Faults c
