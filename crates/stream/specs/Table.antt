@@ -6,7 +6,7 @@ use mathlib.Core.Bool.{Bool, true, false, _&&_}
 use mathlib.Core.List.{List, [], _∷_, _++_}
 use lib.Dec.{T, eqb}
 use lib.ListN.{take}
-use Rattle.network.specs.Lists.{numbersFrom, below, every}
+use Rattle.network.specs.Lists.{numbersFrom, below, every, sameNumbers}
 use Rattle.stations.specs.declared.Link.{Link}
 use Rattle.stations.specs.Topology.{Contents, contents}
 use Rattle.stream.specs.declared.Reading.{Reading}
@@ -21,12 +21,6 @@ pub data Claim : Type 0 where
 pub record Fact : Type 0 where
   pub stream : List ℕ
   pub claim : Claim
-
-unfoldable pub sameNumbers : List ℕ → List ℕ → Bool
-sameNumbers [] [] = true
-sameNumbers [] (y ∷ ys) = false
-sameNumbers (x ∷ xs) [] = false
-sameNumbers (x ∷ xs) (y ∷ ys) = eqb x y && sameNumbers xs ys
 
 unfoldable pub sameLinks : List Link → List (ℕ × ℕ × ℕ) → Bool
 sameLinks [] [] = true
@@ -99,6 +93,7 @@ facts =
     ∷ reads (2 ∷ 0 ∷ 1 ∷ 0 ∷ 10 ∷ []) (refused 5 0)
     ∷ reads (two ++ (2 ∷ 0 ∷ 255 ∷ 0 ∷ 1 ∷ [])) (refused 5 10)
     ∷ reads (two ++ (2 ∷ 2 ∷ 2 ∷ 0 ∷ 0 ∷ [])) (refused 5 10)
+    ∷ reads (two ++ (2 ∷ 255 ∷ 0 ∷ 0 ∷ 0 ∷ [])) (refused 5 10)
     ∷ reads (one ++ (2 ∷ 0 ∷ 0 ∷ 0 ∷ 1 ∷ [])) (refused 6 5)
     ∷ reads (one ++ (2 ∷ 0 ∷ 0 ∷ 0 ∷ 0 ∷ [])) (refused 6 5)
     ∷ reads (two ++ (2 ∷ 0 ∷ 1 ∷ 0 ∷ 0 ∷ [])) (refused 7 10)
@@ -114,6 +109,7 @@ facts =
     ∷ reads (routers 18 ++ (hub 16 ++ (2 ∷ 17 ∷ 0 ∷ 0 ∷ 1 ∷ []))) (refused 10 170)
     ∷ reads (T-stream ++ (0 ∷ [])) (refused 11 31)
     ∷ reads (3 ∷ 0 ∷ []) (refused 11 1)
+    ∷ reads (two ++ (3 ∷ 0 ∷ [])) (refused 11 11)
     ∷ reads (3 ∷ []) (refused 12 0)
     ∷ reads (8 ∷ 16 ∷ 3 ∷ []) (refused 12 2)
     ∷ reads (two ++ (3 ∷ [])) (refused 13 1)

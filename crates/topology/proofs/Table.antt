@@ -1,6 +1,6 @@
 -- The prover computes every fact from the definitions.
 -- Assumes nothing.
-use Rattle.network.specs.Lists.{numbersFrom, below, keep, every, any, leastBy, member}
+use Rattle.network.specs.Lists.{numbersFrom, below, keep, every, any, leastBy, member, sameNumbers}
 use Rattle.network.specs.Network.{size, arcsOf, greatestCost, arcsAmong, linked, samePair}
 use Rattle.network.specs.Distance.{absent, distanceIn, through, atFirst, round, rounds, distances}
 use Rattle.network.specs.Order.{reached}
@@ -10,7 +10,7 @@ use Rattle.soundness.specs.Sound.{within}
 use Rattle.stream.specs.Stream.{bigEndianOn, bigEndian, inBytes, bodyLength, linkIn, decoded, recordIn, records}
 use Rattle.stream.specs.Reading.{refusal, accepted, routerFault, crowded, linkFault, fault, added, width, isEnd, joined, ended, unless, some?, inTurn}
 use Rattle.stream.specs.Reading.{nothingListed, reading}
-use Rattle.stream.specs.Table.{sameNumbers, one, two, T-stream}
+use Rattle.stream.specs.Table.{one, two, T-stream}
 use Rattle.topology.specs.Written.{joinedOver, routerBytes, linkBytes, limitBytes, written}
 use Rattle.topology.specs.Table.{holds, writes, facts, FactsHold}
 

@@ -5,9 +5,9 @@ use Prim.Native.Nat.{ℕ}
 use mathlib.Core.Bool.{Bool}
 use mathlib.Core.List.{List, [], _∷_, _++_}
 use lib.Dec.{T}
-use Rattle.network.specs.Lists.{every}
+use Rattle.network.specs.Lists.{every, sameNumbers}
 use Rattle.stream.specs.Reading.{reading}
-use Rattle.stream.specs.Table.{sameNumbers, one, two, T-stream}
+use Rattle.stream.specs.Table.{one, two, T-stream}
 use Rattle.topology.specs.Written.{written}
 
 pub record Fact : Type 0 where
