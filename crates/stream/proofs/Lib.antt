@@ -8,3 +8,4 @@ pub mod AtTurn
 pub mod Returned
 pub mod Verdicts
 pub mod Table
+pub mod InTurn

@@ -1,8 +1,8 @@
 -- What is proved of reading, over all bytes.
 -- Assumes nothing.
-use Prim.Native.Nat.{ℕ, _+_, _≤_, _<_}
+use Prim.Native.Nat.{ℕ, suc, _+_, _*_, _≤_, _<_}
 use mathlib.Core.Bool.{Bool, true, false}
-use mathlib.Core.List.{List, List·Memᴰ, map}
+use mathlib.Core.List.{List, [], _∷_, _++_, List·Memᴰ, map}
 use mathlib.Core.Logic.{_↔_, _≢_, _⊎_}
 use mathlib.Core.Path.{_≡_}
 use lib.Dec.{T}
@@ -100,7 +100,7 @@ abbrev pub answer : ℕ → ℕ → Answer
 answer number at = record { number = number; at = at }
 
 -- 01, Refusals, 11 to 13: what each answer at the end record says, by whether a byte follows it and where it stands; the tests before it pass. 13
--- and 0 are said of sound links, as those are that bytes list without a fault.
+-- and 0 are said of sound links; what bytes list without a fault is sound (`ListsSound`).
 pub record EndFaults (c : Contents) (follows : Bool) (at p : ℕ) (a : Answer) : Type 0 where
   pub says-11 : (a ≡ answer 11 p) ↔ ((p ≡ at + 1) × (follows ≡ true))
   pub says-12 : (a ≡ answer 12 p) ↔ ((p ≡ at) × (follows ≡ false) × (length (c .ids) ≡ 0))
@@ -119,3 +119,58 @@ pub record Faults (c : Contents) : Type 0 where
 
 abbrev pub FaultsEach : Type 0
 FaultsEach = (c : Contents) → Faults c
+
+-- 01, Topology stream: numbers are big-endian, here of 4 bytes; a link's places and its cost of 2 bytes
+abbrev pub fourBytes : ℕ → ℕ → ℕ → ℕ → ℕ
+fourBytes a b e f = ((a * 256 + b) * 256 + e) * 256 + f
+
+abbrev pub linkOf : ℕ → ℕ → ℕ → ℕ → Link
+linkOf u v e f = record { first = record { 0 = u }; second = record { 0 = v }; cost = e * 256 + f }
+
+-- 01, Topology stream: record after record these bytes list these contents, and none has a fault. A router is kind 1 and its ID, a link kind 2, its
+-- places and its cost, a limit kind 8 and K; routers get places and links numbers by turn, the last K stands, and K is 16 if there is none.
+pub data Lists : List ℕ → Contents → Type 0 where
+  nothing : Lists [] (record { ids = []; links = []; limit = 16 })
+  router : {s : List ℕ} {c : Contents} (a b e f : ℕ) → fault c (record-of.Router (fourBytes a b e f)) ≡ 0 → Lists s c →
+      Lists (s ++ (1 ∷ a ∷ b ∷ e ∷ f ∷ [])) (record { ids = c .ids ++ (fourBytes a b e f ∷ []); links = c .links; limit = c .limit })
+  link : {s : List ℕ} {c : Contents} (u v e f : ℕ) → fault c (record-of.Link (linkOf u v e f)) ≡ 0 → Lists s c →
+      Lists (s ++ (2 ∷ u ∷ v ∷ e ∷ f ∷ [])) (record { ids = c .ids; links = c .links ++ (linkOf u v e f ∷ []); limit = c .limit })
+  limit : {s : List ℕ} {c : Contents} (k : ℕ) → fault c (record-of.Limit k) ≡ 0 → Lists s c →
+      Lists (s ++ (8 ∷ k ∷ [])) (record { ids = c .ids; links = c .links; limit = k })
+
+-- 01, Refusals: what a refused reading returns
+abbrev pub refused : ℕ → ℕ → Reading
+refused number at = record {
+  answer = answer number at;
+  topology = record {
+    routers = 0;
+    links = 0;
+    limit = 0;
+    id = replicate 64 0;
+    link = replicate 256 (record { first = record { 0 = 0 }; second = record { 0 = 0 }; cost = 0 });
+  };
+}
+
+-- 01, Refusals: records are taken in turn and the first fault ends the reading, at its record. Bytes that list contents go on in one of these ways:
+-- they end (1), or the next record is of an unknown kind (2), is cut short (1), has a fault, or is the end record.
+pub record NextRecord (s : List ℕ) (c : Contents) : Type 0 where
+  pub no-record : reading s ≡ refused 1 (length s)
+  pub unknown : (kind : ℕ) → kind ≢ 1 → kind ≢ 2 → kind ≢ 3 → kind ≢ 8 → (rest : List ℕ) → reading (s ++ (kind ∷ rest)) ≡ refused 2 (length s)
+  pub router-cut : (body : List ℕ) → length body < 4 → reading (s ++ (1 ∷ body)) ≡ refused 1 (length s)
+  pub link-cut : (body : List ℕ) → length body < 4 → reading (s ++ (2 ∷ body)) ≡ refused 1 (length s)
+  pub limit-cut : reading (s ++ (8 ∷ [])) ≡ refused 1 (length s)
+  pub router : (a b e f number : ℕ) → fault c (record-of.Router (fourBytes a b e f)) ≡ suc number → (rest : List ℕ) →
+      reading (s ++ (1 ∷ a ∷ b ∷ e ∷ f ∷ rest)) ≡ refused (suc number) (length s)
+  pub link : (u v e f number : ℕ) → fault c (record-of.Link (linkOf u v e f)) ≡ suc number → (rest : List ℕ) →
+      reading (s ++ (2 ∷ u ∷ v ∷ e ∷ f ∷ rest)) ≡ refused (suc number) (length s)
+  pub limit : (k number : ℕ) → fault c (record-of.Limit k) ≡ suc number → (rest : List ℕ) →
+      reading (s ++ (8 ∷ k ∷ rest)) ≡ refused (suc number) (length s)
+  pub end : reading (s ++ (3 ∷ [])) ≡ ended false (length s) c
+  pub end-followed : (byte : ℕ) (rest : List ℕ) → reading (s ++ (3 ∷ byte ∷ rest)) ≡ ended true (length s) c
+
+abbrev pub ReadsInTurn : Type 0
+ReadsInTurn = (s : List ℕ) (c : Contents) → Lists s c → NextRecord s c
+
+-- What bytes list so has sound links, as 13 and 0 at the end record ask (`EndFaults`).
+abbrev pub ListsSound : Type 0
+ListsSound = (s : List ℕ) (c : Contents) → Bytes s → Lists s c → T (soundLinks (c .ids) (map plain (c .links)))
