@@ -6,6 +6,7 @@ use mathlib.Core.List.{List, [], _∷_}
 use mathlib.Core.Path.{_≡_}
 use lib.Dec.{leb}
 use lib.ListN.{length, take, replicate}
+use Rattle.network.specs.Lists.{sameNumbers}
 use Rattle.stream.specs.declared.Reading.{Reading}
 use Rattle.stations.specs.declared.Topology.{Topology}
 use Rattle.stream.specs.Reading.{reading}
@@ -21,7 +22,7 @@ use Rattle.console.specs.declared.requests.Request.the-variants as reque
 use Rattle.console.specs.declared.requests.Aim.{Aim}
 use Rattle.console.specs.declared.requests.Aim.the-variants as aim
 use Rattle.console.specs.declared.requests.Turn.{Turn}
-use Rattle.text.specs.Fields.{field, same, asks}
+use Rattle.text.specs.Fields.{field, asks}
 use Rattle.text.specs.Numbers.{number}
 use Rattle.text.specs.Hex.{byteCount, bytes}
 use Rattle.text.specs.Lines.{Put, errorLine, answerLine, bufferLine}
@@ -88,8 +89,8 @@ freeWord = 102 ∷ 114 ∷ 101 ∷ 101 ∷ []
 -- D, where the field holds this, and MODE, `shortest` or `free`
 unfoldable pub aimOf : Value → List ℕ → Aim
 aimOf (Is d) word =
-    cond (same word shortestWord) (aim.At (record { 0 = d }) mode.ShortestPath)
-    (cond (same word freeWord) (aim.At (record { 0 = d }) mode.Free) aim.Wrong)
+    cond (sameNumbers word shortestWord) (aim.At (record { 0 = d }) mode.ShortestPath)
+    (cond (sameNumbers word freeWord) (aim.At (record { 0 = d }) mode.Free) aim.Wrong)
 aimOf Wrong word = aim.Wrong
 
 -- `order D MODE ROOM`, where the fields hold this

@@ -81,7 +81,7 @@ unfoldable pub distinct : List ℕ → Bool
 distinct [] = true
 distinct (u ∷ us) = cond (member u us) false (distinct us)
 
--- two lists hold the same numbers, in the same places
+-- two lists hold the same numbers, in the same order
 unfoldable pub sameNumbers : List ℕ → List ℕ → Bool
 sameNumbers [] [] = true
 sameNumbers [] (y ∷ ys) = false

@@ -9,9 +9,8 @@ use native.Mathlib.Omega.{arith}
 use borrow.Author.Tests.{eq-eqb, ne-eqb, le-leb, lt-leb, leb-true, eqb-true}
 use lib.Dec.{T, eqb, leb}
 use lib.ListN.{length, getD, drop}
-use Rattle.network.specs.Lists.{every}
+use Rattle.network.specs.Lists.{every, sameNumbers}
 use Rattle.text.specs.declared.unchecked.fields.Value.the-variants.{Is, Wrong}
-use Rattle.text.specs.Fields.{same}
 use Rattle.text.specs.Numbers.{decimal}
 use Rattle.text.specs.Hex.{none, hexadecimal, worth, bytesOf, inHex, byteCount, bytes}
 use Rattle.text.proofs.Scan.{rest, no-rest, every-at, and-left, and-right, length-same}
@@ -89,7 +88,7 @@ module _ (s : List ℕ) where
   unfolding bytesOf
   bytes-end i h = rw (no-rest s i h)
 
-  pub none-count : same s none ≡ true → byteCount s ≡ Is 0
+  pub none-count : sameNumbers s none ≡ true → byteCount s ≡ Is 0
   unfolding byteCount
   none-count e = rw (e)
 
@@ -101,15 +100,15 @@ module _ (s : List ℕ) where
   unfolding bytes
   if-hex e = rw (e)
 
-  pub none-bytes : same s none ≡ true → bytes s ≡ []
+  pub none-bytes : sameNumbers s none ≡ true → bytes s ≡ []
   unfolding none
   none-bytes e = not-hex (too-short (omega (arith, length-same s (45 ∷ []) e)))
 
-  pub wrong-count : same s none ≡ false → inHex s ≡ false → byteCount s ≡ Wrong
+  pub wrong-count : sameNumbers s none ≡ false → inHex s ≡ false → byteCount s ≡ Wrong
   unfolding byteCount
   wrong-count d e = rw (d, e)
 
-  pub hex-count : same s none ≡ false → inHex s ≡ true → byteCount s ≡ Is (length s / 2)
+  pub hex-count : sameNumbers s none ≡ false → inHex s ≡ true → byteCount s ≡ Is (length s / 2)
   unfolding byteCount
   hex-count d e = rw (d, e)
 
@@ -122,15 +121,15 @@ halves (c ∷ d ∷ s) = omega (arith, halves s)
 
 -- the count is that of the bytes
 pub counted : (s : List ℕ) (n : ℕ) → byteCount s ≡ Is n → (length (bytes s) ≡ n) × (n ≤ length s / 2)
-counted s n e = dash (same s none) refl
+counted s n e = dash (sameNumbers s none) refl
   where
-    digits : same s none ≡ false → (b : Bool) → inHex s ≡ b → (length (bytes s) ≡ n) × (n ≤ length s / 2)
+    digits : sameNumbers s none ≡ false → (b : Bool) → inHex s ≡ b → (length (bytes s) ≡ n) × (n ≤ length s / 2)
     digits d true t =
         let m : length s / 2 ≡ n = cc (hex-count s d t) in
         (ap length (if-hex s t) ∙ halves s ∙ m, omega arith)
     digits d false t = let never : _≡_ {A = ℕ} 0 1 = cc (wrong-count s d t) in absurd (omega arith)
 
-    dash : (b : Bool) → same s none ≡ b → (length (bytes s) ≡ n) × (n ≤ length s / 2)
+    dash : (b : Bool) → sameNumbers s none ≡ b → (length (bytes s) ≡ n) × (n ≤ length s / 2)
     dash true d =
         let m : 0 ≡ n = cc (none-count s d) in
         (ap length (none-bytes s d) ∙ m, omega arith)

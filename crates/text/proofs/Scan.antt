@@ -11,8 +11,8 @@ use borrow.Author.Tests.{eq-eqb, ne-eqb}
 use lib.Dec.{T, eqb}
 use lib.ListN.{length, getD, drop, take, drop-of-length-le, length-drop}
 use lib.Seq.{drop-cons, take-all}
-use Rattle.network.specs.Lists.{every}
-use Rattle.text.specs.Fields.{space, before, after, field, spaces, same}
+use Rattle.network.specs.Lists.{every, sameNumbers}
+use Rattle.text.specs.Fields.{space, before, after, field, spaces}
 
 zero-after : (s : List ℕ) → after 0 s ≡ s
 unfolding after
@@ -88,16 +88,16 @@ module _ (f : ℕ → Bool) (s : List ℕ) (i : ℕ) where
 
 -- two texts side by side
 module _ (s t : List ℕ) (i : ℕ) where
-  pub same-not : i < length s → i < length t → getD s i 0 ≢ getD t i 0 → same (drop i s) (drop i t) ≡ false
-  unfolding same
+  pub same-not : i < length s → i < length t → getD s i 0 ≢ getD t i 0 → sameNumbers (drop i s) (drop i t) ≡ false
+  unfolding sameNumbers
   same-not h k e = rw (rest s i h, rest t i k, ne-eqb (getD s i 0) (getD t i 0) e)
 
-  pub same-on : i < length s → i < length t → getD s i 0 ≡ getD t i 0 → same (drop i s) (drop i t) ≡ same (drop (i + 1) s) (drop (i + 1) t)
-  unfolding same
+  pub same-on : i < length s → i < length t → getD s i 0 ≡ getD t i 0 → sameNumbers (drop i s) (drop i t) ≡ sameNumbers (drop (i + 1) s) (drop (i + 1) t)
+  unfolding sameNumbers
   same-on h k e = rw (rest s i h, rest t i k, eq-eqb (getD s i 0) (getD t i 0) e)
 
-  pub same-end : length s ≤ i → length t ≤ i → same (drop i s) (drop i t) ≡ true
-  unfolding same
+  pub same-end : length s ≤ i → length t ≤ i → sameNumbers (drop i s) (drop i t) ≡ true
+  unfolding sameNumbers
   same-end h k = rw (no-rest s i h, no-rest t i k)
 
 pub and-no : (a b : Bool) → a ≡ false → (a && b) ≡ false
@@ -119,19 +119,19 @@ and-false : (b : Bool) → (b && false) ≡ false
 and-false true = refl
 and-false false = refl
 
-pub same-length : (s t : List ℕ) → length s ≢ length t → same s t ≡ false
-unfolding same
+pub same-length : (s t : List ℕ) → length s ≢ length t → sameNumbers s t ≡ false
+unfolding sameNumbers
 same-length [] [] e = absurd (e refl)
 same-length [] (d ∷ t) e = refl
 same-length (c ∷ s) [] e = refl
 same-length (c ∷ s) (d ∷ t) e = rw (same-length s t (λ q. e (ap suc q))) (and-false (eqb c d))
 
-pub length-same : (s t : List ℕ) → same s t ≡ true → length s ≡ length t
-unfolding same
+pub length-same : (s t : List ℕ) → sameNumbers s t ≡ true → length s ≡ length t
+unfolding sameNumbers
 length-same [] [] e = refl
 length-same [] (d ∷ t) e = absurd (subst T (sym e) tt)
 length-same (c ∷ s) [] e = absurd (subst T (sym e) tt)
-length-same (c ∷ s) (d ∷ t) e = ap suc (length-same s t (and-right (eqb c d) (same s t) e))
+length-same (c ∷ s) (d ∷ t) e = ap suc (length-same s t (and-right (eqb c d) (sameNumbers s t) e))
 
 -- what stands before the first such byte is the start of the text
 pub take-before : (stop : ℕ) (s : List ℕ) → take (length (before stop s)) s ≡ before stop s

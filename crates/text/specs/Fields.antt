@@ -1,9 +1,10 @@
 -- The fields of a request: a line is cut at each space, so that two spaces have an empty field between them.
 -- Assumes nothing.
 use Prim.Native.Nat.{ℕ, zero, suc}
-use mathlib.Core.Bool.{Bool, true, false, cond, _&&_}
+use mathlib.Core.Bool.{Bool, cond, _&&_}
 use mathlib.Core.List.{List, [], _∷_}
 use lib.Dec.{eqb}
+use Rattle.network.specs.Lists.{sameNumbers}
 
 -- the byte that parts two fields
 abbrev pub space : ℕ
@@ -29,13 +30,6 @@ unfoldable pub spaces : List ℕ → ℕ
 spaces [] = 0
 spaces (c ∷ s) = cond (eqb c space) (suc (spaces s)) (spaces s)
 
--- the two texts have the same bytes
-unfoldable pub same : List ℕ → List ℕ → Bool
-same [] [] = true
-same [] (d ∷ t) = false
-same (c ∷ s) [] = false
-same (c ∷ s) (d ∷ t) = eqb c d && same s t
-
 -- the line begins with this word, and so many fields follow it
 unfoldable pub asks : List ℕ → ℕ → List ℕ → Bool
-asks word fields line = same (field 0 line) word && eqb (spaces line) fields
+asks word fields line = sameNumbers (field 0 line) word && eqb (spaces line) fields

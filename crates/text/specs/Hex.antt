@@ -5,10 +5,9 @@ use mathlib.Core.Bool.{Bool, cond, _&&_, _||_}
 use mathlib.Core.List.{List, [], _∷_}
 use lib.Dec.{eqb, ltb, leb}
 use lib.ListN.{length}
-use Rattle.network.specs.Lists.{every}
+use Rattle.network.specs.Lists.{every, sameNumbers}
 use Rattle.text.specs.declared.unchecked.fields.Value.{Value}
 use Rattle.text.specs.declared.unchecked.fields.Value.the-variants.{Is, Wrong}
-use Rattle.text.specs.Fields.{same}
 use Rattle.text.specs.Numbers.{decimal}
 
 -- `-`, for no bytes
@@ -35,7 +34,7 @@ inHex s = leb 2 (length s) && eqb (length s % 2) 0 && every hexadecimal s
 
 -- how many bytes a field holds, unless it is neither hex nor `-`
 unfoldable pub byteCount : List ℕ → Value
-byteCount s = cond (same s none) (Is 0) (cond (inHex s) (Is (length s / 2)) Wrong)
+byteCount s = cond (sameNumbers s none) (Is 0) (cond (inHex s) (Is (length s / 2)) Wrong)
 
 -- the bytes that a field holds
 unfoldable pub bytes : List ℕ → List ℕ

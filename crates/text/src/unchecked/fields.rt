@@ -4,6 +4,7 @@ ghost use Prim.Native.Nat.{_<_, _^_};
 ghost use lib.ListN.{length};
 ghost use Rattle.network.specs.Lists.{every};
 ghost use Rattle.text.specs.Fields.{before};
+ghost use Rattle.network.specs.Lists.{sameNumbers};
 ghost use Rattle.text.specs.Fields as said;
 ghost use Rattle.text.specs.Numbers.{decimal, numeral};
 ghost use Rattle.text.specs.Numbers as numbers;
@@ -70,7 +71,7 @@ fn spaces(line: &[u8]) -> usize
 }
 
 pub fn same(a: &[u8], b: &[u8]) -> bool
-    ensures { λ r. ⌜ r ≡ said.same (now (a .entry)) (now (b .entry)) ⌝ }
+    ensures { λ r. ⌜ r ≡ sameNumbers (now (a .entry)) (now (b .entry)) ⌝ }
 {
     if a.len() != b.len() {
         return false;

@@ -4,8 +4,8 @@ use Prim.Native.Nat.{_≤_}
 use mathlib.Core.Bool.{true, false}
 use mathlib.Core.Path.{_≡_, sym, _∙_}
 use native.Mathlib.Omega.{arith}
+use Rattle.network.specs.Lists.{sameNumbers}
 use Rattle.text.specs.declared.unchecked.fields.Value.the-variants.{Is, Wrong}
-use Rattle.text.specs.Fields.{same}
 use Rattle.text.specs.Numbers.{number}
 use Rattle.console.specs.Requests.{mostDestination, shortestWord, freeWord, aimOf}
 use Rattle.text.proofs.Numbers.{number-bound}
@@ -48,7 +48,7 @@ cast-t10 c = omega (arith, within (c .before .before .before))
 returns-2 : tie.Need-returns-2
 unfolding aimOf shortestWord freeWord
 returns-2 c =
-    let first : same (c .before .before .before .before .before .before .before .before .before .args .mode .now) shortestWord ≡ true = sym (c .before .same .ensures) ∙ c .if1 .taken in
+    let first : sameNumbers (c .before .before .before .before .before .before .before .before .before .args .mode .now) shortestWord ≡ true = sym (c .before .same .ensures) ∙ c .if1 .taken in
     rw (held (c .before .before .before), first)
 
 slice-aggregate-same-2 : tie.Need-slice-aggregate-same-2
@@ -64,16 +64,16 @@ returns-3 : tie.Need-returns-3
 unfolding aimOf shortestWord freeWord
 returns-3 c =
     let word = c .before .before .before .before .before .before .before .before .before .before .before .before .args .mode .now in
-    let first : same word shortestWord ≡ false = sym (c .before .before .before .before .same .ensures) ∙ c .before .before .before .if1 .left in
-    let second : same word freeWord ≡ true = sym (c .before .same2 .ensures) ∙ c .if2 .taken in
+    let first : sameNumbers word shortestWord ≡ false = sym (c .before .before .before .before .same .ensures) ∙ c .before .before .before .if1 .left in
+    let second : sameNumbers word freeWord ≡ true = sym (c .before .same2 .ensures) ∙ c .if2 .taken in
     rw (held (c .before .before .before .before .before .before), first, second)
 
 returns-4 : tie.Need-returns-4
 unfolding aimOf shortestWord freeWord
 returns-4 c =
     let word = c .before .before .before .before .before .before .before .before .before .before .before .before .args .mode .now in
-    let first : same word shortestWord ≡ false = sym (c .before .before .before .before .same .ensures) ∙ c .before .before .before .if1 .left in
-    let second : same word freeWord ≡ false = sym (c .before .same2 .ensures) ∙ c .if2 .left in
+    let first : sameNumbers word shortestWord ≡ false = sym (c .before .before .before .before .same .ensures) ∙ c .before .before .before .if1 .left in
+    let second : sameNumbers word freeWord ≡ false = sym (c .before .same2 .ensures) ∙ c .if2 .left in
     rw (held (c .before .before .before .before .before .before), first, second)
 
 pub aim-of-spec : {M : Type 1} → statement M

@@ -4,13 +4,13 @@ use Prim.Native.Nat.{_-_, _≤_}
 use mathlib.Core.Path.{_≡_, refl, sym, _∙_}
 use native.Mathlib.Omega.{arith}
 use lib.ListN.{length, drop}
-use Rattle.text.specs.Fields.{same}
+use Rattle.network.specs.Lists.{sameNumbers}
 use Rattle.text.proofs.Scan.{same-not, same-on, same-end, same-length}
 use Rattle.text.proofs.unchecked.fields.same.Statement.{statement}
 use Rattle.text.proofs.unchecked.fields.same.Tie as tie
 
 abbrev Inv-loop : tie.InvT-loop
-Inv-loop a b i₀ i = (i ≤ length a) × (length a ≡ length b) × (same (drop i a) (drop i b) ≡ same a b)
+Inv-loop a b i₀ i = (i ≤ length a) × (length a ≡ length b) × (sameNumbers (drop i a) (drop i b) ≡ sameNumbers a b)
 
 abbrev μ-loop : tie.MeasureT-loop
 μ-loop a b i₀ i = length a - i
