@@ -1,4 +1,4 @@
--- What a session holds, by the bytes that have come: a newline ends a line, which is answered, and any other byte is a byte more of one.
+-- What a session holds, by the bytes that have come: a newline ends a line, which is answered, and any other byte is a byte more of it.
 -- Assumes nothing.
 use Prim.Native.Nat.{ℕ}
 use mathlib.Core.Bool.{Bool, cond}
@@ -57,7 +57,7 @@ pub record LineAnswered (s : Session) (buffer : List ℕ) (r : Session) : Type 0
   pub held : r .topology ≡ answerHeld (s .topology) buffer (s .count) .topology
   pub none : r .count ≡ 0
 
--- A part more of a line was gathered, so many bytes with it; the line was answered, if that was the last part, and else nothing else changed.
+-- A part more of a line was gathered, so many bytes with it; the line was answered, if that was the last part, and if not what is held stays.
 pub record PartTaken (s : Session) (entry part : List ℕ) (last : Bool) (r : Session) (exit : List ℕ) : Type 0 where
   pub count : ℕ
   pub gathered : Gathered entry (s .count) part count exit

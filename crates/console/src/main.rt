@@ -21,7 +21,6 @@ use topology::ROUTERS;
 use topology::Topology;
 ghost use mathlib.Core.Bool.{true};
 ghost use mathlib.Core.Path.{_≡_};
-ghost use Prim.Native.Nat.{_≤_};
 ghost use lib.ListN.{length};
 ghost use Rattle.stations.specs.Topology.{zeros};
 ghost use Rattle.console.specs.Requests.{mostLine};
@@ -58,7 +57,7 @@ fn begin() -> Session
 
 // Answers the line of count bytes in the buffer.
 fn answer(s: Session, line: &[u8]) -> Session
-    requires { ⌜ length (now line) ≤ mostLine ⌝ }
+    requires { ⌜ length (now line) ≡ mostLine ⌝ }
     ensures { λ r. ⌜ LineAnswered s (now (line .entry)) r ⌝ }
 {
     let mut out = requests::room_for_answer();
@@ -77,7 +76,7 @@ fn answer(s: Session, line: &[u8]) -> Session
 
 // A part more of the line, and its answer if that was the last.
 fn take_part(s: Session, line: &mut [u8], part: &[u8], is_last: bool) -> Session
-    requires { ⌜ length (now line) ≤ mostLine ⌝ }
+    requires { ⌜ length (now line) ≡ mostLine ⌝ }
     ensures { λ r. ⌜ PartTaken s (now (line .entry)) (now (part .entry)) «is_last» r (now (line .exit)) ⌝ }
 {
     let mut next = s;
@@ -87,8 +86,8 @@ fn take_part(s: Session, line: &mut [u8], part: &[u8], is_last: bool) -> Session
 
 // The lines of what was read, of which the first may have begun before and the last may go on.
 fn take(s: Session, line: &mut [u8], text: &[u8]) -> Session
-    requires { ⌜ length (now line) ≤ mostLine ⌝ }
-    ensures { λ r. ⌜ stateOf r (now (line .exit)) ≡ taken (length (now (line .entry))) (now (text .entry)) (stateOf s (now (line .entry))) ⌝ }
+    requires { ⌜ length (now line) ≡ mostLine ⌝ }
+    ensures { λ r. ⌜ stateOf r (now (line .exit)) ≡ taken mostLine (now (text .entry)) (stateOf s (now (line .entry))) ⌝ }
 {
     let mut next = s;
     let mut at: usize = 0;
@@ -103,7 +102,7 @@ fn take(s: Session, line: &mut [u8], text: &[u8]) -> Session
 
 // Reads once.
 fn read_some(s: Session, line: &mut [u8]) -> Session
-    requires { ⌜ length (now line) ≤ mostLine ⌝ }
+    requires { ⌜ length (now line) ≡ mostLine ⌝ }
 {
     let mut text = io::large_buffer();
     let got = libc::read(STDIN_FILENO, &mut text);
@@ -118,7 +117,7 @@ fn read_some(s: Session, line: &mut [u8]) -> Session
 
 // A proved loop has to end, and nothing says that the input does. So the loop counts its turns down, from a number that no run uses up.
 fn serve(line: &mut [u8]) -> Session
-    requires { ⌜ length (now line) ≤ mostLine ⌝ }
+    requires { ⌜ length (now line) ≡ mostLine ⌝ }
 {
     let mut s = begin();
     let mut turns: u64 = 1099511627776;

@@ -84,7 +84,7 @@ unfolding taken
 returns c =
     let a = c .before .before .before .before .args in
     let end = no-rest (a .text .now) (c .before .loop .at) (omega arith) in
-    rw (end) at (c .before .loop .inv .1)
+    rw (end, c .before .before .before .before .pre) at (c .before .loop .inv .1)
 
 pub take-spec : {M : Type 1} → statement M
 take-spec =
