@@ -21,8 +21,9 @@ use Rattle.stations.specs.Topology.{networkOf}
 use Rattle.arcs.specs.declared.Arcs.{Arcs}
 use Rattle.order.specs.declared.Mode as own
 use Rattle.order.specs.Calls.{modeOf}
-use Rattle.order.specs.Inner.{chosen, placeOr, Waits, State, state, Room, Stepped, Kept}
+use Rattle.order.specs.Inner.{chosen, placeOr, Waits, State, state, Room, Stepped}
 use Rattle.order.proofs.Reached.{built-long}
+use Rattle.order.proofs.Kept.{Kept}
 use Rattle.order.proofs.Turn.{Given, facts, begun, chosen-one, room, placed-too}
 
 -- before a turn: `rank` routers are placed, and the slice holds them and then what it held at first

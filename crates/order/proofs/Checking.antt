@@ -18,9 +18,10 @@ use Rattle.arcs.specs.declared.Arcs.{Arcs}
 use Rattle.order.specs.declared.Mode.{Mode}
 use Rattle.order.specs.Calls.{modeOf, unreadyRanks}
 use Rattle.order.specs.Proposed.{Proposed}
-use Rattle.order.specs.Inner.{readyIn, Waits, State, state, Room, Stepped, Kept}
+use Rattle.order.specs.Inner.{readyIn, Waits, State, state, Room, Stepped}
 use Rattle.order.proofs.Ranges.{keep-none, keep-first}
 use Rattle.order.proofs.Entries.{entry-right}
+use Rattle.order.proofs.Kept.{Kept}
 use Rattle.order.proofs.Turn.{Given, begun, is-candidate, room, placed-too}
 
 -- before a turn

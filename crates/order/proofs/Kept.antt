@@ -2,7 +2,7 @@
 -- those by the definitions.
 -- Assumes nothing.
 use Prim.Native.Nat.{ℕ, _+_, _≤_, _<_}
-use mathlib.Core.Bool.{true, false, cond, _||_, or-true, or-false}
+use mathlib.Core.Bool.{true, false, cond, not, _||_, or-true, or-false}
 use mathlib.Core.List.{List, [], _∷_, _++_, List·Memᴰ}
 use mathlib.Core.Path.{_≡_, refl, sym, _∙_, ap}
 use native.Mathlib.Decide.{decLt, ℕ-discrete}
@@ -21,10 +21,23 @@ use Rattle.arcs.specs.declared.Arcs.{Arcs}
 use Rattle.order.specs.declared.Mode.{Mode}
 use Rattle.order.specs.declared.Mode.the-variants as mode
 use Rattle.order.specs.Calls.{modeOf}
-use Rattle.order.specs.Inner.{Waits, State, state, readyIn, betterIn, placeOr, chosen, leading, serving, Room, Stepped, Kept}
+use Rattle.order.specs.Inner.{Waits, State, state, readyIn, betterIn, placeOr, chosen, leading, serving, Room, Stepped}
 use Rattle.order.proofs.Keeping.{keep-same, none-kept, every-kept, any-kept, foremost-same, member-snoc}
 use Rattle.order.proofs.Counting.{leading-past, serving-past, neighbours-most, waiting-first, neighbours-step, waiting-step}
 use Rattle.order.proofs.Setting.{Setting, GoneBy}
+
+-- the counters are right for the routers that are placed: `left` is in shortest-path mode how many shortest next hops are not placed yet, in free mode
+-- one until a neighbour is placed
+pub record Kept (n : Network) (ds : List ℕ) (m : Mode) (placed : List ℕ) (s : State) : Type 0 where
+  pub placed-long : length (s .placed) ≡ 64
+  pub near-long : length (s .near) ≡ 64
+  pub left-long : length (s .left) ≡ 64
+  pub placed-is : (u : ℕ) → u < size n → getD (s .placed) u false ≡ member u placed
+  pub near-is : (u : ℕ) → u < size n → getD (s .near) u 0 ≡ placedNeighbours n placed u
+  pub near-past : (u : ℕ) → size n ≤ u → u < 64 → getD (s .near) u 0 ≡ 0
+  pub left-is : m ≡ mode.ShortestPath → (u : ℕ) → u < size n →
+      getD (s .left) u 0 ≡ length (keep (λ a. not (leadsInto placed a)) (shortestNextHops n ds u))
+  pub left-free : m ≡ mode.Free → (u : ℕ) → u < size n → getD (s .left) u 0 ≡ cond (eqb (placedNeighbours n placed u) 0) 1 0
 
 -- in free mode a router waits for one neighbour until one is placed
 until-first : (i j : ℕ) → _≡_ {A = ℕ} (cond (eqb j 0) (cond (eqb i 0) 1 0) 0) (cond (eqb (i + j) 0) 1 0)

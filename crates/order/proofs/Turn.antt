@@ -19,11 +19,11 @@ use Rattle.arcs.specs.Arcs.{Holds}
 use Rattle.order.specs.declared.Mode.{Mode}
 use Rattle.order.specs.declared.Mode.the-variants as mode
 use Rattle.order.specs.Calls.{modeOf}
-use Rattle.order.specs.Inner.{AllSlots, Settled, DistancesFor, Waits, State, state, readyIn, chosen, placeOr, Room, Stepped, Kept}
+use Rattle.order.specs.Inner.{AllSlots, Settled, DistancesFor, Waits, State, state, readyIn, chosen, placeOr, Room, Stepped}
 use Rattle.soundness.proofs.Sound.{sound-exact, sound-networks}
 use Rattle.order.proofs.Slots.{sound-held, all-slots}
 use Rattle.order.proofs.Setting.{Setting, GoneBy, settled-agrees, topology-setting, topology-reached, topology-ids}
-use Rattle.order.proofs.Kept.{kept-start, kept-room, kept-step, ready-is, chosen-is}
+use Rattle.order.proofs.Kept.{Kept, kept-start, kept-room, kept-step, ready-is, chosen-is}
 
 -- what is known while routers are placed: the topology is sound, its arcs are held, and the distances are those that the mode needs
 pub record Given (t : Topology) (a : Arcs) (d : ℕ) (m : Mode) (ds : List ℕ) : Type 0 where

@@ -8,10 +8,9 @@ use mathlib.Core.Option.{Option, none, some}
 use mathlib.Core.Path.{_≡_}
 use lib.Dec.{eqb}
 use lib.ListN.{length, getD, set, take, replicate}
-use Rattle.network.specs.Lists.{below, keep, leastBy, foremost, wins, member}
+use Rattle.network.specs.Lists.{below, keep, leastBy, foremost, wins}
 use Rattle.network.specs.Network.{Network, size}
 use Rattle.network.specs.Distance.{distances}
-use Rattle.network.specs.Order.{placedNeighbours, shortestNextHops, leadsInto}
 use Rattle.stations.specs.Limits.{mostRouters, mostNeighbours}
 use Rattle.order.specs.declared.Mode.{Mode}
 use Rattle.order.specs.declared.Mode.the-variants as mode
@@ -124,16 +123,3 @@ pub record Stepped (s : State) (to cost ds : List ℕ) (m : Mode) (u count : ℕ
       getD (r .left) v 0 + serving to cost ds u count v ≡ getD (s .left) v 0
   pub left-free : m ≡ mode.Free → (v : ℕ) → v < mostRouters →
       getD (r .left) v 0 ≡ cond (eqb (leading to u count v) 0) (getD (s .left) v 0) 0
-
--- the counters are right for the routers that are placed: `left` is in shortest-path mode how many shortest next hops are not placed yet, in free mode
--- one until a neighbour is placed
-pub record Kept (n : Network) (ds : List ℕ) (m : Mode) (placed : List ℕ) (s : State) : Type 0 where
-  pub placed-long : length (s .placed) ≡ mostRouters
-  pub near-long : length (s .near) ≡ mostRouters
-  pub left-long : length (s .left) ≡ mostRouters
-  pub placed-is : (u : ℕ) → u < size n → getD (s .placed) u false ≡ member u placed
-  pub near-is : (u : ℕ) → u < size n → getD (s .near) u 0 ≡ placedNeighbours n placed u
-  pub near-past : (u : ℕ) → size n ≤ u → u < mostRouters → getD (s .near) u 0 ≡ 0
-  pub left-is : m ≡ mode.ShortestPath → (u : ℕ) → u < size n →
-      getD (s .left) u 0 ≡ length (keep (λ a. not (leadsInto placed a)) (shortestNextHops n ds u))
-  pub left-free : m ≡ mode.Free → (u : ℕ) → u < size n → getD (s .left) u 0 ≡ cond (eqb (placedNeighbours n placed u) 0) 1 0

@@ -35,7 +35,7 @@ link first second cost = record { first = record { 0 = first }; second = record 
 unfoldable pub T-topology : Topology
 T-topology = held (record { ids = 1 ∷ 2 ∷ 3 ∷ []; links = link 0 1 1 ∷ link 1 2 1 ∷ link 0 2 3 ∷ []; limit = 16 })
 
--- the rule's "plausible and wrong": place 3 has the two shortest next hops 1 and 2 to place 0
+-- 01, Plausible and wrong: place 3 has the two shortest next hops 1 and 2 to place 0
 unfoldable pub square : Topology
 square = held (record { ids = 1 ∷ 2 ∷ 3 ∷ 4 ∷ []; links = link 0 1 1 ∷ link 0 2 1 ∷ link 1 3 1 ∷ link 2 3 1 ∷ []; limit = 16 })
 
@@ -55,7 +55,7 @@ facts =
     ∷ checks T-topology 0 mode.ShortestPath (0 ∷ 3 ∷ 0 ∷ []) 18 1
     ∷ checks T-topology 0 mode.ShortestPath (1 ∷ 1 ∷ 0 ∷ []) 18 1
     ∷ checks T-topology 0 mode.ShortestPath (1 ∷ 0 ∷ 2 ∷ []) 19 0
-    ∷ checks T-topology 2 mode.ShortestPath (0 ∷ 2 ∷ 1 ∷ []) 19 0
+    ∷ checks T-topology 0 mode.ShortestPath (2 ∷ 1 ∷ 0 ∷ []) 19 0
     ∷ checks T-topology 0 mode.ShortestPath (0 ∷ 2 ∷ 1 ∷ []) 20 1
     ∷ checks square 0 mode.ShortestPath (0 ∷ 2 ∷ 3 ∷ 1 ∷ []) 20 2
     ∷ checks square 0 mode.Free (0 ∷ 3 ∷ 2 ∷ 1 ∷ []) 20 1

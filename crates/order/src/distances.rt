@@ -17,7 +17,7 @@ ghost use Rattle.soundness.specs.Sound.{sound};
 ghost use Rattle.arcs.specs.Arcs.{Holds};
 ghost use Rattle.order.specs.Inner.{Slots, slotCost, AllSlots, roundIn, Settled};
 
-// One more than the greatest cost: n times this is more than any path that visits no router of n twice.
+// One more than the greatest cost: n times this is more than any path costs that visits no router of n twice.
 const STEP: u32 = 65536;
 
 // The least of what the router's distance was and what going to any of its neighbours costs in all.
@@ -66,7 +66,7 @@ fn next_round<'a>(
     next
 }
 
-// Whether the first n of two rows of distances are the same.
+// Whether the first n of two rows of distances are the same. Only that they are, where it says so, is promised: stopping late does no harm.
 fn same(n: usize, a: [u32; ROUTERS], b: [u32; ROUTERS]) -> bool
     requires { ⌜ n ≤ mostRouters ⌝ }
     ensures { λ r. ⌜ (r ≡ true → take n a ≡ take n b) ⌝ }

@@ -54,13 +54,13 @@ pub record SoundNetwork (t : Topology) : Type 0 where
 abbrev pub SoundNetworks : Type 0
 SoundNetworks = (t : Topology) → T (sound t) → SoundNetwork t
 
--- 01, Refusals, 13: u is the lowest place that has no path to place 0, over links that are sound
+-- 01, Refusals, 13: u is the lowest place that has no path to place 0
 pub record Lowest (c : Contents) (u : ℕ) : Type 0 where
   pub listed : u < length (c .ids)
   pub no-path : PathTo (linked (c .ids) (map plain (c .links))) 0 u → ⊥
   pub lower : (v : ℕ) → v < u → PathTo (linked (c .ids) (map plain (c .links))) 0 v
 
--- The first of the places apart is the lowest.
+-- Over links that are sound the first of the places apart is the lowest.
 abbrev pub LowestApart : Type 0
 LowestApart = (c : Contents) → 0 < length (c .ids) → T (soundLinks (c .ids) (map plain (c .links))) → (u : ℕ) (us : List ℕ) → apart c ≡ u ∷ us →
     Lowest c u
