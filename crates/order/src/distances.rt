@@ -6,6 +6,7 @@ use stations::ROUTERS;
 use stations::Topology;
 ghost use mathlib.Core.Bool.{true};
 ghost use mathlib.Core.List.{_++_};
+ghost use mathlib.Core.Logic.{_↔_};
 ghost use mathlib.Core.Path.{_≡_};
 ghost use Prim.Native.Nat.{_*_, _<_, _≤_};
 ghost use lib.Dec.{T};
@@ -66,10 +67,10 @@ fn next_round<'a>(
     next
 }
 
-// Whether the first n of two rows of distances are the same. Only that they are, where it says so, is promised: stopping late does no harm.
+// Whether the first n of two rows of distances are the same.
 fn same(n: usize, a: [u32; ROUTERS], b: [u32; ROUTERS]) -> bool
     requires { ⌜ n ≤ mostRouters ⌝ }
-    ensures { λ r. ⌜ (r ≡ true → take n a ≡ take n b) ⌝ }
+    ensures { λ r. ⌜ ((r ≡ true) ↔ (take n a ≡ take n b)) ⌝ }
 {
     let mut u: usize = 0;
     while u < n {

@@ -52,7 +52,7 @@ returns : tie.Need-returns Inv-loop μ-loop
 returns c =
     let here = turn (c .before .before .before) in
     let h = held (start here) in
-    stopped _ _ _ h (start here .pre .2) (here .before .loop .inv .2 _ h) (next (c .before .before) _ h) (c .before .same .ensures (c .if1 .taken))
+    stopped _ _ _ h (start here .pre .2) (here .before .loop .inv .2 _ h) (next (c .before .before) _ h) (c .before .same .ensures .0 (c .if1 .taken))
 
 add-k : tie.Need-add-k Inv-loop μ-loop
 add-k c = omega (arith, held (start (turn (c .before .before .before))) .most)
