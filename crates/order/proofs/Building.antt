@@ -79,7 +79,7 @@ module _ {t : Topology} {a : Arcs} {d : ℕ} {m : own.Mode} {ds first out : List
     pub place : u < t .routers
     place = omega (arith, starts-in n (facts (b .given) .well-formed) d (inside (b .given .place)) (candidate .path), facts (b .given) .routers)
 
-    pub has-room : Room s (a .to) (a .cost) ds m u (getD (a .count) u 0)
+    pub has-room : Room (s .near) (s .left) (a .to) (a .cost) ds m u (getD (a .count) u 0)
     has-room = room (b .given) (b .right) place (candidate .unplaced)
 
     pub again : {r : State} → Stepped s (a .to) (a .cost) ds m u (getD (a .count) u 0) r → Building t a d m ds first (set out rank u) r (rank + 1)

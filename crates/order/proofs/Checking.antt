@@ -52,7 +52,7 @@ module _ {t : Topology} {a : Arcs} {d : ℕ} {m : Mode} {ds order : List ℕ} {s
     pub place : getD order rank 0 < t .routers
     place = here .0
 
-    pub has-room : Room s (a .to) (a .cost) ds m (getD order rank 0) (getD (a .count) (getD order rank 0) 0)
+    pub has-room : Room (s .near) (s .left) (a .to) (a .cost) ds m (getD order rank 0) (getD (a .count) (getD order rank 0) 0)
     has-room = room (w .given) (w .right) place (here .1)
 
     -- this one is not a candidate

@@ -102,9 +102,8 @@ module _ {n : Network} {a : Arcs} (g : Setting n a) {ds slots : List ℕ} {m : M
               (until-first (placedNeighbours n placed u) (leading (a .to) p (getD (a .count) p 0) u));
         }
 
-    pub kept-room : Room s (a .to) (a .cost) slots m p (getD (a .count) p 0)
+    pub kept-room : Room (s .near) (s .left) (a .to) (a .cost) slots m p (getD (a .count) p 0)
     kept-room = record {
-      placed-long = k .placed-long;
       near-long = k .near-long;
       left-long = k .left-long;
       near-most = λ v h. near v h (decLt v (size n));

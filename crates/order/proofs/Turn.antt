@@ -76,7 +76,7 @@ module _ {t : Topology} {a : Arcs} {d : ℕ} {m : Mode} {ds : List ℕ} (g : Giv
       is-candidate = ready-is kept (topology-reached facts d (g .place)) u (inside h)
 
       module _ (out : List·Memᴰ u placed → ⊥) where
-        pub room : Room s (a .to) (a .cost) ds m u (getD (a .count) u 0)
+        pub room : Room (s .near) (s .left) (a .to) (a .cost) ds m u (getD (a .count) u 0)
         room = kept-room setting by kept u (inside h) out
 
         pub placed-too : {r : State} → Stepped s (a .to) (a .cost) ds m u (getD (a .count) u 0) r → Right (placed ++ (u ∷ [])) r

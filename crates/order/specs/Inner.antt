@@ -106,12 +106,11 @@ serving to cost ds u count v =
     length (keep (λ j. eqb (slotTo to u j) v && eqb (getD cost (u * mostNeighbours + j) 0 + getD ds u 0) (getD ds v 0)) (below count))
 
 -- the counters have room for the router at u
-pub record Room (s : State) (to cost ds : List ℕ) (m : Mode) (u count : ℕ) : Type 0 where
-  pub placed-long : length (s .placed) ≡ mostRouters
-  pub near-long : length (s .near) ≡ mostRouters
-  pub left-long : length (s .left) ≡ mostRouters
-  pub near-most : (v : ℕ) → v < mostRouters → getD (s .near) v 0 ≤ mostRouters
-  pub left-least : m ≡ mode.ShortestPath → (v : ℕ) → v < mostRouters → serving to cost ds u count v ≤ getD (s .left) v 0
+pub record Room (near left to cost ds : List ℕ) (m : Mode) (u count : ℕ) : Type 0 where
+  pub near-long : length near ≡ mostRouters
+  pub left-long : length left ≡ mostRouters
+  pub near-most : (v : ℕ) → v < mostRouters → getD near v 0 ≤ mostRouters
+  pub left-least : m ≡ mode.ShortestPath → (v : ℕ) → v < mostRouters → serving to cost ds u count v ≤ getD left v 0
 
 -- the counters after `count` slots of the router at u, which is placed then
 pub record Stepped (s : State) (to cost ds : List ℕ) (m : Mode) (u count : ℕ) (r : State) : Type 0 where

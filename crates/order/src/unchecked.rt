@@ -47,33 +47,15 @@ pub fn build(t: Topology, destination: Place, mode: Mode, out: &mut [u8])
     let mut near = [0u8; ROUTERS];
     let mut left = placing::waits(a, n, ds, mode);
     let count = a.count[d] as usize;
-    placing::place(
-        &mut placed,
-        &mut near,
-        &mut left,
-        mode,
-        &a.to,
-        &a.cost,
-        &ds,
-        d,
-        count,
-    );
+    placed[d] = true;
+    placing::count_in(&mut near, &mut left, mode, &a.to, &a.cost, &ds, d, count);
     out[0] = destination.0;
     let mut rank: usize = 1;
     while rank < n {
         let u = placing::select(&placed, &near, &left, &t.id, n);
         let count = a.count[u] as usize;
-        placing::place(
-            &mut placed,
-            &mut near,
-            &mut left,
-            mode,
-            &a.to,
-            &a.cost,
-            &ds,
-            u,
-            count,
-        );
+        placed[u] = true;
+        placing::count_in(&mut near, &mut left, mode, &a.to, &a.cost, &ds, u, count);
         out[rank] = u as u8;
         rank += 1;
     }
@@ -91,17 +73,8 @@ pub fn unready_rank(t: Topology, destination: Place, mode: Mode, order: &[u8]) -
     let mut near = [0u8; ROUTERS];
     let mut left = placing::waits(a, t.routers, ds, mode);
     let count = a.count[d] as usize;
-    placing::place(
-        &mut placed,
-        &mut near,
-        &mut left,
-        mode,
-        &a.to,
-        &a.cost,
-        &ds,
-        d,
-        count,
-    );
+    placed[d] = true;
+    placing::count_in(&mut near, &mut left, mode, &a.to, &a.cost, &ds, d, count);
     let mut rank: usize = 1;
     while rank < t.routers {
         let u = order[rank] as usize;
@@ -109,17 +82,8 @@ pub fn unready_rank(t: Topology, destination: Place, mode: Mode, order: &[u8]) -
             return rank;
         }
         let count = a.count[u] as usize;
-        placing::place(
-            &mut placed,
-            &mut near,
-            &mut left,
-            mode,
-            &a.to,
-            &a.cost,
-            &ds,
-            u,
-            count,
-        );
+        placed[u] = true;
+        placing::count_in(&mut near, &mut left, mode, &a.to, &a.cost, &ds, u, count);
         rank += 1;
     }
     rank

@@ -51,15 +51,18 @@ element-copy-out-count c = let g = given (c .before) in every-slot g .each _ (g 
 cast-count : tie.Need-cast-count Inv-loop μ-loop
 cast-count c = let g = given (c .before .before) in omega (arith, every-slot g .each _ (g .place) .few)
 
--- from the call that places d back to what it waits for
+array-write-placed : tie.Need-array-write-placed Inv-loop μ-loop
+array-write-placed c = let g = given (c .before .before) in every-slot g .each _ (g .place) .place
+
+-- from the call that counts d in back to what it waits for
 abbrev waited : tie.After-ds Inv-loop μ-loop → tie.After-waits Inv-loop μ-loop
-waited c = c .before .before .before .before .before .before .before .before
+waited c = c .before .before .before .before .before .before .before
 
 abbrev start : tie.After-ds Inv-loop μ-loop → tie.Start Inv-loop μ-loop
 start c = waited c .before .before .before .before .before
 
-place-requires : tie.Need-place-requires Inv-loop μ-loop
-place-requires c κs =
+count-in-requires : tie.Need-count-in-requires Inv-loop μ-loop
+count-in-requires c κs =
     let g = given (waited c .before) in (every-slot g .each _ (g .place), room g (begun g (waited c .waits .ensures)) (g .place) List·Memᴰ·not-nil)
 
 slice-write-out : tie.Need-slice-write-out Inv-loop μ-loop
@@ -69,7 +72,7 @@ loop-holds : tie.Need-loop-holds Inv-loop μ-loop
 loop-holds c =
     let w = waited (c .before) in
     first-turn (start (c .before) .args .out .now) (w .before .before .before .index .ensures) (given (w .before)) (start (c .before) .pre .2)
-    (w .waits .ensures) (c .place .ensures)
+    (w .waits .ensures) (c .count-in .ensures _)
 
 -- from the call that selects back to the turn
 abbrev turn : tie.After-select-arg Inv-loop μ-loop → tie.In-loop Inv-loop μ-loop
@@ -92,12 +95,15 @@ element-copy-out-count-2 c = at-place c .place
 cast-count-2 : tie.Need-cast-count-2 Inv-loop μ-loop
 cast-count-2 c = omega (arith, at-place (c .before) .few)
 
--- from the call that places it back to the call that selects
-abbrev selected : tie.After-ds2 Inv-loop μ-loop → tie.After-select Inv-loop μ-loop
-selected c = c .before .before .before .before .before .before .before .before
+array-write-placed-2 : tie.Need-array-write-placed-2 Inv-loop μ-loop
+array-write-placed-2 c = at-place (c .before) .place
 
-place-requires-2 : tie.Need-place-requires-2 Inv-loop μ-loop
-place-requires-2 c κs =
+-- from the call that counts it in back to the call that selects
+abbrev selected : tie.After-ds2 Inv-loop μ-loop → tie.After-select Inv-loop μ-loop
+selected c = c .before .before .before .before .before .before .before
+
+count-in-requires-2 : tie.Need-count-in-requires-2 Inv-loop μ-loop
+count-in-requires-2 c κs =
     let here = turn (selected c .before) in
     (at-place (selected c), has-room (here .before .loop .inv) (here .loop-test .taken) (selected c .select .ensures))
 
@@ -119,7 +125,7 @@ loop-less c = falls _ _ (turn (selected (c .before) .before) .loop-test .taken)
 loop-again : tie.Need-loop-again Inv-loop μ-loop
 loop-again c =
     let here = turn (selected (c .before) .before) in
-    again (here .before .loop .inv) (here .loop-test .taken) (selected (c .before) .select .ensures) (c .place2 .ensures)
+    again (here .before .loop .inv) (here .loop-test .taken) (selected (c .before) .select .ensures) (c .count-in2 .ensures _)
 
 same-length : tie.Need-same-length Inv-loop μ-loop
 same-length c = same-long (c .before .loop .inv) ∙ simp length-set
@@ -141,13 +147,15 @@ build-spec =
     waits-requires
     element-copy-out-count
     cast-count
-    place-requires
+    array-write-placed
+    count-in-requires
     slice-write-out
     loop-holds
     select-requires
     element-copy-out-count-2
     cast-count-2
-    place-requires-2
+    array-write-placed-2
+    count-in-requires-2
     cast-out
     slice-write-out-2
     add-rank

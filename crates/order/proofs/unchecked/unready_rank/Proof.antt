@@ -52,21 +52,24 @@ element-copy-out-count c = let g = given (c .before) in every-slot g .each _ (g 
 cast-count : tie.Need-cast-count Inv-loop μ-loop
 cast-count c = let g = given (c .before .before) in omega (arith, every-slot g .each _ (g .place) .few)
 
--- from the call that places d back to what it waits for
+array-write-placed : tie.Need-array-write-placed Inv-loop μ-loop
+array-write-placed c = let g = given (c .before .before) in every-slot g .each _ (g .place) .place
+
+-- from the call that counts d in back to what it waits for
 abbrev waited : tie.After-ds Inv-loop μ-loop → tie.After-waits Inv-loop μ-loop
-waited c = c .before .before .before .before .before .before .before .before
+waited c = c .before .before .before .before .before .before .before
 
 abbrev start : tie.After-ds Inv-loop μ-loop → tie.Start Inv-loop μ-loop
 start c = waited c .before .before .before .before .before
 
-place-requires : tie.Need-place-requires Inv-loop μ-loop
-place-requires c κs =
+count-in-requires : tie.Need-count-in-requires Inv-loop μ-loop
+count-in-requires c κs =
     let g = given (waited c .before) in (every-slot g .each _ (g .place), room g (begun g (waited c .waits .ensures)) (g .place) List·Memᴰ·not-nil)
 
 loop-holds : tie.Need-loop-holds Inv-loop μ-loop
 loop-holds c =
     let w = waited (c .before) in
-    first-turn (given (w .before)) (rw (w .before .before .before .index .ensures) (start (c .before) .pre)) (w .waits .ensures) (c .place .ensures)
+    first-turn (given (w .before)) (rw (w .before .before .before .index .ensures) (start (c .before) .pre)) (w .waits .ensures) (c .count-in .ensures _)
 
 shared-slice-read-u : tie.Need-shared-slice-read-u Inv-loop μ-loop
 shared-slice-read-u c = omega (arith, c .before .before .before .loop .inv .proposed .long, c .before .if1 .taken)
@@ -105,15 +108,18 @@ element-copy-out-count-2 c = at-place (c .before .before) .place
 cast-count-2 : tie.Need-cast-count-2 Inv-loop μ-loop
 cast-count-2 c = omega (arith, at-place (c .before .before .before) .few)
 
--- from the call that places it back to the tests of the turn
+array-write-placed-2 : tie.Need-array-write-placed-2 Inv-loop μ-loop
+array-write-placed-2 c = at-place (c .before .before .before) .place
+
+-- from the call that counts it in back to the tests of the turn
 abbrev passed : tie.After-ds2 Inv-loop μ-loop → tie.Else3 Inv-loop μ-loop
-passed c = c .before .before .before .before .before .before .before .before
+passed c = c .before .before .before .before .before .before .before
 
 abbrev turn : tie.After-ds2 Inv-loop μ-loop → tie.Then1 Inv-loop μ-loop
 turn c = passed c .before .before .before
 
-place-requires-2 : tie.Need-place-requires-2 Inv-loop μ-loop
-place-requires-2 c κs = (at-place (passed c .before .before), has-room (turn c .before .before .loop .inv) (turn c .if1 .taken))
+count-in-requires-2 : tie.Need-count-in-requires-2 Inv-loop μ-loop
+count-in-requires-2 c κs = (at-place (passed c .before .before), has-room (turn c .before .before .loop .inv) (turn c .if1 .taken))
 
 add-rank : tie.Need-add-rank Inv-loop μ-loop
 add-rank c = let here = turn (c .before) in omega (arith, here .if1 .taken, every-slot (here .before .before .loop .inv .given) .most)
@@ -126,7 +132,7 @@ unfolding readyIn
 loop-again c =
     let here = turn (c .before) in
     let tests = passed (c .before) in
-    again (here .before .before .loop .inv) (here .if1 .taken) (rw (tests .before .if2 .left) (not-false _ (tests .if3 .left))) (c .place2 .ensures)
+    again (here .before .before .loop .inv) (here .if1 .taken) (rw (tests .before .if2 .left) (not-false _ (tests .if3 .left))) (c .count-in2 .ensures _)
 
 returns-2 : tie.Need-returns-2 Inv-loop μ-loop
 returns-2 c =
@@ -145,7 +151,8 @@ unready-rank-spec =
     waits-requires
     element-copy-out-count
     cast-count
-    place-requires
+    array-write-placed
+    count-in-requires
     loop-holds
     shared-slice-read-u
     cast-u
@@ -154,7 +161,8 @@ unready-rank-spec =
     returns
     element-copy-out-count-2
     cast-count-2
-    place-requires-2
+    array-write-placed-2
+    count-in-requires-2
     add-rank
     loop-less
     loop-again
