@@ -13,26 +13,27 @@ ghost use Rattle.stations.specs.Topology.{networkOf};
 ghost use Rattle.soundness.specs.Sound.{sound};
 ghost use Rattle.arcs.specs.Arcs.{Holds, inSlots, withArc};
 
-// An arc of the router at u, in its next slot.
+// An arc of the router at u to v, in the next slot of u.
 fn add<'a>(
     count: &'a mut [u8; ROUTERS],
     to: &'a mut [u8; SLOTS],
     cost: &'a mut [u16; SLOTS],
     link: &'a mut [u8; SLOTS],
-    u: usize,
-    place: u8,
-    costs: u16,
+    u: u8,
+    v: u8,
+    c: u16,
     number: u8,
 )
     requires { ⌜ (u < mostRouters) × (getD (now count) u 0 < mostNeighbours) ⌝ }
-    ensures { λ _. ⌜ inSlots (now (count .exit)) (now (to .exit)) (now (cost .exit)) (now (link .exit)) ≡ withArc (inSlots (now (count .entry)) (now (to .entry)) (now (cost .entry)) (now (link .entry))) u (record { to = place; cost = costs; link = number }) ⌝ }
+    ensures { λ _. ⌜ inSlots (now (count .exit)) (now (to .exit)) (now (cost .exit)) (now (link .exit)) ≡ withArc (inSlots (now (count .entry)) (now (to .entry)) (now (cost .entry)) (now (link .entry))) u (record { to = v; cost = c; link = number }) ⌝ }
 {
-    let n = count[u];
-    let slot = u * NEIGHBOURS + n as usize;
-    to[slot] = place;
-    cost[slot] = costs;
+    let from = u as usize;
+    let n = count[from];
+    let slot = from * NEIGHBOURS + n as usize;
+    to[slot] = v;
+    cost[slot] = c;
     link[slot] = number;
-    count[u] = n + 1;
+    count[from] = n + 1;
 }
 
 // The arcs of every router, in its first slots. What the slots past its count hold is free, and so are the counts past the routers: nothing is said
@@ -50,29 +51,12 @@ pub fn of(t: Topology) -> Arcs
     while i < links {
         let l = t.link[i];
         let number = i as u8;
+        let u = l.first.0;
+        let v = l.second.0;
+        let c = l.cost;
         // The link seen from its first end, then from its second.
-        let first = l.first.0;
-        let second = l.second.0;
-        add(
-            &mut count,
-            &mut to,
-            &mut cost,
-            &mut link,
-            first as usize,
-            second,
-            l.cost,
-            number,
-        );
-        add(
-            &mut count,
-            &mut to,
-            &mut cost,
-            &mut link,
-            second as usize,
-            first,
-            l.cost,
-            number,
-        );
+        add(&mut count, &mut to, &mut cost, &mut link, u, v, c, number);
+        add(&mut count, &mut to, &mut cost, &mut link, v, u, c, number);
         i += 1;
     }
     Arcs {

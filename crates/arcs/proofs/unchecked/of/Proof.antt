@@ -75,15 +75,9 @@ turn c = c .before .before .before .before .before
 abbrev added : tie.After-link2 Inv-loop μ-loop → tie.After-add Inv-loop μ-loop
 added c = c .before .before .before .before
 
-cast-add : tie.Need-cast-add Inv-loop μ-loop
-cast-add c = omega (arith, first-in (turn c))
-
 add-requires : tie.Need-add-requires Inv-loop μ-loop
 unfolding seen
 add-requires c κs = let w = turn c in (first-in w, room-first (next w) (w .before .loop .inv .1))
-
-cast-add-2 : tie.Need-cast-add-2 Inv-loop μ-loop
-cast-add-2 c = omega (arith, second-in (turn (added c .before)))
 
 add-requires-2 : tie.Need-add-requires-2 Inv-loop μ-loop
 unfolding seen there
@@ -129,9 +123,7 @@ of-spec =
     mul-l
     element-copy-out-l
     cast-number
-    cast-add
     add-requires
-    cast-add-2
     add-requires-2
     add-i
     loop-less
