@@ -1,4 +1,4 @@
--- What a session holds, by the bytes that have come: a newline ends a line, which is answered, and any other byte is a byte more of it.
+-- What the console holds, by the bytes that have come: a newline ends a line, which is answered, and any other byte is a byte more of it.
 -- Assumes nothing.
 use Prim.Native.Nat.{ℕ}
 use mathlib.Core.Bool.{Bool, cond}
@@ -48,7 +48,7 @@ taken most (c ∷ text) s = taken most text (cond (eqb c newline) (lineEnds s) (
 unfoldable pub lineIn : List ℕ → ℕ → Line
 lineIn buffer count = cond (leb count (length buffer)) (some (take count buffer)) tooLong
 
--- what the code's session and the buffer stand for
+-- what the code's struct and the buffer stand for
 unfoldable pub stateOf : Session → List ℕ → State
 stateOf s buffer = record { topology = s .topology; line = lineIn buffer (s .count) }
 
