@@ -13,7 +13,7 @@ use Rattle.stations.specs.declared.Topology.{Topology}
 use Rattle.stations.specs.Topology.{networkOf}
 use Rattle.soundness.specs.Sound.{sound}
 use Rattle.order.specs.declared.Mode.{Mode}
-use Rattle.order.specs.Calls.{modeOf, says, wrongRanks, unreadyRanks, atFirst, checking}
+use Rattle.order.specs.Calls.{modeOf, says, wrongRanks, unreadyRanks, atFirst, judging, checking}
 use Rattle.order.specs.Proposed.{Proposed}
 use Rattle.order.specs.Theorems.{answer}
 
@@ -97,12 +97,12 @@ module _ (t : Topology) (d : ℕ) (m : Mode) (order : List ℕ) where
 
   module _ (at : ℕ) where
     pub is-14 : checking t d m order ≡ answer 14 at → (at ≡ 0) × (T (sound t) → ⊥)
-    unfolding checking
+    unfolding checking judging
     is-14 e = fails-here (sound t) 14 0 at from-15 (apart-15 14 (omega arith) (omega arith)) e
 
     module _ (number : ℕ) where
       past-14 : 14 ≢ number → checking t d m order ≡ answer number at → T (sound t) × (from-15 ≡ answer number at)
-      unfolding checking
+      unfolding checking judging
       past-14 a e = later (sound t) 14 number 0 at from-15 a e
 
       past-15 : 14 ≢ number → 15 ≢ number → checking t d m order ≡ answer number at → T (sound t) × (d < t .routers) × (from-17 ≡ answer number at)

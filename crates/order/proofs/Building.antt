@@ -21,14 +21,15 @@ use Rattle.stations.specs.Topology.{networkOf}
 use Rattle.arcs.specs.declared.Arcs.{Arcs}
 use Rattle.order.specs.declared.Mode as own
 use Rattle.order.specs.Calls.{modeOf}
+use Rattle.order.specs.Proposed.{LaidOut}
 use Rattle.order.specs.Inner.{chosen, placeOr, Waits, State, state, Room, Stepped}
 use Rattle.order.proofs.Reached.{built-long}
 use Rattle.order.proofs.Kept.{Kept}
-use Rattle.order.proofs.Turn.{Given, facts, begun, chosen-one, room, placed-too}
+use Rattle.order.proofs.Turn.{facts, begun, chosen-one, room, placed-too}
 
 -- before a turn: `rank` routers are placed, and the slice holds them and then what it held at first
 pub record Building (t : Topology) (a : Arcs) (d : ℕ) (m : own.Mode) (ds first out : List ℕ) (s : State) (rank : ℕ) : Type 0 where
-  pub given : Given t a d m ds
+  pub given : LaidOut t a d m ds
   pub placed : List ℕ
   pub right : Kept (networkOf t) (distances (networkOf t) d) m placed s
   pub long : length placed ≡ rank
@@ -100,7 +101,7 @@ module _ {t : Topology} {a : Arcs} {d : ℕ} {m : own.Mode} {ds first out : List
 
 module _ {t : Topology} {a : Arcs} {d : ℕ} {m : own.Mode} {ds : List ℕ} (first : List ℕ) {x : ℕ} (same : d ≡ x) where
   -- after d is placed
-  pub first-turn : {left : List ℕ} {r : State} → Given t a d m ds → t .routers ≤ length first → Waits (a .count) (a .to) (a .cost) (t .routers) ds m left →
+  pub first-turn : {left : List ℕ} {r : State} → LaidOut t a d m ds → t .routers ≤ length first → Waits (a .count) (a .to) (a .cost) (t .routers) ds m left →
       Stepped (state (replicate 64 false) (replicate 64 0) left) (a .to) (a .cost) ds m d (getD (a .count) d 0) r → Building t a d m ds (set first 0 x) (set first 0 x) r 1
   unfolding build
   first-turn g enough start step =

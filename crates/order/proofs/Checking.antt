@@ -17,16 +17,16 @@ use Rattle.stations.specs.Inner.{firstOr}
 use Rattle.arcs.specs.declared.Arcs.{Arcs}
 use Rattle.order.specs.declared.Mode.{Mode}
 use Rattle.order.specs.Calls.{modeOf, unreadyRanks}
-use Rattle.order.specs.Proposed.{Proposed}
+use Rattle.order.specs.Proposed.{LaidOut, Proposed}
 use Rattle.order.specs.Inner.{readyIn, Waits, State, state, Room, Stepped}
 use Rattle.order.proofs.Ranges.{keep-none, keep-first}
 use Rattle.order.proofs.Entries.{entry-right}
 use Rattle.order.proofs.Kept.{Kept}
-use Rattle.order.proofs.Turn.{Given, begun, is-candidate, room, placed-too}
+use Rattle.order.proofs.Turn.{begun, is-candidate, room, placed-too}
 
 -- before a turn
 pub record Checking (t : Topology) (a : Arcs) (d : ℕ) (m : Mode) (ds order : List ℕ) (s : State) (rank : ℕ) : Type 0 where
-  pub given : Given t a d m ds
+  pub given : LaidOut t a d m ds
   pub proposed : Proposed t d order
   pub least : 1 ≤ rank
   pub most : rank ≤ t .routers
@@ -87,7 +87,7 @@ module _ {t : Topology} {a : Arcs} {d : ℕ} {m : Mode} {ds order : List ℕ} {s
         so-far-too r h (yes e′) k = rw e′ (sym (is-candidate (w .given) (w .right) place) ∙ e)
         so-far-too r h (no apart) k = w .so-far r h (omega arith)
 
-pub first-turn : {t : Topology} {a : Arcs} {d : ℕ} {m : Mode} {ds order left : List ℕ} {r : State} → Given t a d m ds → Proposed t d order →
+pub first-turn : {t : Topology} {a : Arcs} {d : ℕ} {m : Mode} {ds order left : List ℕ} {r : State} → LaidOut t a d m ds → Proposed t d order →
     Waits (a .count) (a .to) (a .cost) (t .routers) ds m left → Stepped (state (replicate 64 false) (replicate 64 0) left) (a .to) (a .cost) ds m d (getD (a .count) d 0) r → Checking t a d m ds order r 1
 first-turn {order} g p start step =
     let inside : 0 < length order = omega (arith, p .long, p .place) in

@@ -16,7 +16,8 @@ use Rattle.soundness.specs.Sound.{sound}
 use Rattle.stations.specs.Topology.{networkOf}
 use Rattle.stations.specs.Inner.{firstOr}
 use Rattle.order.specs.declared.Mode.{Mode}
-use Rattle.order.specs.Calls.{says, atFirst, wrongRanks, unreadyRanks, modeOf, checking}
+use Rattle.order.specs.Calls.{says, atFirst, wrongRanks, unreadyRanks, modeOf, judging, checking}
+use Rattle.order.specs.Proposed.{Proposed}
 
 -- a first number below n is there
 first-there : (xs : List ℕ) (n r number : ℕ) (next : Answer) → r ≡ firstOr n xs → r < n → says number r ≡ atFirst number xs next
@@ -48,40 +49,42 @@ module _ (t : Topology) (d : ℕ) (m : Mode) (order : List ℕ) where
     unfolding checking
     outside h = rw (good, le-ltb _ _ h)
 
-    module _ (place : d < t .routers) where
-      pub other-length : (length order ≡ t .routers → ⊥) → says 17 (length order) ≡ checking t d m order
-      unfolding checking
-      other-length h = rw (good, lt-ltb _ _ place, ne-eqb _ _ h)
+    pub judged : d < t .routers → judging t d m order ≡ checking t d m order
+    unfolding checking
+    judged place = rw (good, lt-ltb _ _ place)
 
-      module _ (long : length order ≡ t .routers) where
-        pub wrong-entry : (r : ℕ) → r ≡ firstOr (t .routers) (wrongRanks (t .routers) order) → r < t .routers → says 18 r ≡ checking t d m order
-        unfolding checking
-        wrong-entry r e h = rw (good, lt-ltb _ _ place, eq-eqb _ _ long) (first-there (wrongRanks (t .routers) order) (t .routers) r 18 _ e h)
+  pub other-length : (length order ≡ t .routers → ⊥) → says 17 (length order) ≡ judging t d m order
+  unfolding judging
+  other-length h = rw (ne-eqb _ _ h)
 
-        pub all-right : (r : ℕ) → r ≡ firstOr (t .routers) (wrongRanks (t .routers) order) → t .routers ≤ r → wrongRanks (t .routers) order ≡ []
-        unfolding wrongRanks below
-        all-right r e h = none-there _ (t .routers) r (ranks-below _ 0 (length order) (t .routers) (omega arith)) e h
+  module _ (long : length order ≡ t .routers) where
+    pub wrong-entry : (r : ℕ) → r ≡ firstOr (t .routers) (wrongRanks (t .routers) order) → r < t .routers → says 18 r ≡ judging t d m order
+    unfolding judging
+    wrong-entry r e h = rw (eq-eqb _ _ long) (first-there (wrongRanks (t .routers) order) (t .routers) r 18 _ e h)
 
-        module _ (once : wrongRanks (t .routers) order ≡ []) where
-          pub other-first : (getD order 0 0 ≡ d → ⊥) → says 19 0 ≡ checking t d m order
-          unfolding checking atFirst
-          other-first h = rw (good, lt-ltb _ _ place, eq-eqb _ _ long, once, ne-eqb _ _ h)
+    pub all-right : (r : ℕ) → r ≡ firstOr (t .routers) (wrongRanks (t .routers) order) → t .routers ≤ r → wrongRanks (t .routers) order ≡ []
+    unfolding wrongRanks below
+    all-right r e h = none-there _ (t .routers) r (ranks-below _ 0 (length order) (t .routers) (omega arith)) e h
 
-          module _ (first : getD order 0 0 ≡ d) where
-            pub unready : (r : ℕ) → r ≡ firstOr (t .routers) (unreadyRanks (networkOf t) d (modeOf m) order) → r < t .routers →
-                says 20 r ≡ checking t d m order
-            unfolding checking atFirst
-            unready r e h =
-                rw (good, lt-ltb _ _ place, eq-eqb _ _ long, once, eq-eqb _ _ first)
-                (first-there (unreadyRanks (networkOf t) d (modeOf m) order) (t .routers) r 20 _ e h)
+    module _ (once : wrongRanks (t .routers) order ≡ []) where
+      pub other-first : (getD order 0 0 ≡ d → ⊥) → says 19 0 ≡ judging t d m order
+      unfolding judging atFirst
+      other-first h = rw (eq-eqb _ _ long, once, ne-eqb _ _ h)
 
-            pub none-unready : (r : ℕ) → r ≡ firstOr (t .routers) (unreadyRanks (networkOf t) d (modeOf m) order) → t .routers ≤ r →
-                unreadyRanks (networkOf t) d (modeOf m) order ≡ []
-            unfolding unreadyRanks
-            none-unready r e h =
-                none-there _ (t .routers) r
-                (ranks-below _ 1 (pred (length order)) (t .routers) (omega (arith, pred-one (length order) d (omega arith)))) e h
+  module _ (p : Proposed t d order) where
+    pub unready : (r : ℕ) → r ≡ firstOr (t .routers) (unreadyRanks (networkOf t) d (modeOf m) order) → r < t .routers → says 20 r ≡ judging t d m order
+    unfolding judging atFirst
+    unready r e h =
+        rw (eq-eqb _ _ (p .long), p .once, eq-eqb _ _ (p .first))
+        (first-there (unreadyRanks (networkOf t) d (modeOf m) order) (t .routers) r 20 _ e h)
 
-            pub passes : unreadyRanks (networkOf t) d (modeOf m) order ≡ [] → says 0 0 ≡ checking t d m order
-            unfolding checking atFirst
-            passes e = rw (good, lt-ltb _ _ place, eq-eqb _ _ long, once, eq-eqb _ _ first, e)
+    pub none-unready : (r : ℕ) → r ≡ firstOr (t .routers) (unreadyRanks (networkOf t) d (modeOf m) order) → t .routers ≤ r →
+        unreadyRanks (networkOf t) d (modeOf m) order ≡ []
+    unfolding unreadyRanks
+    none-unready r e h =
+        none-there _ (t .routers) r
+        (ranks-below _ 1 (pred (length order)) (t .routers) (omega (arith, p .long, pred-one (length order) d (omega (arith, p .long, p .place))))) e h
+
+    pub passes : unreadyRanks (networkOf t) d (modeOf m) order ≡ [] → says 0 0 ≡ judging t d m order
+    unfolding judging atFirst
+    passes e = rw (eq-eqb _ _ (p .long), p .once, eq-eqb _ _ (p .first), e)

@@ -40,7 +40,7 @@ use Rattle.order.proofs.Reached.{built-long}
 use Rattle.order.proofs.Ranges.{getD-mem, mem-getD, differ, keep-none, none-passes, keep-first, first-passes}
 use Rattle.order.proofs.Entries.{entry-right, none-wrong}
 use Rattle.order.proofs.Answers.{is-0}
-use Rattle.order.proofs.Decided.{passes}
+use Rattle.order.proofs.Decided.{passes, judged}
 
 module _ (t : Topology) (is-sound : T (sound t)) (d : ℕ) (place : d < t .routers) where
   facts : SoundNetwork t
@@ -124,7 +124,7 @@ module _ (t : Topology) (is-sound : T (sound t)) (d : ℕ) (place : d < t .route
     unfolding says
     exact = (
       λ e. let (at, p, none) = is-0 t d m order 0 e in accepts p none,
-      λ a. let p = proposes a in sym (passes t d m order good place (p .long) (p .once) (p .first) (none-unready a)),
+      λ a. let p = proposes a in sym (passes t d m order p (none-unready a) ∙ judged t d m order good place),
     )
 
     -- 20 points at the first that is no candidate

@@ -20,7 +20,8 @@ use Rattle.network.proofs.Least.{least-start}
 use Rattle.network.proofs.Distance.{rounds-settle}
 use Rattle.arcs.specs.declared.Arcs.{Arcs}
 use Rattle.arcs.specs.Arcs.{slotArc, slotArcs}
-use Rattle.order.specs.Inner.{slotTo, slotCost, AllSlots, roundIn, Settled}
+use Rattle.order.specs.Proposed.{Settled}
+use Rattle.order.specs.Inner.{slotTo, slotCost, AllSlots, roundIn}
 use Rattle.order.proofs.Runs.{map-same, least-same}
 use Rattle.order.proofs.Slots.{Held, slot-place, all-slots}
 

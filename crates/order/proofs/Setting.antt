@@ -20,7 +20,7 @@ use Rattle.arcs.specs.declared.Arcs.{Arcs}
 use Rattle.arcs.specs.Arcs.{Holds}
 use Rattle.order.specs.declared.Mode.{Mode}
 use Rattle.order.specs.declared.Mode.the-variants as mode
-use Rattle.order.specs.Inner.{Settled}
+use Rattle.order.specs.Proposed.{Settled}
 use Rattle.order.proofs.Symmetry.{BothWays, topology-back}
 
 -- a network, well formed and within the limits, and its arcs in slots

@@ -1,55 +1,47 @@
 -- What the functions that place routers share: the slots that they go through are sound, and the counters stay right from turn to turn.
 -- Assumes nothing.
-use Prim.Native.Nat.{ℕ, _+_, _≤_, _<_}
+use Prim.Native.Nat.{ℕ, _<_}
 use mathlib.Core.Bool.{false}
 use mathlib.Core.List.{List, [], _∷_, _++_, List·Memᴰ}
 use mathlib.Core.Path.{_≡_}
 use native.Mathlib.Omega.{arith}
-use lib.Dec.{T}
-use lib.ListN.{length, getD, replicate, length-replicate, getD-replicate}
+use lib.ListN.{getD, replicate, length-replicate, getD-replicate}
 use Rattle.network.specs.Network.{Network, size}
 use Rattle.network.specs.Distance.{distances}
 use Rattle.network.specs.Order.{candidate, select}
 use Rattle.stations.specs.declared.Topology.{Topology}
 use Rattle.stations.specs.Topology.{networkOf}
-use Rattle.soundness.specs.Sound.{sound}
 use Rattle.soundness.specs.Theorems.{SoundNetwork}
 use Rattle.arcs.specs.declared.Arcs.{Arcs}
-use Rattle.arcs.specs.Arcs.{Holds}
 use Rattle.order.specs.declared.Mode.{Mode}
 use Rattle.order.specs.declared.Mode.the-variants as mode
 use Rattle.order.specs.Calls.{modeOf}
-use Rattle.order.specs.Inner.{AllSlots, Settled, DistancesFor, Waits, State, state, readyIn, chosen, placeOr, Room, Stepped}
+use Rattle.order.specs.Proposed.{Settled, DistancesFor, LaidOut}
+use Rattle.order.specs.Inner.{AllSlots, Waits, State, state, readyIn, chosen, placeOr, Room, Stepped}
 use Rattle.soundness.proofs.Sound.{sound-exact, sound-networks}
 use Rattle.order.proofs.Slots.{sound-held, all-slots}
 use Rattle.order.proofs.Setting.{Setting, GoneBy, settled-agrees, topology-setting, topology-reached, topology-ids}
 use Rattle.order.proofs.Kept.{Kept, kept-start, kept-room, kept-step, ready-is, chosen-is}
 
--- what is known while routers are placed: the topology is sound, its arcs are held, and the distances are those that the mode needs
-pub record Given (t : Topology) (a : Arcs) (d : ℕ) (m : Mode) (ds : List ℕ) : Type 0 where
-  pub is-sound : T (sound t)
-  pub holds : Holds (networkOf t) a
-  pub place : d < t .routers
-  pub for-mode : DistancesFor (networkOf t) d m ds
+-- distances that are settled serve in either mode, and in free mode zeros do
+pub settled-serve : {n : Network} {d : ℕ} {ds : List ℕ} (m : Mode) → Settled n d ds → DistancesFor n d m ds
+settled-serve m s = record { first = λ _. s .first; long = s .long; near = s .near }
 
--- the distances that the mode needs are small, whichever it is
-near : (n : Network) (d : ℕ) (m : Mode) (ds : List ℕ) → DistancesFor n d m ds → (length ds ≡ 64) × ((v : ℕ) → v < 64 → getD ds v 0 ≤ 4194304)
-near n d mode.ShortestPath ds h = (h .long, h .near)
-near n d mode.Free ds e = rw e (length-replicate {A = ℕ} 64 0, λ v h. omega (arith, getD-replicate {A = ℕ} 64 v 0 0 h))
+pub zeros-serve : (n : Network) (d : ℕ) → DistancesFor n d mode.Free (replicate 64 0)
+zeros-serve n d =
+    record {
+      first = λ e. let never : _≡_ {A = ℕ} 0 1 = cc in absurd (omega arith);
+      long = length-replicate {A = ℕ} 64 0;
+      near = λ v h. omega (arith, getD-replicate {A = ℕ} 64 v 0 0 h);
+    }
 
--- and they are the network's in shortest-path mode
-for-shortest : (n : Network) (d : ℕ) (m : Mode) (ds : List ℕ) → DistancesFor n d m ds → m ≡ mode.ShortestPath → Settled n d ds
-for-shortest n d mode.ShortestPath ds h e = h
-for-shortest n d mode.Free ds h e = let never : _≡_ {A = ℕ} 0 1 = cc in absurd (omega arith)
-
-module _ {t : Topology} {a : Arcs} {d : ℕ} {m : Mode} {ds : List ℕ} (g : Given t a d m ds) where
+module _ {t : Topology} {a : Arcs} {d : ℕ} {m : Mode} {ds : List ℕ} (g : LaidOut t a d m ds) where
   pub facts : SoundNetwork t
   facts = sound-networks t (g .is-sound)
 
   pub every-slot : AllSlots (a .count) (a .to) (a .cost) (t .routers) ds
   every-slot =
-      let (long, fits) = near (networkOf t) d m ds (g .for-mode) in
-      all-slots (networkOf t) a (t .routers) (sound-held t a (g .is-sound) (g .holds)) ds long fits
+      all-slots (networkOf t) a (t .routers) (sound-held t a (g .is-sound) (g .holds)) ds (g .for-mode .long) (g .for-mode .near)
 
   inside : {u : ℕ} → u < t .routers → u < size (networkOf t)
   inside h = omega (arith, facts .routers)
@@ -58,7 +50,9 @@ module _ {t : Topology} {a : Arcs} {d : ℕ} {m : Mode} {ds : List ℕ} (g : Giv
   setting = topology-setting facts (sound-exact t .0 (g .is-sound)) (g .holds)
 
   by : GoneBy (networkOf t) (distances (networkOf t) d) m ds
-  by = record { shortest = λ e. settled-agrees (setting .most) (for-shortest (networkOf t) d m ds (g .for-mode) e) }
+  by =
+      let f = g .for-mode in
+      record { shortest = λ e. settled-agrees (setting .most) (record { first = f .first e; long = f .long; near = f .near }) }
 
   -- the counters are right for the routers that are placed
   abbrev pub Right : List ℕ → State → Type 0

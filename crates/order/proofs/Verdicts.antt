@@ -1,7 +1,6 @@
 -- What each answer of `checking` says: each number tells the test that failed, and those before it passed.
 -- Assumes nothing.
 use Prim.Native.Nat.{ℕ, _<_}
-use mathlib.Core.Bool.{true}
 use mathlib.Core.List.{List, []}
 use mathlib.Core.Path.{_≡_, sym, _∙_, ap}
 use native.Mathlib.Omega.{arith}
@@ -9,16 +8,17 @@ use borrow.Author.Tests.{ltb-false, eq-eqb}
 use lib.Dec.{T, ltb}
 use lib.ListN.{length, getD}
 use Rattle.network.proofs.Tests.{as-true, as-false}
+use Rattle.stations.specs.declared.Answer.{Answer}
 use Rattle.stations.specs.declared.Topology.{Topology}
 use Rattle.soundness.specs.Sound.{sound}
 use Rattle.order.specs.declared.Mode.{Mode}
 use Rattle.order.specs.declared.Mode.the-variants as mode
-use Rattle.order.specs.Calls.{modeOf, says, wrongRanks}
+use Rattle.order.specs.Calls.{modeOf, says, wrongRanks, judging, checking}
 use Rattle.order.specs.Proposed.{Proposed}
 use Rattle.order.specs.Theorems.{answer, Called, AllRight, Begun, Checked, ChecksEach}
 use Rattle.order.proofs.Entries.{entry-right, none-wrong, first-wrong, wrong-first}
 use Rattle.order.proofs.Answers.{is-14, is-15, is-17, is-18, is-19, is-20, is-0}
-use Rattle.order.proofs.Decided.{unsound, outside, other-length, wrong-entry, other-first, unready}
+use Rattle.order.proofs.Decided.{unsound, outside, other-length, wrong-entry, other-first, unready, judged}
 use Rattle.order.proofs.Orders.{exact, unready-at, at-unready}
 
 module _ (t : Topology) (d : ℕ) (order : List ℕ) where
@@ -35,9 +35,14 @@ module _ (t : Topology) (d : ℕ) (order : List ℕ) where
   begun : Proposed t d order → Begun t d order
   begun p = record { entries = all-right (p .on-sound) (p .place) (p .long) (p .once); first = p .first }
 
-  module _ (c : Called t d) where
-    good : sound t ≡ true
-    good = as-true (sound t) (c .is-sound)
+  proposed : Begun t d order → Proposed t d order
+  proposed b =
+      let l = b .entries .sized in
+      record { on-sound = l .called .is-sound; place = l .called .place; long = l .long; once = none-there (b .entries); first = b .first }
+
+  -- where 14 and 15 pass, the tests after them answer
+  judges : (m : Mode) {x : Answer} → Called t d → x ≡ judging t d m order → checking t d m order ≡ x
+  judges m c e = sym (e ∙ judged t d m order (as-true (sound t) (c .is-sound)) (c .place))
 
   module _ (m : Mode) (at : ℕ) where
     checked : Checked t d m (modeOf m) order at
@@ -53,7 +58,7 @@ module _ (t : Topology) (d : ℕ) (order : List ℕ) where
             λ e.
                 let (s, h, there, out) = is-17 t d m order at e in
                 (there, record { is-sound = s; place = h }, λ l. out (rw (eq-eqb (length order) (t .routers) l) tt)),
-            λ (e, c, out). sym (other-length t d m order (good c) (c .place) out) ∙ ap (answer 17) (sym e),
+            λ (e, c, out). judges m c (other-length t d m order out) ∙ ap (answer 17) (sym e),
           );
           says-18 = (
             λ e.
@@ -63,8 +68,8 @@ module _ (t : Topology) (d : ℕ) (order : List ℕ) where
                   record { within = within; wrong = wrong; earlier = λ k b. record { place = earlier k b .0; fresh = earlier k b .1 } },
                 ),
             λ (l, w).
-                sym
-                (wrong-entry t d m order (good (l .called)) (l .called .place) (l .long) at
+                judges m (l .called)
+                (wrong-entry t d m order (l .long) at
                 (sym (wrong-first (t .routers) order (t .routers) at (w .within) (w .wrong) (λ k b. (w .earlier k b .place, w .earlier k b .fresh))))
                 (omega (arith, l .long, w .within))),
           );
@@ -73,15 +78,15 @@ module _ (t : Topology) (d : ℕ) (order : List ℕ) where
                 let (s, h, l, once, there, out) = is-19 t d m order at e in
                 (there, all-right s h l once, λ first. out (rw (eq-eqb (getD order 0 0) d first) tt)),
             λ (e, a, out).
-                sym (other-first t d m order (good (a .sized .called)) (a .sized .called .place) (a .sized .long) (none-there a) out)
+                judges m (a .sized .called) (other-first t d m order (a .sized .long) (none-there a) out)
                 ∙ ap (answer 19) (sym e),
           );
           says-20 = (
             λ e. let (p, (rest, ranks)) = is-20 t d m order at e in (begun p, unready-at t (p .on-sound) d (p .place) m order at rest ranks),
             λ (b, w).
                 let l = b .entries .sized in
-                sym
-                (unready t d m order (good (l .called)) (l .called .place) (l .long) (none-there (b .entries)) (b .first) at
+                judges m (l .called)
+                (unready t d m order (proposed b) at
                 (sym (at-unready t (l .called .is-sound) d (l .called .place) m order (t .routers) at w))
                 (omega (arith, l .long, w .within))),
           );

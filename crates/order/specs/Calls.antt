@@ -47,12 +47,14 @@ unfoldable pub atFirst : ℕ → List ℕ → Answer → Answer
 atFirst number [] next = next
 atFirst number (r ∷ rs) next = says number r
 
--- 14, 15, 17 at the length, 18 at the rank, 19, and 20 at the first such rank, each over the whole order
-unfoldable pub checking : Topology → ℕ → Mode → List ℕ → Answer
-checking t d m order =
-    cond (not (sound t)) (says 14 0)
-    (cond (not (ltb d (t .routers))) (says 15 d)
-    (cond (not (eqb (length order) (t .routers))) (says 17 (length order))
+-- 17 at the length, 18 at the rank, 19, and 20 at the first such rank, each over the whole order
+unfoldable pub judging : Topology → ℕ → Mode → List ℕ → Answer
+judging t d m order =
+    cond (not (eqb (length order) (t .routers))) (says 17 (length order))
     (atFirst 18 (wrongRanks (t .routers) order)
     (cond (not (eqb (getD order 0 0) d)) (says 19 0)
-    (atFirst 20 (unreadyRanks (networkOf t) d (modeOf m) order) (says 0 0))))))
+    (atFirst 20 (unreadyRanks (networkOf t) d (modeOf m) order) (says 0 0))))
+
+-- 14, 15, then 17 to 20
+unfoldable pub checking : Topology → ℕ → Mode → List ℕ → Answer
+checking t d m order = cond (not (sound t)) (says 14 0) (cond (not (ltb d (t .routers))) (says 15 d) (judging t d m order))

@@ -7,17 +7,12 @@ use mathlib.Core.List.{List, map}
 use mathlib.Core.Option.{Option, none, some}
 use mathlib.Core.Path.{_≡_}
 use lib.Dec.{eqb}
-use lib.ListN.{length, getD, set, take, replicate}
+use lib.ListN.{length, getD, set, replicate}
 use Rattle.network.specs.Lists.{below, keep, leastBy, foremost, wins}
-use Rattle.network.specs.Network.{Network, size}
-use Rattle.network.specs.Distance.{distances}
 use Rattle.stations.specs.Limits.{mostRouters, mostNeighbours}
 use Rattle.order.specs.declared.Mode.{Mode}
 use Rattle.order.specs.declared.Mode.the-variants as mode
-
--- the most that an absent distance can be: for each router one more than the greatest cost
-abbrev pub farthest : ℕ
-farthest = mostRouters * 65536
+use Rattle.order.specs.Proposed.{farthest}
 
 -- the place that slot j of u leads to
 unfoldable pub slotTo : List ℕ → ℕ → ℕ → ℕ
@@ -48,17 +43,6 @@ pub record AllSlots (counts to cost : List ℕ) (n : ℕ) (ds : List ℕ) : Type
 -- one round over the slots
 unfoldable pub roundIn : List ℕ → List ℕ → List ℕ → ℕ → List ℕ → List ℕ
 roundIn counts to cost n ds = map (λ u. leastBy (slotCost to cost ds u) (getD ds u 0) (below (getD counts u 0))) (below n)
-
--- the distances to d in the first slots, and in no slot more than absent can be
-pub record Settled (n : Network) (d : ℕ) (ds : List ℕ) : Type 0 where
-  pub first : take (size n) ds ≡ distances n d
-  pub long : length ds ≡ mostRouters
-  pub near : (v : ℕ) → v < mostRouters → getD ds v 0 ≤ farthest
-
--- in shortest-path mode the distances, in free mode zeros
-abbrev pub DistancesFor : Network → ℕ → Mode → List ℕ → Type 0
-DistancesFor n d mode.ShortestPath ds = Settled n d ds
-DistancesFor n d mode.Free ds = ds ≡ replicate mostRouters 0
 
 -- what each router waits for before any is placed: in shortest-path mode for as many as it has shortest next hops, in free mode for one neighbour
 pub record Waits (counts to cost : List ℕ) (n : ℕ) (ds : List ℕ) (m : Mode) (left : List ℕ) : Type 0 where

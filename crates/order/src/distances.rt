@@ -1,22 +1,16 @@
-// Distances to a destination, by rounds over the arcs of every router.
-use arcs::Arcs;
+// Rounds over the arcs of every router, for the distances to a destination.
 use arcs::SLOTS;
 use stations::NEIGHBOURS;
 use stations::ROUTERS;
-use stations::Topology;
 ghost use mathlib.Core.Bool.{true};
 ghost use mathlib.Core.List.{_++_};
 ghost use mathlib.Core.Logic.{_↔_};
 ghost use mathlib.Core.Path.{_≡_};
 ghost use Prim.Native.Nat.{_*_, _<_, _≤_};
-ghost use lib.Dec.{T};
 ghost use lib.ListN.{take, drop, getD, set, replicate};
 ghost use Rattle.network.specs.Lists.{below, leastBy};
 ghost use Rattle.stations.specs.Limits.{mostRouters};
-ghost use Rattle.stations.specs.Topology.{networkOf};
-ghost use Rattle.soundness.specs.Sound.{sound};
-ghost use Rattle.arcs.specs.Arcs.{Holds};
-ghost use Rattle.order.specs.Inner.{Slots, slotCost, AllSlots, roundIn, Settled};
+ghost use Rattle.order.specs.Inner.{Slots, slotCost, AllSlots, roundIn};
 
 // One more than the greatest cost: n times this is more than any path costs that visits no router of n twice.
 const STEP: u32 = 65536;
@@ -47,7 +41,7 @@ fn least<'a>(
 }
 
 // One round: the least sums over paths of one arc more.
-fn next_round<'a>(
+pub(crate) fn next_round<'a>(
     counts: &'a [u8; ROUTERS],
     to: &'a [u8; SLOTS],
     cost: &'a [u16; SLOTS],
@@ -68,7 +62,7 @@ fn next_round<'a>(
 }
 
 // Whether the first n of two rows of distances are the same.
-fn same(n: usize, a: [u32; ROUTERS], b: [u32; ROUTERS]) -> bool
+pub(crate) fn same(n: usize, a: [u32; ROUTERS], b: [u32; ROUTERS]) -> bool
     requires { ⌜ n ≤ mostRouters ⌝ }
     ensures { λ r. ⌜ ((r ≡ true) ↔ (take n a ≡ take n b)) ⌝ }
 {
@@ -83,31 +77,12 @@ fn same(n: usize, a: [u32; ROUTERS], b: [u32; ROUTERS]) -> bool
 }
 
 // Before the first round: 0 at the destination, absent elsewhere.
-fn first_round(n: usize, d: usize) -> [u32; ROUTERS]
+pub(crate) fn first_round(n: usize, d: usize) -> [u32; ROUTERS]
     requires { ⌜ (n ≤ mostRouters) × (d < mostRouters) ⌝ }
     ensures { λ r. ⌜ r ≡ set (replicate mostRouters (n * 65536)) d 0 ⌝ }
 {
     let absent = n as u32 * STEP;
     let mut ds = [absent; ROUTERS];
     ds[d] = 0;
-    ds
-}
-
-// The distances to d, by place: rounds until one changes nothing.
-pub(crate) fn settled(t: Topology, a: Arcs, d: usize) -> [u32; ROUTERS]
-    requires { ⌜ T (sound t) × Holds (networkOf t) a × (d < t .routers) ⌝ }
-    ensures { λ r. ⌜ Settled (networkOf t) d r ⌝ }
-{
-    let n = t.routers;
-    let mut ds = first_round(n, d);
-    let mut k: usize = 1;
-    while k < n {
-        let next = next_round(&a.count, &a.to, &a.cost, n, &ds);
-        if same(n, ds, next) {
-            return ds;
-        }
-        ds = next;
-        k += 1;
-    }
     ds
 }

@@ -33,7 +33,9 @@ pub fn build(t: Topology, destination: Place, mode: Mode, out: &mut [u8]) -> Ans
     if out.len() < n {
         return Answer { number: 24, at: n };
     }
-    unchecked::build(t, destination, mode, out);
+    let a = arcs::unchecked::of(t);
+    let ds = unchecked::distances_for(t, a, destination, mode);
+    unchecked::build(t, a, ds, destination, mode, out);
     Answer { number: 0, at: n }
 }
 
@@ -45,32 +47,10 @@ pub fn check(t: Topology, destination: Place, mode: Mode, order: &[u8]) -> Answe
         return Answer { number: 14, at: 0 };
     }
     let d = destination.index();
-    let n = t.routers;
-    if n <= d {
+    if t.routers <= d {
         return Answer { number: 15, at: d };
     }
-    if order.len() != n {
-        return Answer {
-            number: 17,
-            at: order.len(),
-        };
-    }
-    let wrong = proposal::wrong_rank(n, order);
-    if wrong < n {
-        return Answer {
-            number: 18,
-            at: wrong,
-        };
-    }
-    if order[0] != destination.0 {
-        return Answer { number: 19, at: 0 };
-    }
-    let unready = unchecked::unready_rank(t, destination, mode, order);
-    if unready < n {
-        return Answer {
-            number: 20,
-            at: unready,
-        };
-    }
-    Answer { number: 0, at: 0 }
+    let a = arcs::unchecked::of(t);
+    let ds = unchecked::distances_for(t, a, destination, mode);
+    unchecked::judge(t, a, ds, destination, mode, order)
 }

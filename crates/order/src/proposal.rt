@@ -1,11 +1,17 @@
-// The test of a proposed order's entries.
+// The tests of a proposed order's entries, and of the routers that it places.
+use super::Mode;
+use super::placing;
+use arcs::Arcs;
 use stations::ROUTERS;
+use stations::Topology;
 ghost use mathlib.Core.Path.{_≡_};
 ghost use Prim.Native.Nat.{_≤_};
 ghost use lib.ListN.{length};
 ghost use Rattle.stations.specs.Limits.{mostRouters};
+ghost use Rattle.stations.specs.Topology.{networkOf};
 ghost use Rattle.stations.specs.Inner.{firstOr};
-ghost use Rattle.order.specs.Calls.{wrongRanks};
+ghost use Rattle.order.specs.Calls.{modeOf, wrongRanks, unreadyRanks};
+ghost use Rattle.order.specs.Proposed.{LaidOut, Proposed};
 
 // The first rank whose entry is not below n or stands before; the order's length where there is none.
 pub(crate) fn wrong_rank(n: usize, order: &[u8]) -> usize
@@ -23,6 +29,38 @@ pub(crate) fn wrong_rank(n: usize, order: &[u8]) -> usize
             return rank;
         }
         held[u] = true;
+        rank += 1;
+    }
+    rank
+}
+
+// The first rank, but 0, whose router is no candidate when placed; the number of routers where there is none.
+pub(crate) fn unready_rank(
+    t: Topology,
+    a: Arcs,
+    ds: [u32; ROUTERS],
+    d: usize,
+    mode: Mode,
+    order: &[u8],
+) -> usize
+    requires { ⌜ LaidOut t a d mode ds × Proposed t d (now order) ⌝ }
+    ensures { λ r. ⌜ r ≡ firstOr (t .routers) (unreadyRanks (networkOf t) d (modeOf mode) (now (order .entry))) ⌝ }
+{
+    let mut placed = [false; ROUTERS];
+    let mut near = [0u8; ROUTERS];
+    let mut left = placing::waits(a, t.routers, ds, mode);
+    let count = a.count[d] as usize;
+    placed[d] = true;
+    placing::count_in(&mut near, &mut left, mode, &a.to, &a.cost, &ds, d, count);
+    let mut rank: usize = 1;
+    while rank < t.routers {
+        let u = order[rank] as usize;
+        if placed[u] || left[u] != 0 {
+            return rank;
+        }
+        let count = a.count[u] as usize;
+        placed[u] = true;
+        placing::count_in(&mut near, &mut left, mode, &a.to, &a.cost, &ds, u, count);
         rank += 1;
     }
     rank

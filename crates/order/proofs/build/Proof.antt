@@ -52,8 +52,19 @@ returns-3 : tie.Need-returns-3
 unfolding building given turnedAway
 returns-3 c = rw (good (c .before .before .before), lt-ltb _ _ (place (c .before)), long (c .before), lt-ltb _ _ (c .if3 .taken))
 
+of-requires : tie.Need-of-requires
+of-requires c κs = passed (c .before .before .before)
+
+distances-for-requires : tie.Need-distances-for-requires
+distances-for-requires c κs = let e : tie.Else3 = c .before in (passed (e .before .before .before), c .of .ensures, place (e .before))
+
 build-requires : tie.Need-build-requires
-build-requires c κs = (passed (c .before .before .before .before), place (c .before .before), c .before .if3 .left)
+build-requires c κs =
+    let e : tie.Else3 = c .before .before .before in
+    let s = passed (e .before .before .before) in (
+      record { is-sound = s; holds = c .before .before .of .ensures; place = place (e .before); for-mode = c .before .distances-for .ensures },
+      e .if3 .left,
+    )
 
 same-length : tie.Need-same-length
 same-length c = search needs
@@ -61,7 +72,7 @@ same-length c = search needs
 returns-4 : tie.Need-returns-4
 unfolding building given turnedAway
 returns-4 c =
-    let e : tie.Else3 = c .before .before .before .before in
+    let e : tie.Else3 = c .before .before .before .before .before .before in
     let done = c .before .before .build .ensures in
     rw (done, good (e .before .before .before), lt-ltb _ _ (place (e .before)), long (e .before), le-ltb _ _ (e .if3 .left))
 
@@ -74,6 +85,8 @@ build-spec =
     index-requires
     returns-2
     returns-3
+    of-requires
+    distances-for-requires
     build-requires
     same-length
     returns-4)

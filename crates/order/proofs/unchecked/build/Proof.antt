@@ -7,40 +7,26 @@ use mathlib.Core.Path.{_∙_}
 use native.Mathlib.Omega.{arith}
 use borrow.Author.Count.{falls}
 use lib.ListN.{getD, length-set}
+use Rattle.order.specs.Proposed.{LaidOut}
 use Rattle.order.specs.Inner.{Slots, state}
-use Rattle.order.proofs.Turn.{Given, every-slot, begun, room}
+use Rattle.order.proofs.Turn.{every-slot, begun, room}
 use Rattle.order.proofs.Building.{Building, same-long, first-turn, place, has-room, again, finished}
 use Rattle.order.proofs.unchecked.build.Statement.{statement}
 use Rattle.order.proofs.unchecked.build.Tie as tie
 
 abbrev Inv-loop : tie.InvT-loop
-Inv-loop mode out₀ t n d a ds placed₀ near₀ left₀ count rank₀ out placed near left rank = Building t a d mode ds out₀ out (state placed near left) rank
+Inv-loop mode out₀ t a ds n d placed₀ near₀ left₀ count rank₀ out placed near left rank = Building t a d mode ds out₀ out (state placed near left) rank
 
 abbrev μ-loop : tie.MeasureT-loop
-μ-loop mode out₀ t n d a ds placed₀ near₀ left₀ count rank₀ out placed near left rank = n - rank
+μ-loop mode out₀ t a ds n d placed₀ near₀ left₀ count rank₀ out placed near left rank = n - rank
 
 index-requires : tie.Need-index-requires Inv-loop μ-loop
 index-requires c κs = tt
 
-of-requires : tie.Need-of-requires Inv-loop μ-loop
-of-requires c κs = c .before .before .pre .0
-
-distances-for-requires : tie.Need-distances-for-requires Inv-loop μ-loop
-distances-for-requires c κs =
-    let start = c .before .before .before in
-    (start .pre .0, c .of .ensures, rw (c .before .index .ensures) (start .pre .1))
-
-given : (c : tie.After-distances-for Inv-loop μ-loop) →
-    Given (c .before .before .before .before .args .t1) (c .before .of .result) (c .before .before .index .result)
-    (c .before .before .before .before .args .mode) (c .distances-for .result)
-given c =
-    let start = c .before .before .before .before in
-    record {
-      is-sound = start .pre .0;
-      holds = c .before .of .ensures;
-      place = rw (c .before .before .index .ensures) (start .pre .1);
-      for-mode = c .distances-for .ensures;
-    }
+-- what is given, for the index of the destination
+given : (c : tie.After-index Inv-loop μ-loop) →
+    let args = c .before .before .args in LaidOut (args .t1) (args .t2) (c .index .result) (args .mode) (args .t3)
+given c = rw (c .index .ensures) (c .before .before .pre .0)
 
 waits-requires : tie.Need-waits-requires Inv-loop μ-loop
 waits-requires c κs = every-slot (given c)
@@ -59,7 +45,7 @@ abbrev waited : tie.After-ds Inv-loop μ-loop → tie.After-waits Inv-loop μ-lo
 waited c = c .before .before .before .before .before .before .before
 
 abbrev start : tie.After-ds Inv-loop μ-loop → tie.Start Inv-loop μ-loop
-start c = waited c .before .before .before .before .before
+start c = waited c .before .before .before
 
 count-in-requires : tie.Need-count-in-requires Inv-loop μ-loop
 count-in-requires c κs =
@@ -71,7 +57,7 @@ slice-write-out c = omega (arith, start (c .before) .pre)
 loop-holds : tie.Need-loop-holds Inv-loop μ-loop
 loop-holds c =
     let w = waited (c .before) in
-    first-turn (start (c .before) .args .out .now) (w .before .before .before .index .ensures) (given (w .before)) (start (c .before) .pre .2)
+    first-turn (start (c .before) .args .out .now) (w .before .index .ensures) (given (w .before)) (start (c .before) .pre .1)
     (w .waits .ensures) (c .count-in .ensures _)
 
 -- from the call that selects back to the turn
@@ -82,9 +68,8 @@ select-requires : tie.Need-select-requires Inv-loop μ-loop
 select-requires c κs = every-slot (turn c .before .loop .inv .given) .most
 
 at-place : (c : tie.After-select Inv-loop μ-loop) →
-    let w = waited (turn (c .before) .before .before .before) in
-    let a = w .before .before .of .result in
-    Slots (a .to) (a .cost) (w .before .distances-for .result) (c .select .result) (getD (a .count) (c .select .result) 0)
+    let args = start (turn (c .before) .before .before .before) .args in
+    Slots (args .t2 .to) (args .t2 .cost) (args .t3) (c .select .result) (getD (args .t2 .count) (c .select .result) 0)
 at-place c =
     let b = turn (c .before) .before .loop .inv in
     every-slot (b .given) .each _ (place b (turn (c .before) .loop-test .taken) (c .select .ensures))
@@ -133,7 +118,7 @@ same-length c = same-long (c .before .loop .inv) ∙ simp length-set
 returns : tie.Need-returns Inv-loop μ-loop
 returns c =
     let begin = c .before .before .before in
-    finished (start begin .args .out .now) (waited begin .before .before .before .index .ensures) (c .before .loop .inv) (c .loop-test .left)
+    finished (start begin .args .out .now) (waited begin .before .index .ensures) (c .before .loop .inv) (c .loop-test .left)
 
 pub build-spec : {M : Type 1} → statement M
 build-spec =
@@ -142,8 +127,6 @@ build-spec =
     Inv-loop
     μ-loop
     index-requires
-    of-requires
-    distances-for-requires
     waits-requires
     element-copy-out-count
     cast-count

@@ -1,79 +1,83 @@
--- `order::unchecked::distances` meets its contract. The loop's invariant: the first `u` distances stand in the slice, and the rest of it stays.
+-- `order::unchecked::distances` meets its contract. The loop's invariant: `ds` is the row after `k - 1` rounds over the network
+-- that the slots hold.
 -- Assumes nothing.
-use Prim.Native.Nat.{ℕ, _+_, _≤_, _<_, _-_}
-use mathlib.Core.List.{List, _++_}
-use mathlib.Core.Path.{_≡_, refl}
-use native.Mathlib.Numerals.{add-one}
+use Prim.Native.Nat.{suc, _-_, _≤_, _<_}
+use mathlib.Core.Path.{sym, subst}
 use native.Mathlib.Omega.{arith}
-use lib.ListN.{length, take, drop, getD, set, length-set}
-use lib.Seq.{drop-cons, take-suc, set-at, append-snoc, length-take-le}
-use Rattle.arcs.proofs.Links.{links-of}
+use Rattle.network.specs.Network.{Network}
+use Rattle.stations.specs.Topology.{networkOf}
+use Rattle.order.proofs.Slots.{Held, sound-held}
+use Rattle.order.proofs.Rounds.{Row, as-many, first-row, next-row, row-slots, stopped, ended}
 use Rattle.order.proofs.unchecked.distances.Statement.{statement}
 use Rattle.order.proofs.unchecked.distances.Tie as tie
 
 abbrev Inv-loop : tie.InvT-loop
-Inv-loop out₀ ds n u₀ out u = (u ≤ n) × (length out ≡ length out₀) × (out ≡ take u ds ++ drop u out₀)
+Inv-loop a n d ds₀ k₀ ds k = (1 ≤ k) × (k ≤ n) × ((m : Network) → Held m a n → Row m d (k - 1) n ds)
 
 abbrev μ-loop : tie.MeasureT-loop
-μ-loop out₀ ds n u₀ out u = n - u
+μ-loop a n d ds₀ k₀ ds k = n - k
 
-of-requires : tie.Need-of-requires Inv-loop μ-loop
-of-requires c κs = c .before .pre .0
+-- the network is held
+held : (c : tie.Start Inv-loop μ-loop) → Held (networkOf (c .args .t)) (c .args .t2) (c .args .t .routers)
+held c = sound-held (c .args .t) (c .args .t2) (c .pre .0) (c .pre .1)
 
 index-requires : tie.Need-index-requires Inv-loop μ-loop
 index-requires c κs = tt
 
-settled-requires : tie.Need-settled-requires Inv-loop μ-loop
-settled-requires c κs = (c .before .before .before .pre .0, c .before .of .ensures, rw (c .index .ensures) (c .before .before .before .pre .1))
+-- the index of the destination is a place
+place : (c : tie.After-index Inv-loop μ-loop) → c .index .result < c .before .args .t .routers
+place c = rw (c .index .ensures) (c .before .pre .2)
+
+first-round-requires : tie.Need-first-round-requires Inv-loop μ-loop
+first-round-requires c κs = let most = held (c .before) .most in (most, omega (arith, place c))
 
 loop-holds : tie.Need-loop-holds Inv-loop μ-loop
-loop-holds c = (omega arith, refl, refl)
+loop-holds c =
+    (omega arith, omega (arith, place (c .before)), λ m h. subst (Row m _ 0 _) (sym (c .first-round .ensures)) (first-row m _ _ h _ (place (c .before))))
 
--- the index of a turn is a place
-most : (c : tie.In-loop Inv-loop μ-loop) → c .before .loop .u < 64
-most c = let start = c .before .before .before .before .before .before in omega (arith, links-of (start .args .t) (start .pre .0) .routers-most)
+-- from a round's call back to its turn
+abbrev turn : tie.After-ds Inv-loop μ-loop → tie.In-loop Inv-loop μ-loop
+turn c = c .before .before .before .before .before
 
-mul-out : tie.Need-mul-out Inv-loop μ-loop
-mul-out c = omega (arith, most c)
+abbrev begun : tie.In-loop Inv-loop μ-loop → tie.After-index Inv-loop μ-loop
+begun c = c .before .before .before
 
-array-read-out : tie.Need-array-read-out Inv-loop μ-loop
-array-read-out c = most c
+abbrev start : tie.In-loop Inv-loop μ-loop → tie.Start Inv-loop μ-loop
+start c = begun c .before
 
-mul-out-2 : tie.Need-mul-out-2 Inv-loop μ-loop
-mul-out-2 c = omega (arith, most c)
+-- the row that a round makes
+next : (c : tie.After-next-round Inv-loop μ-loop) (m : Network) →
+    let args = start (turn (c .before)) .args in
+    Held m (args .t2) (args .t .routers) → Row m (begun (turn (c .before)) .index .result) (suc (turn (c .before) .before .loop .k - 1)) (args .t .routers) (c .next-round .result)
+next c m h = subst (Row m _ _ _) (sym (c .next-round .ensures)) (next-row m _ _ h _ _ _ (turn (c .before) .before .loop .inv .2 m h))
 
-slice-write-out : tie.Need-slice-write-out Inv-loop μ-loop
-slice-write-out c = omega (arith, c .before .before .before .before .before .before .pre)
+next-round-requires : tie.Need-next-round-requires Inv-loop μ-loop
+next-round-requires c κs = let h = held (start (turn c)) in row-slots _ _ _ h (turn c .before .loop .inv .2 _ h)
 
-add-u : tie.Need-add-u Inv-loop μ-loop
-add-u c = omega (arith, most c)
+same-requires : tie.Need-same-requires Inv-loop μ-loop
+same-requires c κs = held (start (turn (c .before))) .most
+
+returns : tie.Need-returns Inv-loop μ-loop
+returns c =
+    let here = turn (c .before .before .before) in
+    let h = held (start here) in
+    rw (← begun here .index .ensures)
+    (stopped _ _ _ h (place (begun here)) (here .before .loop .inv .2 _ h) (next (c .before .before) _ h) (c .before .same .ensures .0 (c .if1 .taken)))
+
+add-k : tie.Need-add-k Inv-loop μ-loop
+add-k c = omega (arith, held (start (turn (c .before .before .before))) .most)
 
 loop-less : tie.Need-loop-less Inv-loop μ-loop
 loop-less c = omega arith
 
--- a distance more
-copied : (ds rest : List ℕ) {u : ℕ} → u < length ds → u < length rest →
-    set (take u ds ++ drop u rest) u (getD ds u 0) ≡ take (u + 1) ds ++ drop (u + 1) rest
-copied ds rest {u} h k = let long = length-take-le u ds (omega arith) in rw (add-one, drop-cons rest u 0, take-suc ds u 0, set-at, append-snoc)
-
 loop-again : tie.Need-loop-again Inv-loop μ-loop
-loop-again c =
-    let ds = c .before .before .settled in
-    let h : c .before .loop .u < length (ds .result) = omega (arith, most c, ds .ensures .long) in
-    let l = c .before .before .before .before .before .before .args .out .now in
-    let k : c .before .loop .u < length l = omega (arith, c .before .before .before .before .before .before .pre) in
-    (omega arith, simp length-set (c .before .loop .inv .1), rw (c .before .loop .inv .2) (copied (ds .result) l h k))
+loop-again c = (omega arith, omega arith, λ m h. as-many (omega arith) (next (c .before .before) m h))
 
-same-length : tie.Need-same-length Inv-loop μ-loop
-same-length c = c .before .loop .inv .1
-
-returns : tie.Need-returns Inv-loop μ-loop
-returns c =
-    let start = c .before .before .before .before .before .before in
-    let w = links-of (start .args .t) (start .pre .0) in
-    let end : c .before .loop .u ≡ start .args .t .routers = omega arith in
-    let first = rw (w .size-is, c .before .before .before .index .ensures) at (c .before .before .settled .ensures .first) in
-    rw (c .before .loop .inv .2, end, first)
+returns-2 : tie.Need-returns-2 Inv-loop μ-loop
+returns-2 c =
+    let begin = c .before .before .before in
+    let h = held (begin .before) in
+    rw (← begin .index .ensures) (ended _ _ _ h (as-many (omega arith) (c .before .loop .inv .2 _ h)))
 
 pub distances-spec : {M : Type 1} → statement M
 distances-spec =
@@ -81,16 +85,13 @@ distances-spec =
     (tie.spec
     Inv-loop
     μ-loop
-    of-requires
     index-requires
-    settled-requires
+    first-round-requires
     loop-holds
-    mul-out
-    array-read-out
-    mul-out-2
-    slice-write-out
-    add-u
+    next-round-requires
+    same-requires
+    returns
+    add-k
     loop-less
     loop-again
-    same-length
-    returns)
+    returns-2)

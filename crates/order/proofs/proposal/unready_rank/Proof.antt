@@ -1,4 +1,4 @@
--- `order::unchecked::unready_rank` meets its contract. The loop's invariant is `Checking`: the counters are right for the routers passed, and each
+-- `order::proposal::unready_rank` meets its contract. The loop's invariant is `Checking`: the counters are right for the routers passed, and each
 -- but the first was a candidate when placed.
 -- Assumes nothing.
 use Prim.Native.Nat.{_-_}
@@ -9,77 +9,52 @@ use borrow.Author.Count.{falls}
 use borrow.Author.Tests.{not-true, not-false}
 use lib.ListN.{getD}
 use Rattle.order.specs.Inner.{Slots, state, readyIn}
-use Rattle.order.proofs.Turn.{Given, every-slot, begun, room}
+use Rattle.order.proofs.Turn.{every-slot, begun, room}
 use Rattle.order.proofs.Checking.{Checking, first-turn, place, has-room, unready, again, none-unready}
-use Rattle.order.proofs.unchecked.unready_rank.Statement.{statement}
-use Rattle.order.proofs.unchecked.unready_rank.Tie as tie
+use Rattle.order.proofs.proposal.unready_rank.Statement.{statement}
+use Rattle.order.proofs.proposal.unready_rank.Tie as tie
 
 abbrev Inv-loop : tie.InvT-loop
-Inv-loop t mode order d a ds placed₀ near₀ left₀ count rank₀ placed near left rank = Checking t a d mode ds order (state placed near left) rank
+Inv-loop t d mode order a ds placed₀ near₀ left₀ count rank₀ placed near left rank = Checking t a d mode ds order (state placed near left) rank
 
 abbrev μ-loop : tie.MeasureT-loop
-μ-loop t mode order d a ds placed₀ near₀ left₀ count rank₀ placed near left rank = t .routers - rank
-
-index-requires : tie.Need-index-requires Inv-loop μ-loop
-index-requires c κs = tt
-
-of-requires : tie.Need-of-requires Inv-loop μ-loop
-of-requires c κs = c .before .before .pre .on-sound
-
-distances-for-requires : tie.Need-distances-for-requires Inv-loop μ-loop
-distances-for-requires c κs =
-    let start = c .before .before .before in
-    (start .pre .on-sound, c .of .ensures, rw (c .before .index .ensures) (start .pre .place))
-
-given : (c : tie.After-distances-for Inv-loop μ-loop) →
-    Given (c .before .before .before .before .args .t) (c .before .of .result) (c .before .before .index .result)
-    (c .before .before .before .before .args .mode) (c .distances-for .result)
-given c =
-    let start = c .before .before .before .before in
-    record {
-      is-sound = start .pre .on-sound;
-      holds = c .before .of .ensures;
-      place = rw (c .before .before .index .ensures) (start .pre .place);
-      for-mode = c .distances-for .ensures;
-    }
+μ-loop t d mode order a ds placed₀ near₀ left₀ count rank₀ placed near left rank = t .routers - rank
 
 waits-requires : tie.Need-waits-requires Inv-loop μ-loop
-waits-requires c κs = every-slot (given c)
+waits-requires c κs = every-slot (c .before .pre .0)
 
 element-copy-out-count : tie.Need-element-copy-out-count Inv-loop μ-loop
-element-copy-out-count c = let g = given (c .before) in every-slot g .each _ (g .place) .place
+element-copy-out-count c = let g = c .before .before .pre .0 in every-slot g .each _ (g .place) .place
 
 cast-count : tie.Need-cast-count Inv-loop μ-loop
-cast-count c = let g = given (c .before .before) in omega (arith, every-slot g .each _ (g .place) .few)
+cast-count c = let g = c .before .before .before .pre .0 in omega (arith, every-slot g .each _ (g .place) .few)
 
 array-write-placed : tie.Need-array-write-placed Inv-loop μ-loop
-array-write-placed c = let g = given (c .before .before) in every-slot g .each _ (g .place) .place
+array-write-placed c = let g = c .before .before .before .pre .0 in every-slot g .each _ (g .place) .place
 
 -- from the call that counts d in back to what it waits for
 abbrev waited : tie.After-ds Inv-loop μ-loop → tie.After-waits Inv-loop μ-loop
 waited c = c .before .before .before .before .before .before .before
 
 abbrev start : tie.After-ds Inv-loop μ-loop → tie.Start Inv-loop μ-loop
-start c = waited c .before .before .before .before .before
+start c = waited c .before .before
 
 count-in-requires : tie.Need-count-in-requires Inv-loop μ-loop
 count-in-requires c κs =
-    let g = given (waited c .before) in (every-slot g .each _ (g .place), room g (begun g (waited c .waits .ensures)) (g .place) List·Memᴰ·not-nil)
+    let g = start c .pre .0 in (every-slot g .each _ (g .place), room g (begun g (waited c .waits .ensures)) (g .place) List·Memᴰ·not-nil)
 
 loop-holds : tie.Need-loop-holds Inv-loop μ-loop
 loop-holds c =
-    let w = waited (c .before) in
-    first-turn (given (w .before)) (rw (w .before .before .before .index .ensures) (start (c .before) .pre)) (w .waits .ensures) (c .count-in .ensures _)
+    let (g, p) = start (c .before) .pre in first-turn g p (waited (c .before) .waits .ensures) (c .count-in .ensures _)
 
 shared-slice-read-u : tie.Need-shared-slice-read-u Inv-loop μ-loop
 shared-slice-read-u c = omega (arith, c .before .before .before .loop .inv .proposed .long, c .before .if1 .taken)
 
 -- the router of this turn
 at-place : (c : tie.After-shared-slice-known2 Inv-loop μ-loop) →
-    let begin = c .before .before .before .before .before in
-    let a = waited begin .before .before .of .result in
-    let u = getD (start begin .args .order .now) (c .before .before .before .loop .rank) 0 in
-    Slots (a .to) (a .cost) (waited begin .before .distances-for .result) u (getD (a .count) u 0)
+    let args = start (c .before .before .before .before .before) .args in
+    let u = getD (args .order .now) (c .before .before .before .loop .rank) 0 in
+    Slots (args .t2 .to) (args .t2 .cost) (args .t3) u (getD (args .t2 .count) u 0)
 at-place c =
     let w = c .before .before .before .loop .inv in
     every-slot (w .given) .each _ (place w (c .before .if1 .taken))
@@ -98,9 +73,8 @@ unfolding readyIn
 returns c =
     let here = c .before in
     let at = here .before .before .before in
-    rw (← waited (at .before .before) .before .before .before .index .ensures)
-    (unready (at .loop .inv) (here .before .if1 .taken)
-    (⊎-elim (λ w. rw (w .taken)) (λ w. rw (w .0 .left) (not-true _ (w .1 .taken))) (c .if2 .came)))
+    unready (at .loop .inv) (here .before .if1 .taken)
+    (⊎-elim (λ w. rw (w .taken)) (λ w. rw (w .0 .left) (not-true _ (w .1 .taken))) (c .if2 .came))
 
 element-copy-out-count-2 : tie.Need-element-copy-out-count-2 Inv-loop μ-loop
 element-copy-out-count-2 c = at-place (c .before .before) .place
@@ -135,9 +109,7 @@ loop-again c =
     again (here .before .before .loop .inv) (here .if1 .taken) (rw (tests .before .if2 .left) (not-false _ (tests .if3 .left))) (c .count-in2 .ensures _)
 
 returns-2 : tie.Need-returns-2 Inv-loop μ-loop
-returns-2 c =
-    let at = c .before .before in
-    rw (← waited (at .before .before) .before .before .before .index .ensures) (none-unready (at .loop .inv) (c .if1 .left))
+returns-2 c = none-unready (c .before .before .loop .inv) (c .if1 .left)
 
 pub unready-rank-spec : {M : Type 1} → statement M
 unready-rank-spec =
@@ -145,9 +117,6 @@ unready-rank-spec =
     (tie.spec
     Inv-loop
     μ-loop
-    index-requires
-    of-requires
-    distances-for-requires
     waits-requires
     element-copy-out-count
     cast-count
