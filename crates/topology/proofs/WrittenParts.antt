@@ -5,11 +5,12 @@ use mathlib.Core.List.{List, _++_, append-assoc}
 use mathlib.Core.Path.{_≡_, _∙_}
 use native.Mathlib.Omega.{arith}
 use lib.ListN.{length, take, set, length-append}
+use lib.Seq.{length-take-le}
 use Rattle.stations.specs.declared.Topology.{Topology}
 use Rattle.stations.specs.Topology.{contents}
 use Rattle.topology.specs.Written.{written, limitBytes, routerBytes, linkBytes, joinedOver}
 use Rattle.topology.specs.Inner.{over}
-use Rattle.topology.proofs.Joined.{router-five, link-five, taken-length}
+use Rattle.topology.proofs.Joined.{router-five, link-five, joined-many}
 use Rattle.topology.proofs.Over.{over-next, over-over}
 use Rattle.topology.proofs.WrittenLength.{written-length}
 
@@ -30,8 +31,8 @@ module _
         let k : List ℕ = limitBytes (t .limit) in
         let rs : List ℕ = joinedOver routerBytes (take (t .routers) (t .id)) in
         let ls : List ℕ = joinedOver linkBytes (take (t .links) (t .link)) in
-        let rn : length rs ≡ 5 * t .routers = taken-length routerBytes router-five (t .id) (t .routers) ids in
-        let ln : length ls ≡ 5 * t .links = taken-length linkBytes link-five (t .link) (t .links) links in
+        let rn : length rs ≡ 5 * t .routers = joined-many routerBytes router-five _ (length-take-le (t .routers) (t .id) ids) in
+        let ln : length ls ≡ 5 * t .links = joined-many linkBytes link-five _ (length-take-le (t .links) (t .link) links) in
         let first : two ≡ over buffer 0 (k ++ rs) = rw (two≡, one≡) (over-over buffer 0 k rs p (omega arith) (omega arith)) in
         let then : three ≡ over buffer 0 (k ++ rs ++ ls) =
         rw (three≡, first) (over-over buffer 0 (k ++ rs) ls q (simp length-append (omega arith)) (omega arith)) in

@@ -13,7 +13,7 @@ use Rattle.soundness.specs.Sound.{sound}
 use Rattle.stream.specs.Stream.{inBytes}
 
 -- what f gives over the list, one after the other
-unfoldable pub joinedOver : {A : Type 0} → (A → List ℕ) → List A → List ℕ
+unfoldable pub joinedOver : {A B : Type 0} → (A → List B) → List A → List B
 joinedOver f [] = []
 joinedOver f (x ∷ xs) = f x ++ joinedOver f xs
 

@@ -4,8 +4,10 @@ use Prim.Native.Nat.{_-_, _≤_}
 use mathlib.Core.Path.{_≡_, refl, sym, _∙_}
 use native.Mathlib.Omega.{arith}
 use lib.ListN.{length, take}
+use lib.Seq.{length-take-le}
 use Rattle.stations.specs.Topology.{contents, noLink}
 use Rattle.stations.proofs.Machine.{links-length}
+use Rattle.stations.proofs.Prefix.{take-more}
 use Rattle.topology.specs.Written.{joinedOver, linkBytes}
 use Rattle.topology.specs.Inner.{over}
 use Rattle.topology.proofs.Over.{over-none}
@@ -26,8 +28,11 @@ loop-holds c = (omega arith, sym (over-none _ _))
 inside : (c : tie.At-loop Inv-loop μ-loop) → c .before .before .args .t1 .links ≤ length (c .before .before .args .t1 .link)
 inside c = omega (arith, links-length (c .before .before .args .t1) _ (c .before .before .good .0))
 
+many : (c : tie.At-loop Inv-loop μ-loop) → length (take (c .loop .i) (c .before .before .args .t1 .link)) ≡ c .loop .i
+many c = length-take-le (c .loop .i) (c .before .before .args .t1 .link) (omega (arith, inside c))
+
 same : (c : tie.At-loop Inv-loop μ-loop) → length (c .loop .out) ≡ length (c .before .before .args .out .now)
-same c = put-length linkBytes link-five _ _ _ (c .loop .i) (c .loop .inv .1) (omega (arith, inside c)) (omega arith)
+same c = put-length linkBytes link-five _ _ _ (many c) (c .loop .inv .1) (omega arith)
 
 mul-put-link : tie.Need-mul-put-link Inv-loop μ-loop
 mul-put-link c = omega arith
@@ -57,7 +62,8 @@ loop-again c =
     in (
       omega arith,
       c .before .before .put-link .ensures
-          ∙ put-next linkBytes link-five _ _ _ (l .loop .i) (l .loop .inv .1) noLink (omega (arith, inside l)) (omega arith),
+          ∙ put-next linkBytes link-five _ _ _ (many l) (l .loop .inv .1) _
+          (take-more (l .before .before .args .t1 .link) (l .loop .i) noLink (omega (arith, inside l))) (omega arith),
     )
 
 mul-result : tie.Need-mul-result Inv-loop μ-loop

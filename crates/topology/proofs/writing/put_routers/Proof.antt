@@ -4,8 +4,10 @@ use Prim.Native.Nat.{_-_, _≤_}
 use mathlib.Core.Path.{_≡_, refl, sym, _∙_}
 use native.Mathlib.Omega.{arith}
 use lib.ListN.{length, take}
+use lib.Seq.{length-take-le}
 use Rattle.stations.specs.Topology.{contents}
 use Rattle.stations.proofs.Machine.{ids-length}
+use Rattle.stations.proofs.Prefix.{take-more}
 use Rattle.topology.specs.Written.{joinedOver, routerBytes}
 use Rattle.topology.specs.Inner.{over}
 use Rattle.topology.proofs.Over.{over-none}
@@ -26,8 +28,11 @@ loop-holds c = (omega arith, sym (over-none _ _))
 inside : (c : tie.At-loop Inv-loop μ-loop) → c .before .before .args .t1 .routers ≤ length (c .before .before .args .t1 .id)
 inside c = omega (arith, ids-length (c .before .before .args .t1) _ (c .before .before .good .0))
 
+many : (c : tie.At-loop Inv-loop μ-loop) → length (take (c .loop .i) (c .before .before .args .t1 .id)) ≡ c .loop .i
+many c = length-take-le (c .loop .i) (c .before .before .args .t1 .id) (omega (arith, inside c))
+
 same : (c : tie.At-loop Inv-loop μ-loop) → length (c .loop .out) ≡ length (c .before .before .args .out .now)
-same c = put-length routerBytes router-five _ _ _ (c .loop .i) (c .loop .inv .1) (omega (arith, inside c)) (omega arith)
+same c = put-length routerBytes router-five _ _ _ (many c) (c .loop .inv .1) (omega arith)
 
 mul-put-router : tie.Need-mul-put-router Inv-loop μ-loop
 mul-put-router c = omega arith
@@ -56,7 +61,8 @@ loop-again c =
     in (
       omega arith,
       c .before .before .put-router .ensures
-          ∙ put-next routerBytes router-five _ _ _ (l .loop .i) (l .loop .inv .1) 0 (omega (arith, inside l)) (omega arith),
+          ∙ put-next routerBytes router-five _ _ _ (many l) (l .loop .inv .1) _
+          (take-more (l .before .before .args .t1 .id) (l .loop .i) 0 (omega (arith, inside l))) (omega arith),
     )
 
 mul-result : tie.Need-mul-result Inv-loop μ-loop
