@@ -1,0 +1,6 @@
+pub mod Carrying
+pub mod SlotKeys
+pub mod Padding
+pub mod Mapped
+pub mod KeyLaw
+pub mod Putting

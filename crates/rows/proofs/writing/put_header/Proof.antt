@@ -1,0 +1,43 @@
+-- The four stores put the header, by the laws of `over`.
+-- Assumes nothing.
+use mathlib.Core.List.{[], _∷_}
+use mathlib.Core.Path.{refl}
+use native.Mathlib.Omega.{arith}
+use borrow.Author.Needs.{needs}
+use lib.ListN.{length-set}
+use Rattle.topology.proofs.Over.{over-two, over-next}
+use Rattle.rows.specs.Bytes.{headerBytes}
+use Rattle.rows.proofs.writing.put_header.Statement.{statement}
+use Rattle.rows.proofs.writing.put_header.Tie as tie
+
+slice-write-out : tie.Need-slice-write-out
+slice-write-out c = search needs
+
+slice-write-out-2 : tie.Need-slice-write-out-2
+slice-write-out-2 c = simp length-set (omega arith)
+
+slice-write-out-3 : tie.Need-slice-write-out-3
+slice-write-out-3 c = simp length-set (omega arith)
+
+slice-write-out-4 : tie.Need-slice-write-out-4
+slice-write-out-4 c = search needs
+
+same-length : tie.Need-same-length
+same-length c = search needs
+
+returns : tie.Need-returns
+unfolding headerBytes
+returns c =
+    rw (over-two (c .args .out .now) 0 16 (c .args .destination .0) (omega arith), over-next (c .args .out .now) 0 (16 ∷ c .args .destination .0 ∷ []) (c .args .count) 2 refl (omega arith))
+    (over-next (c .args .out .now) 0 (16 ∷ c .args .destination .0 ∷ c .args .count ∷ []) (c .args .limit) 3 refl (omega arith))
+
+pub put-header-spec : {M : Type 1} → statement M
+put-header-spec =
+    tie.close
+    (tie.spec
+    slice-write-out
+    slice-write-out-2
+    slice-write-out-3
+    slice-write-out-4
+    same-length
+    returns)
