@@ -1,0 +1,163 @@
+-- The tests of `tableChecking` as facts: the header and the ranks pass if and only if some order accepted in free mode has these ranks, and that order
+-- is the one that the ranks form; two lists of one length that differ at no offset are one.
+-- Assumes nothing.
+use Prim.Native.Nat.{ℕ, _<_}
+use mathlib.Core.Bool.{Bool, false, not, _&&_}
+use mathlib.Core.List.{List, [], _∷_, List·Memᴰ}
+use mathlib.Core.Logic.{_≢_}
+use mathlib.Core.Path.{_≡_, ap}
+use native.Mathlib.Omega.{arith}
+use borrow.Author.Tests.{eq-eqb, ne-eqb, eqb-false, eqb-true, not-true, not-false}
+use lib.Dec.{T, eqb, ltb, leb, eqb→eq, ltb→lt, lt→ltb, leb→le, le→leb}
+use lib.ListN.{length, getD}
+use lib.Seq.{ext-getD}
+use Rattle.network.specs.Lists.{below}
+use Rattle.network.specs.Order.{shortest-path, free}
+use Rattle.network.specs.Theorems.Order.{Accepted}
+use Rattle.network.proofs.Distance.{starts-in}
+use Rattle.network.proofs.Order.{acceptance-exact}
+use Rattle.network.proofs.Tests.{both, and, three, and-three, eq-test}
+use Rattle.stations.specs.declared.Topology.{Topology}
+use Rattle.stations.specs.Limits.{mostNextHops}
+use Rattle.stations.specs.Topology.{networkOf}
+use Rattle.soundness.specs.Sound.{sound, within}
+use Rattle.soundness.specs.Theorems.{SoundNetwork}
+use Rattle.soundness.proofs.Sound.{sound-networks}
+use Rattle.order.specs.declared.Mode.the-variants as mode
+use Rattle.order.specs.Calls.{modeOf}
+use Rattle.order.proofs.Orders.{proposes}
+use Rattle.order.proofs.Ranges.{keep-none, none-passes, keep-first, first-passes}
+use Rattle.rows.specs.Bytes.{rowStart}
+use Rattle.table.specs.Listed.{kindIn, destinationIn, countIn, limitIn, rankIn, orderIn, inShortestPathMode}
+use Rattle.table.specs.Calls.{soundHeader, soundRanks, differing}
+use Rattle.table.specs.Theorems.{SoundStart, RanksOrdered}
+use Rattle.table.proofs.Ordered.{ordered, ranked, begins}
+
+-- the test of the header and the ranks
+abbrev pub starts? : Topology → List ℕ → Bool
+starts? t table = soundHeader (t .routers) table && soundRanks (networkOf t) (t .routers) table
+
+module _ (t : Topology) (is-sound : T (sound t)) where
+  facts : SoundNetwork t
+  facts = sound-networks t is-sound
+
+  module _ (d : ℕ) (place : d < t .routers) (order : List ℕ) (a : Accepted (networkOf t) d free order) where
+    -- an accepted order holds the places, all of them
+    sized : length order ≡ t .routers
+    unfolding modeOf
+    sized = proposes t is-sound d place mode.Free order a .long
+
+    places : (u : ℕ) → List·Memᴰ u order → u < t .routers
+    places u m =
+        omega (arith, facts .routers, starts-in (networkOf t) (facts .well-formed) d (omega (arith, facts .routers)) (a .only u m))
+
+  module _ (table : List ℕ) where
+    pub its-order : (order : List ℕ) → SoundStart t table order → orderIn (t .routers) table ≡ order
+    unfolding rankIn rowStart
+    its-order order s =
+        ordered (t .routers) order table (sized _ (s .destination) order (s .in-free)) (places _ (s .destination) order (s .in-free)) (s .in-free .once)
+        (s .ranks)
+
+    -- the destination of a sound header is a place
+    pub header-place : T (soundHeader (t .routers) table) → getD table 1 0 < t .routers
+    unfolding soundHeader kindIn destinationIn countIn
+    header-place h =
+        let d = getD table 1 0 in
+        let count = t .routers in
+        let (front, limits) = both (eqb (getD table 0 0) 16 && ltb d count && eqb (getD table 2 0) count) (within mostNextHops (limitIn table)) h in
+        let (kind, destination, counted) = three (eqb (getD table 0 0) 16) (ltb d count) (eqb (getD table 2 0) count) front in
+        ltb→lt d count destination
+
+    pub starts : T (starts? t table) → SoundStart t table (orderIn (t .routers) table)
+    unfolding soundHeader soundRanks kindIn destinationIn countIn limitIn rankIn rowStart within
+    starts h =
+        let count = t .routers in
+        let d = getD table 1 0 in
+        let limit = getD table 3 0 in
+        let order = orderIn count table in
+        let (header, ranks) = both (soundHeader count table) (soundRanks (networkOf t) count table) h in
+        let (front, limits) = both (eqb (getD table 0 0) 16 && ltb d count && eqb (getD table 2 0) count) (within mostNextHops limit) header in
+        let (kind, destination, counted) = three (eqb (getD table 0 0) 16) (ltb d count) (eqb (getD table 2 0) count) front in
+        let (least, most) = both (leb 1 limit) (leb limit mostNextHops) limits in
+        let place : d < count = ltb→lt d count destination in
+        let a : Accepted (networkOf t) d free order =
+        acceptance-exact (networkOf t) (facts .well-formed) d (omega (arith, facts .routers)) free order .0 ranks in
+        record {
+          kind = eqb→eq _ _ kind;
+          destination = place;
+          count = eqb→eq _ _ counted;
+          limit-least = leb→le 1 limit least;
+          limit-most = leb→le limit 16 most;
+          in-free = a;
+          ranks = ranked count table (places d place order a) (a .once);
+        }
+
+    pub start-passes : (order : List ℕ) → SoundStart t table order → T (starts? t table)
+    unfolding soundHeader soundRanks kindIn destinationIn countIn limitIn within
+    start-passes order s =
+        let count = t .routers in
+        let d = getD table 1 0 in
+        let limit = getD table 3 0 in
+        and (soundHeader count table) (soundRanks (networkOf t) count table)
+        (and (eqb (getD table 0 0) 16 && ltb d count && eqb (getD table 2 0) count) (within mostNextHops limit)
+        (and-three (eqb (getD table 0 0) 16) (ltb d count) (eqb (getD table 2 0) count) (eq-test (s .kind)) (lt→ltb d count (s .destination))
+        (eq-test (s .count)))
+        (and (leb 1 limit) (leb limit mostNextHops) (le→leb 1 limit (s .limit-least)) (le→leb limit 16 (s .limit-most))))
+        (rw (its-order order s)
+        (acceptance-exact (networkOf t) (facts .well-formed) d (omega (arith, facts .routers, s .destination)) free order .1 (s .in-free)))
+
+pub ranks-ordered : RanksOrdered
+unfolding inShortestPathMode destinationIn
+ranks-ordered t is-sound table order s =
+    let n = sound-networks t is-sound in
+    let same = its-order t is-sound table order s in (
+      same,
+      rw (n .routers, same)
+          (acceptance-exact (networkOf t) (n .well-formed) (getD table 1 0) (omega (arith, n .routers, s .destination)) shortest-path order),
+    )
+
+-- two lists of bytes: they differ nowhere, or first at some offset
+module _ (table other : List ℕ) where
+  abbrev apart? : ℕ → Bool
+  apart? i = not (eqb (getD table i 0) (getD other i 0))
+
+  same : (i : ℕ) → apart? i ≡ false → getD table i 0 ≡ getD other i 0
+  same i e = eqb-true _ _ (not-false (eqb (getD table i 0) (getD other i 0)) e)
+
+  same-passes : (i : ℕ) → getD table i 0 ≡ getD other i 0 → apart? i ≡ false
+  same-passes i e = rw (eq-eqb (getD table i 0) (getD other i 0) e)
+
+  pub none-differs : table ≡ other → differing table other ≡ []
+  unfolding differing below
+  none-differs e = keep-none apart? 0 (length table) (λ i h l. same-passes i (ap (λ (bytes : List ℕ). getD bytes i 0) e))
+
+  pub agree : length table ≡ length other → differing table other ≡ [] → table ≡ other
+  unfolding differing below
+  agree long none =
+      ext-getD 0 table other long (λ i h. same i (none-passes apart? 0 (length table) none i (omega arith) (omega arith)))
+
+  -- the offset is within, the bytes there differ, and all before agree
+  abbrev pub FirstApart : ℕ → Type 0
+  FirstApart at = (at < length table) × (getD table at 0 ≢ getD other at 0) × ((i : ℕ) → i < at → getD table i 0 ≡ getD other i 0)
+
+  pub first-apart : (at : ℕ) (rest : List ℕ) → differing table other ≡ at ∷ rest → FirstApart at
+  unfolding differing below
+  first-apart at rest e =
+      let w = first-passes apart? 0 (length table) at rest e in (
+        omega (arith, w .within),
+        eqb-false _ _ (not-true (eqb (getD table at 0) (getD other at 0)) (w .passes)),
+        λ i h. same i (w .earlier i (omega arith) h),
+      )
+
+  pub apart-first : (at : ℕ) → FirstApart at → (rest : List ℕ) × (differing table other ≡ at ∷ rest)
+  unfolding differing below
+  apart-first at (h, wrong, earlier) =
+      begins (differing table other) (length table) at
+      (keep-first apart? (length table) 0 (length table) at
+      (record {
+        least = omega arith;
+        within = omega arith;
+        passes = rw (ne-eqb (getD table at 0) (getD other at 0) wrong);
+        earlier = λ i l k. same-passes i (earlier i k);
+      }))
+      h

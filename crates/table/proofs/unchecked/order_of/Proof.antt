@@ -1,0 +1,146 @@
+-- `table::unchecked::order_of` meets its contract. The loop's invariant: at each rank stands the first of the places passed that has it, from the last
+-- place down.
+-- Assumes nothing.
+use Prim.Native.Nat.{ℕ, _+_, _*_, _-_, _≤_, _<_}
+use mathlib.Core.Bool.{Bool, true, false, cond}
+use mathlib.Core.List.{List, _∷_}
+use mathlib.Core.Path.{_≡_, refl, sym, _∙_}
+use native.Mathlib.Omega.{arith}
+use borrow.Author.Needs.{needs}
+use borrow.Author.Tests.{eq-eqb, ne-eqb}
+use lib.Dec.{eqb}
+use lib.ListN.{length, getD, take, getD-replicate, length-set}
+use lib.Seq.{getD-take, ext-getD, length-take-le}
+use Rattle.network.specs.Lists.{numbersFrom, below, keep}
+use Rattle.network.proofs.Below.{getD-below, length-map-below}
+use Rattle.stations.specs.Inner.{firstOr}
+use Rattle.order.proofs.Runs.{down-none, down-more, down-all}
+use Rattle.order.proofs.Stored.{stored}
+use Rattle.rows.specs.Bytes.{rowStart}
+use Rattle.table.specs.Listed.{rankIn, orderIn}
+use Rattle.table.proofs.unchecked.order_of.Statement.{statement}
+use Rattle.table.proofs.unchecked.order_of.Tie as tie
+
+-- the first of the places that has the rank r, or n
+abbrev first-with : ℕ → List ℕ → ℕ → List ℕ → ℕ
+first-with n table r us = firstOr n (keep (λ u. eqb (rankIn table u) r) us)
+
+abbrev Inv-loop : tie.InvT-loop
+Inv-loop n table none order₀ u₀ order u =
+    (u ≤ n) × (length order ≡ 64) × ((r : ℕ) → r < n → getD order r 0 ≡ first-with n table r (numbersFrom u (n - u)))
+
+abbrev μ-loop : tie.MeasureT-loop
+μ-loop n table none order₀ u₀ order u = u
+
+cast-none : tie.Need-cast-none Inv-loop μ-loop
+cast-none c = search needs
+
+loop-holds : tie.Need-loop-holds Inv-loop μ-loop
+unfolding keep firstOr
+loop-holds c = (omega arith, refl, λ r h. rw (down-none) (getD-replicate {A = ℕ} 64 r (c .args .n) 0 (omega (arith, c .pre .0))))
+
+sub-u : tie.Need-sub-u Inv-loop μ-loop
+sub-u c = search needs
+
+mul-rank : tie.Need-mul-rank Inv-loop μ-loop
+mul-rank c = omega (arith, c .before .before .pre .0, c .before .loop .inv .0)
+
+add-rank : tie.Need-add-rank Inv-loop μ-loop
+add-rank c = omega (arith, c .before .before .pre .0, c .before .loop .inv .0)
+
+add-rank-2 : tie.Need-add-rank-2 Inv-loop μ-loop
+add-rank-2 c = omega (arith, c .before .before .pre .0, c .before .loop .inv .0)
+
+shared-slice-read-rank : tie.Need-shared-slice-read-rank Inv-loop μ-loop
+unfolding rowStart
+shared-slice-read-rank c = omega (arith, c .before .before .before .pre .1, c .before .before .loop .inv .0)
+
+cast-rank : tie.Need-cast-rank Inv-loop μ-loop
+cast-rank c = omega (arith, c .shared-slice-known .given (4 + 19 * (c .before .before .loop .u - 1) + 1))
+
+cast-order : tie.Need-cast-order Inv-loop μ-loop
+cast-order c = search needs
+
+array-write-order : tie.Need-array-write-order Inv-loop μ-loop
+array-write-order c = search needs
+
+-- a place more in front
+with-more : (n : ℕ) (table : List ℕ) (r u : ℕ) (us : List ℕ) → first-with n table r (u ∷ us) ≡ cond (eqb (rankIn table u) r) u (first-with n table r us)
+unfolding keep firstOr
+with-more n table r u us = cases (eqb (rankIn table u) r)
+  where
+    cases : (b : Bool) → firstOr n (cond b (u ∷ keep (λ v. eqb (rankIn table v) r) us) (keep (λ v. eqb (rankIn table v) r) us))
+        ≡ cond b u (firstOr n (keep (λ v. eqb (rankIn table v) r) us))
+    cases true = refl
+    cases false = refl
+
+loop-less : tie.Need-loop-less Inv-loop μ-loop
+loop-less c = search needs
+
+loop-again : tie.Need-loop-again Inv-loop μ-loop
+unfolding rankIn rowStart
+loop-again c =
+    let at = c .before .before .before in
+    let n = at .before .args .n in
+    let table = at .before .args .table .now in
+    let u = at .loop .u - 1 in
+    let passed = numbersFrom (at .loop .u) (n - at .loop .u) in
+    let h = c .before .before .loop-test .taken in (
+      omega (arith, at .loop .inv .0),
+      simp length-set (at .loop .inv .1),
+      stored (λ r x. r < n → x ≡ first-with n table r (numbersFrom u (n - u))) (at .loop .order) (rankIn table u) u 0
+          (omega (arith, at .loop .inv .1, at .before .pre .0))
+          (λ k. rw (down-more (at .loop .u) n h (at .loop .inv .0), with-more n table (rankIn table u) u passed, eq-eqb (rankIn table u) (rankIn table u) refl))
+          (λ r apart k. rw (down-more (at .loop .u) n h (at .loop .inv .0), with-more n table r u passed, ne-eqb (rankIn table u) r (λ e. apart (sym e))) (at .loop .inv .2 r k)),
+    )
+
+loop-less-2 : tie.Need-loop-less-2 Inv-loop μ-loop
+loop-less-2 c = search needs
+
+loop-again-2 : tie.Need-loop-again-2 Inv-loop μ-loop
+unfolding rankIn rowStart
+loop-again-2 c =
+    let at = c .before .before .before in
+    let n = at .before .args .n in
+    let table = at .before .args .table .now in
+    let u = at .loop .u - 1 in
+    let passed = numbersFrom (at .loop .u) (n - at .loop .u) in
+    let h = c .before .before .loop-test .taken in (
+      omega (arith, at .loop .inv .0),
+      at .loop .inv .1,
+      λ r k. rw (down-more (at .loop .u) n h (at .loop .inv .0), with-more n table r u passed, ne-eqb (rankIn table u) r (λ e. omega (arith, c .if1 .left))) (at .loop .inv .2 r k),
+    )
+
+returns : tie.Need-returns Inv-loop μ-loop
+unfolding orderIn
+returns c =
+    let at = c .before .loop in
+    let n = c .before .before .args .n in
+    let table = c .before .before .args .table .now in
+    let long : length (take n (at .order)) ≡ n = length-take-le n (at .order) (omega (arith, at .inv .1, c .before .before .pre .0)) in
+    ext-getD 0 _ _ (long ∙ sym (length-map-below _ n))
+    (λ r h. let k : r < n = omega arith in
+    getD-take n (at .order) r 0 k
+    ∙ (at .inv .2 r k ∙ rw (down-all (at .u) n (c .loop-test .left)) (sym (getD-below (λ r. first-with n table r (below n)) n r 0 k))))
+
+pub order-of-spec : {M : Type 1} → statement M
+order-of-spec =
+    tie.close
+    (tie.spec
+    Inv-loop
+    μ-loop
+    cast-none
+    loop-holds
+    sub-u
+    mul-rank
+    add-rank
+    add-rank-2
+    shared-slice-read-rank
+    cast-rank
+    cast-order
+    array-write-order
+    loop-less
+    loop-again
+    loop-less-2
+    loop-again-2
+    returns)

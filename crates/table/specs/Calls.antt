@@ -1,0 +1,58 @@
+-- What filling and checking a table leaves, whole (01, Rows and tables; Refusals, 14, 15, 17 to 21 and 24).
+-- Assumes nothing.
+use Prim.Native.Nat.{ℕ}
+use mathlib.Core.Bool.{Bool, cond, not, _&&_}
+use mathlib.Core.List.{List}
+use lib.Dec.{eqb, ltb}
+use lib.ListN.{length, getD}
+use Rattle.network.specs.Lists.{below, keep}
+use Rattle.network.specs.Network.{Network}
+use Rattle.network.specs.Order.{free, accepted}
+use Rattle.stations.specs.declared.Answer.{Answer}
+use Rattle.stations.specs.declared.Topology.{Topology}
+use Rattle.stations.specs.Limits.{mostNextHops}
+use Rattle.stations.specs.Outcome.{Outcome, turnedAway, given}
+use Rattle.stations.specs.Topology.{networkOf}
+use Rattle.soundness.specs.Sound.{sound, within}
+use Rattle.order.specs.declared.Mode.the-variants as mode
+use Rattle.order.specs.Calls.{says, atFirst, checking}
+use Rattle.rows.specs.Bytes.{tableBytes, tableLength}
+use Rattle.table.specs.Listed.{kindIn, destinationIn, countIn, limitIn, orderIn}
+
+-- a refusal leaves the buffer as it was; number 0 goes on to the next test
+unfoldable pub unlessRefused : Answer → List ℕ → Outcome → Outcome
+unlessRefused a buffer next = cond (eqb (a .number) 0) next (turnedAway (a .number) (a .at) buffer)
+
+-- 14, 15, and 17 to 20 in free mode, each over the whole order; then 24 at 4 + 19N; else the table for the topology's K, the rest of a longer buffer
+-- staying
+unfoldable pub filling : Topology → ℕ → List ℕ → List ℕ → Outcome
+filling t d order buffer =
+    unlessRefused (checking t d mode.Free order) buffer (given (tableBytes (networkOf t) d (t .limit) order) buffer)
+
+-- 21: the header is sound: kind 16, destination below N, count N, K 1 to 16
+unfoldable pub soundHeader : ℕ → List ℕ → Bool
+soundHeader count table =
+    eqb (kindIn table) 16 && ltb (destinationIn table) count && eqb (countIn table) count && within mostNextHops (limitIn table)
+
+-- 21: the ranks form an order accepted in free mode
+unfoldable pub soundRanks : Network → ℕ → List ℕ → Bool
+soundRanks n count table = accepted n (destinationIn table) free (orderIn count table)
+
+-- the offsets below the first list's length at which the two differ
+unfoldable pub differing : List ℕ → List ℕ → List ℕ
+differing table other = keep (λ i. not (eqb (getD table i 0) (getD other i 0))) (below (length table))
+
+-- 21: the bytes that filling would not give for the table's order and the header's K
+unfoldable pub wrongBytes : Network → ℕ → List ℕ → List ℕ
+wrongBytes n count table = differing table (tableBytes n (destinationIn table) (limitIn table) (orderIn count table))
+
+-- 21, at the length if that is wrong; else at 0 for the header or ranks; else at the first wrong byte
+unfoldable pub tableJudging : Topology → List ℕ → Answer
+tableJudging t table =
+    cond (not (eqb (length table) (tableLength (t .routers)))) (says 21 (length table))
+    (cond (not (soundHeader (t .routers) table && soundRanks (networkOf t) (t .routers) table)) (says 21 0)
+    (atFirst 21 (wrongBytes (networkOf t) (t .routers) table) (says 0 0)))
+
+-- 14, then 21
+unfoldable pub tableChecking : Topology → List ℕ → Answer
+tableChecking t table = cond (not (sound t)) (says 14 0) (tableJudging t table)

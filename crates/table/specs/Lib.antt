@@ -1,0 +1,5 @@
+pub mod Listed
+pub mod Calls
+pub mod Inner
+pub mod Theorems
+pub mod Facts

@@ -1,0 +1,74 @@
+-- What a table lists, read from its bytes (01, Rows and tables): destination, and by place the rank and the entries, each with its arc.
+-- Assumes nothing.
+use Prim.Native.Nat.{ℕ, _+_}
+use mathlib.Core.Bool.{Bool}
+use mathlib.Core.List.{List, map}
+use lib.Dec.{eqb}
+use lib.ListN.{getD, take, drop}
+use Rattle.network.specs.Lists.{below, keep}
+use Rattle.network.specs.Network.{Arc, Network, size, arcsOf}
+use Rattle.network.specs.Order.{shortest-path, accepted}
+use Rattle.network.specs.Forwarding.{Forwarding}
+use Rattle.network.specs.Routing.{firstLive}
+use Rattle.stations.specs.Inner.{firstOr}
+use Rattle.topology.specs.Written.{joinedOver}
+use Rattle.rows.specs.Bytes.{rowStart}
+
+-- 01, Rows and tables: the header's kind, destination, router count and K
+unfoldable pub kindIn : List ℕ → ℕ
+kindIn table = getD table 0 0
+
+unfoldable pub destinationIn : List ℕ → ℕ
+destinationIn table = getD table 1 0
+
+unfoldable pub countIn : List ℕ → ℕ
+countIn table = getD table 2 0
+
+unfoldable pub limitIn : List ℕ → ℕ
+limitIn table = getD table 3 0
+
+-- 01, Rows and tables: the rank of the place u, and the places that its row lists, as many as the row's count says
+unfoldable pub rankIn : List ℕ → ℕ → ℕ
+rankIn table u = getD table (rowStart u + 1) 0
+
+unfoldable pub placesIn : List ℕ → ℕ → List ℕ
+placesIn table u = take (getD table (rowStart u + 2) 0) (drop (rowStart u + 3) table)
+
+-- 01, Stations, links and limits: the arc of u that leads to the neighbour at v; none if v is no neighbour
+unfoldable pub arcsTo : Network → ℕ → ℕ → List Arc
+arcsTo n u v = keep (λ a. eqb (a .to) v) (arcsOf n u)
+
+-- 01, Packet, hop and schedule: the listed next hops, the entries of the row of u, each with the arc that leads there
+unfoldable pub entriesIn : Network → List ℕ → ℕ → List Arc
+entriesIn n table u = joinedOver (arcsTo n u) (placesIn table u)
+
+-- What a table lists: its destination, and by place the rank and the entries, each with its arc.
+pub record Listing : Type 0 where
+  pub destination : ℕ
+  pub rank : ℕ → ℕ
+  pub entries : ℕ → List Arc
+
+unfoldable pub listed : Network → List ℕ → Listing
+listed n table = record { destination = destinationIn table; rank = rankIn table; entries = entriesIn n table }
+
+-- 01, Packet, hop and schedule: routers that forward by what a table lists, to the first entry whose link is up
+abbrev pub forwardingBy : Listing → Forwarding
+forwardingBy l =
+    record {
+      State = ℕ;
+      Entry = Arc;
+      States = List ℕ;
+      home = λ u. eqb u (l .destination);
+      row = λ u. l .entries u;
+      next = λ a. a .to;
+      choose = λ states u. firstLive states (l .entries u);
+    }
+
+-- 01, Rows and tables: the order that the ranks of a table for so many routers form. At each rank stands the place whose row has it; where none has,
+-- the number of routers, which is no place.
+unfoldable pub orderIn : ℕ → List ℕ → List ℕ
+orderIn count table = map (λ r. firstOr count (keep (λ u. eqb (rankIn table u) r) (below count))) (below count)
+
+-- 01, Rows and tables: a table is in shortest-path mode if its order is accepted in that mode
+unfoldable pub inShortestPathMode : Network → List ℕ → Bool
+inShortestPathMode n table = accepted n (destinationIn table) shortest-path (orderIn (size n) table)

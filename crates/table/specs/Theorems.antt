@@ -1,0 +1,176 @@
+-- What is proved of tables as bytes: what filling writes, which tables are accepted, what each answer means, and what an accepted table lists.
+-- Assumes nothing.
+use Prim.Native.Nat.{ℕ, _+_, _*_, _≤_, _<_}
+use mathlib.Core.List.{List, map}
+use mathlib.Core.Logic.{_↔_, _≢_}
+use mathlib.Core.Path.{_≡_}
+use lib.Dec.{T}
+use lib.ListN.{length, getD, take, drop}
+use Rattle.network.specs.Network.{Arc, Network, size}
+use Rattle.network.specs.Distance.{distances}
+use Rattle.network.specs.Order.{shortest-path, free}
+use Rattle.network.specs.Row.{rank, row}
+use Rattle.network.specs.Routing.{routers}
+use Rattle.network.specs.Theorems.Order.{Accepted}
+use Rattle.network.specs.Theorems.Routing.{OfTables}
+use Rattle.stations.specs.declared.Answer.{Answer}
+use Rattle.stations.specs.declared.Topology.{Topology}
+use Rattle.stations.specs.Outcome.{Outcome}
+use Rattle.stations.specs.Topology.{networkOf}
+use Rattle.soundness.specs.Sound.{sound}
+use Rattle.order.specs.declared.Mode.the-variants as mode
+use Rattle.order.specs.Calls.{checking}
+use Rattle.rows.specs.Bytes.{tableBytes}
+use Rattle.table.specs.Listed.{listed, forwardingBy, orderIn, inShortestPathMode}
+use Rattle.table.specs.Calls.{filling, tableChecking}
+
+-- 01, Refusals: an answer
+abbrev pub answer : ℕ → ℕ → Answer
+answer number at = record { number = number; at = at }
+
+-- 01, Refusals: a refused call, the buffer unchanged
+abbrev pub refused : ℕ → ℕ → List ℕ → Outcome
+refused number at buffer = record { answer = answer number at; buffer = buffer }
+
+-- 01, Rows and tables: the row of the place u, byte by byte: kind 17, its rank, its count, 16 bytes of places, unused ones 255
+pub record RowAt (n : Network) (d limit : ℕ) (order table : List ℕ) (u : ℕ) : Type 0 where
+  pub kind : getD table (4 + 19 * u) 0 ≡ 17
+  pub rank-is : getD table (4 + 19 * u + 1) 0 ≡ rank order u
+  pub count : getD table (4 + 19 * u + 2) 0 ≡ length (row n (distances n d) limit order u)
+  pub entry : (j : ℕ) → j < length (row n (distances n d) limit order u) →
+      getD table (4 + 19 * u + 3 + j) 0 ≡ getD (map (λ (a : Arc). a .to) (row n (distances n d) limit order u)) j 0
+  pub padding : (j : ℕ) → length (row n (distances n d) limit order u) ≤ j → j < 16 → getD table (4 + 19 * u + 3 + j) 0 ≡ 255
+
+-- 01, Rows and tables: a table byte by byte: kind 16, destination, router count, K, then per place one row; 4 + 19N bytes
+pub record TableIs (n : Network) (d limit : ℕ) (order table : List ℕ) : Type 0 where
+  pub long : length table ≡ 4 + 19 * size n
+  pub kind : getD table 0 0 ≡ 16
+  pub destination : getD table 1 0 ≡ d
+  pub count : getD table 2 0 ≡ size n
+  pub limit-is : getD table 3 0 ≡ limit
+  pub rows : (u : ℕ) → u < size n → RowAt n d limit order table u
+
+-- The bytes of a table are these, and no other bytes are.
+abbrev pub BytesExact : Type 0
+BytesExact = (n : Network) (d limit : ℕ) → limit ≤ 16 → (order table : List ℕ) → (table ≡ tableBytes n d limit order) ↔ TableIs n d limit order table
+
+-- A destination, a K from 1 to 16 and an order accepted in free mode give exactly these bytes.
+pub record GivenBy (t : Topology) (table : List ℕ) (d limit : ℕ) (order : List ℕ) : Type 0 where
+  pub place : d < t .routers
+  pub limit-least : 1 ≤ limit
+  pub limit-most : limit ≤ 16
+  pub in-free : Accepted (networkOf t) d free order
+  pub bytes : TableIs (networkOf t) d limit order table
+
+-- Filling for an order accepted in free mode succeeds at 4 + 19N where there is room. Its first bytes are then the table for the order and the
+-- topology's K, which checking accepts; the rest stays.
+pub record FilledWell (t : Topology) (d : ℕ) (order buffer : List ℕ) : Type 0 where
+  pub success : filling t d order buffer .answer ≡ answer 0 (4 + 19 * t .routers)
+  pub given : GivenBy t (take (4 + 19 * t .routers) (filling t d order buffer .buffer)) d (t .limit) order
+  pub rest : drop (4 + 19 * t .routers) (filling t d order buffer .buffer) ≡ drop (4 + 19 * t .routers) buffer
+  pub long : length (filling t d order buffer .buffer) ≡ length buffer
+  pub accepted : tableChecking t (take (4 + 19 * t .routers) (filling t d order buffer .buffer)) ≡ answer 0 0
+
+abbrev pub FillsWell : Type 0
+FillsWell =
+    (t : Topology) → T (sound t) → (d : ℕ) → d < t .routers → (order : List ℕ) → Accepted (networkOf t) d free order →
+    (buffer : List ℕ) → 4 + 19 * t .routers ≤ length buffer → FilledWell t d order buffer
+
+-- 01, Refusals, 14, 15, 17 to 20 and 24: what filling refuses, where it points, and that it leaves the buffer as it was. The first five are those of
+-- checking the order in free mode, which `order` spells out (`ChecksEach`); all else is `FillsWell`.
+pub record FillRefused (t : Topology) (d : ℕ) (order buffer : List ℕ) : Type 0 where
+  pub not-accepted : (number at : ℕ) → number ≢ 0 → checking t d mode.Free order ≡ answer number at →
+      filling t d order buffer ≡ refused number at buffer
+  pub no-room : checking t d mode.Free order ≡ answer 0 0 → length buffer < 4 + 19 * t .routers →
+      filling t d order buffer ≡ refused 24 (4 + 19 * t .routers) buffer
+
+abbrev pub FillRefuses : Type 0
+FillRefuses = (t : Topology) (d : ℕ) (order buffer : List ℕ) → FillRefused t d order buffer
+
+abbrev pub SomeGive : Topology → List ℕ → Type 0
+SomeGive t table = (d : ℕ) × (limit : ℕ) × (order : List ℕ) × GivenBy t table d limit order
+
+-- 01, Rows and tables: a table is accepted if and only if some order and K give it; that order and K are the only ones.
+abbrev pub TablesExact : Type 0
+TablesExact = (t : Topology) → T (sound t) → (table : List ℕ) → (tableChecking t table ≡ answer 0 0) ↔ SomeGive t table
+
+abbrev pub OnlyOneGives : Type 0
+OnlyOneGives =
+    (t : Topology) → T (sound t) → (table : List ℕ) (d limit : ℕ) (order : List ℕ) → GivenBy t table d limit order →
+    (d' limit' : ℕ) (order' : List ℕ) → GivenBy t table d' limit' order' → (d ≡ d') × (limit ≡ limit') × (order ≡ order')
+
+-- the topology with next-hop limit k, all else the same
+abbrev pub withLimit : Topology → ℕ → Topology
+withLimit t k = record { routers = t .routers; links = t .links; limit = k; id = t .id; link = t .link }
+
+-- 01, Rows and tables: the bytes that are accepted are what filling would give for that order and the header's K, on the topology with that K.
+abbrev pub GivenIsFilled : Type 0
+GivenIsFilled =
+    (t : Topology) → T (sound t) → (table : List ℕ) (d limit : ℕ) (order : List ℕ) → GivenBy t table d limit order →
+    (buffer : List ℕ) → length buffer ≡ length table →
+    filling (withLimit t limit) d order buffer ≡ record { answer = answer 0 (length table); buffer = table }
+
+-- 01, Refusals, 21: the header is sound, and the ranks are those of an order accepted in free mode
+pub record SoundStart (t : Topology) (table order : List ℕ) : Type 0 where
+  pub kind : getD table 0 0 ≡ 16
+  pub destination : getD table 1 0 < t .routers
+  pub count : getD table 2 0 ≡ t .routers
+  pub limit-least : 1 ≤ getD table 3 0
+  pub limit-most : getD table 3 0 ≤ 16
+  pub in-free : Accepted (networkOf t) (getD table 1 0) free order
+  pub ranks : (u : ℕ) → u < t .routers → getD table (4 + 19 * u + 1) 0 ≡ rank order u
+
+-- 01, Rows and tables: the order that the ranks form is that one, also where other bytes are wrong, and the table's mode is by it.
+abbrev pub RanksOrdered : Type 0
+RanksOrdered =
+    (t : Topology) → T (sound t) → (table order : List ℕ) → SoundStart t table order → (orderIn (t .routers) table ≡ order)
+    × (T (inShortestPathMode (networkOf t) table) ↔ Accepted (networkOf t) (getD table 1 0) shortest-path order)
+
+-- 01, Refusals, 21: the byte at the offset is not what filling would give for the order and the header's K, and every earlier byte is
+pub record FirstWrong (t : Topology) (table order : List ℕ) (at : ℕ) : Type 0 where
+  pub within : at < length table
+  pub wrong : getD table at 0 ≢ getD (tableBytes (networkOf t) (getD table 1 0) (getD table 3 0) order) at 0
+  pub earlier : (i : ℕ) → i < at → getD table i 0 ≡ getD (tableBytes (networkOf t) (getD table 1 0) (getD table 3 0) order) i 0
+
+-- 01, Refusals, 21: where it points
+pub data WrongAt (t : Topology) (table : List ℕ) (at : ℕ) : Type 0 where
+  by-length : length table ≢ 4 + 19 * t .routers → at ≡ length table → WrongAt t table at
+  by-start : length table ≡ 4 + 19 * t .routers → ((order : List ℕ) → SoundStart t table order → ⊥) → at ≡ 0 → WrongAt t table at
+  by-byte : length table ≡ 4 + 19 * t .routers → (order : List ℕ) → SoundStart t table order → FirstWrong t table order at → WrongAt t table at
+
+-- 01, Refusals: what each answer of checking a table says, and when it is given.
+pub record TableChecked (t : Topology) (table : List ℕ) (at : ℕ) : Type 0 where
+  pub says-14 : (tableChecking t table ≡ answer 14 at) ↔ ((at ≡ 0) × (T (sound t) → ⊥))
+  pub says-21 : (tableChecking t table ≡ answer 21 at) ↔ (T (sound t) × WrongAt t table at)
+  pub says-0 : (tableChecking t table ≡ answer 0 at) ↔ ((at ≡ 0) × T (sound t) × SomeGive t table)
+
+abbrev pub TablesEach : Type 0
+TablesEach = (t : Topology) (table : List ℕ) (at : ℕ) → TableChecked t table at
+
+-- An accepted table lists `network`'s ranks and rows for its order and K, place by place, so that routers that forward by it are `network`'s. The places
+-- are those below N; past them it lists no entries, and `network` has no row. 01, Rows and tables: it is in shortest-path mode if and only if its order
+-- is accepted in that mode.
+pub record ListsRows (t : Topology) (table : List ℕ) (d limit : ℕ) (order : List ℕ) : Type 1 where
+  pub destination : listed (networkOf t) table .destination ≡ d
+  pub ranks : (u : ℕ) → u < t .routers → listed (networkOf t) table .rank u ≡ rank order u
+  pub entries : (u : ℕ) → listed (networkOf t) table .entries u ≡ row (networkOf t) (distances (networkOf t) d) limit order u
+  pub forwards : forwardingBy (listed (networkOf t) table) ≡ routers (networkOf t) d limit order
+  pub ordered : orderIn (t .routers) table ≡ order
+  pub mode-is : T (inShortestPathMode (networkOf t) table) ↔ Accepted (networkOf t) d shortest-path order
+
+abbrev pub TablesList : Type 1
+TablesList =
+    (t : Topology) → T (sound t) → (table : List ℕ) (d limit : ℕ) (order : List ℕ) → GivenBy t table d limit order → ListsRows t table d limit order
+
+-- The same from the answer: the destination and K are the header's, the order is the one that the ranks form.
+abbrev pub AcceptedList : Type 1
+AcceptedList =
+    (t : Topology) → T (sound t) → (table : List ℕ) → tableChecking t table ≡ answer 0 0 →
+    ListsRows t table (getD table 1 0) (getD table 3 0) (orderIn (t .routers) table)
+
+-- So every theorem of `network` on rows and forwarding holds of an accepted table. One on shortest-path mode is a claim that begins with that mode.
+abbrev pub TablesCarry : Type 1
+TablesCarry =
+    (claim : Network → ℕ → ℕ → List ℕ → Type 0) → OfTables claim →
+    (t : Topology) → T (sound t) → (table : List ℕ) → tableChecking t table ≡ answer 0 0 →
+    claim (networkOf t) (getD table 1 0) (getD table 3 0) (orderIn (t .routers) table)

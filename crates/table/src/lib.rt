@@ -1,0 +1,55 @@
+// Tables (01, Rows and tables): filled for an order, and checked.
+use rows::HEADER;
+use rows::ROW;
+use stations::Answer;
+use stations::Place;
+use stations::Topology;
+
+mod reading;
+pub mod unchecked;
+
+ghost use mathlib.Core.Path.{_≡_};
+ghost use Rattle.stations.specs.Outcome.{Outcome};
+ghost use Rattle.table.specs.Calls.{filling, tableChecking};
+
+// Fills the table of a destination for an order accepted in free mode: refusals 14, 15, 17 to 20 and 24.
+pub fn fill(t: Topology, destination: Place, order: &[u8], out: &mut [u8]) -> Answer
+    ensures { λ r. ⌜ record { answer = r; buffer = now (out .exit) } ≡ filling t (destination .0) (now (order .entry)) (now (out .entry)) ⌝ }
+{
+    if !soundness::is_sound(t) {
+        return Answer { number: 14, at: 0 };
+    }
+    let d = destination.index();
+    let n = t.routers;
+    if n <= d {
+        return Answer { number: 15, at: d };
+    }
+    let a = arcs::unchecked::of(t);
+    let proposed = unchecked::judge(t, a, destination, order);
+    if proposed.number != 0 {
+        return proposed;
+    }
+    let needed = HEADER + ROW * n;
+    if out.len() < needed {
+        return Answer {
+            number: 24,
+            at: needed,
+        };
+    }
+    let ds = order::unchecked::distances(t, a, destination);
+    rows::unchecked::fill(t, a, ds, destination, t.limit, order, out);
+    Answer {
+        number: 0,
+        at: needed,
+    }
+}
+
+// Checks a table: refusals 14 and 21.
+pub fn check(t: Topology, table: &[u8]) -> Answer
+    ensures { λ r. ⌜ r ≡ tableChecking t (now (table .entry)) ⌝ }
+{
+    if !soundness::is_sound(t) {
+        return Answer { number: 14, at: 0 };
+    }
+    unchecked::check(t, arcs::unchecked::of(t), table)
+}

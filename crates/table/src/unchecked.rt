@@ -1,0 +1,112 @@
+// For callers that have tested the topology and laid out its arcs.
+use super::reading;
+use arcs::Arcs;
+use order::Mode;
+use rows::HEADER;
+use rows::ROW;
+use stations::Answer;
+use stations::Place;
+use stations::ROUTERS;
+use stations::Topology;
+ghost use mathlib.Core.List.{_++_};
+ghost use mathlib.Core.Path.{_≡_};
+ghost use Prim.Native.Nat.{_≤_, _<_};
+ghost use lib.Dec.{T};
+ghost use lib.ListN.{length, take, drop};
+ghost use Rattle.network.specs.Order as «said-order»;
+ghost use Rattle.stations.specs.Inner.{firstOr};
+ghost use Rattle.stations.specs.Limits.{mostRouters};
+ghost use Rattle.stations.specs.Topology.{networkOf};
+ghost use Rattle.soundness.specs.Sound.{sound};
+ghost use Rattle.arcs.specs.Arcs.{Holds};
+ghost use Rattle.order.specs.declared.Mode.the-variants as «mode-of»;
+ghost use Rattle.order.specs.Calls.{modeOf, judging};
+ghost use Rattle.rows.specs.Bytes.{tableBytes, tableLength};
+ghost use Rattle.table.specs.Listed.{orderIn};
+ghost use Rattle.table.specs.Calls.{tableJudging, wrongBytes};
+ghost use Rattle.table.specs.Inner.{Started};
+
+// Whether an order is accepted in free mode, which needs no distances: refusals 17 to 20.
+pub(crate) fn judge(t: Topology, a: Arcs, destination: Place, order: &[u8]) -> Answer
+    requires { ⌜ T (sound t) × Holds (networkOf t) a × (destination .0 < t .routers) ⌝ }
+    ensures { λ r. ⌜ r ≡ judging t (destination .0) «mode-of».Free (now (order .entry)) ⌝ }
+{
+    let ds = order::unchecked::distances_for(t, a, destination, Mode::Free);
+    order::unchecked::judge(t, a, ds, destination, Mode::Free, order)
+}
+
+// The order that the ranks form, in the first n entries; n at a rank that no place has. The lowest place of a rank comes last, and stands.
+pub fn order_of(n: usize, table: &[u8]) -> [u8; ROUTERS]
+    requires { ⌜ (n ≤ mostRouters) × (length (now table) ≡ tableLength n) ⌝ }
+    ensures { λ r. ⌜ take n r ≡ orderIn n (now (table .entry)) ⌝ }
+{
+    let none = n as u8;
+    let mut order = [none; ROUTERS];
+    let mut u = n;
+    while 0 < u {
+        u -= 1;
+        let rank = table[HEADER + ROW * u + 1] as usize;
+        if rank < n {
+            order[rank] = u as u8;
+        }
+    }
+    order
+}
+
+// The first byte that filling would not give for the table's order and its header's K; the length where there is none.
+fn first_wrong(t: Topology, a: Arcs, table: &[u8], order: [u8; ROUTERS]) -> usize
+    requires { ⌜ Started t a (now table) order ⌝ }
+    ensures { λ r. ⌜ r ≡ firstOr (length (now (table .entry))) (wrongBytes (networkOf t) (t .routers) (now (table .entry))) ⌝ }
+{
+    let n = t.routers;
+    let length = table.len();
+    let destination = Place(table[1]);
+    let limit = table[3];
+    let ds = order::unchecked::distances(t, a, destination);
+    let mut room = reading::room_for_table();
+    rows::unchecked::fill(t, a, ds, destination, limit, &order[..n], &mut room);
+    reading::first_difference(table, &room[..length])
+}
+
+// Whether a table is accepted: refusal 21.
+pub fn check(t: Topology, a: Arcs, table: &[u8]) -> Answer
+    requires { ⌜ T (sound t) × Holds (networkOf t) a ⌝ }
+    ensures { λ r. ⌜ r ≡ tableJudging t (now (table .entry)) ⌝ }
+{
+    let n = t.routers;
+    let length = table.len();
+    if length != HEADER + ROW * n {
+        return Answer {
+            number: 21,
+            at: length,
+        };
+    }
+    if !reading::header_is_sound(n, table) {
+        return Answer { number: 21, at: 0 };
+    }
+    let order = order_of(n, table);
+    let proposed = judge(t, a, Place(table[1]), &order[..n]);
+    if proposed.number != 0 {
+        return Answer { number: 21, at: 0 };
+    }
+    let wrong = first_wrong(t, a, table, order);
+    if wrong < length {
+        return Answer {
+            number: 21,
+            at: wrong,
+        };
+    }
+    Answer { number: 0, at: 0 }
+}
+
+// The table of the destination for the order that is built in the mode and the topology's K, into the first bytes of the slice.
+pub fn build(t: Topology, a: Arcs, destination: Place, mode: Mode, out: &mut [u8])
+    requires { ⌜ T (sound t) × Holds (networkOf t) a × (destination .0 < t .routers) × (tableLength (t .routers) ≤ length (now out)) ⌝ }
+    ensures { λ _. ⌜ now (out .exit) ≡ tableBytes (networkOf t) (destination .0) (t .limit) («said-order».build (networkOf t) (destination .0) (modeOf mode)) ++ drop (tableLength (t .routers)) (now (out .entry)) ⌝ }
+{
+    let n = t.routers;
+    let ds = order::unchecked::distances(t, a, destination);
+    let mut order = [0u8; ROUTERS];
+    order::unchecked::build(t, a, ds, destination, mode, &mut order);
+    rows::unchecked::fill(t, a, ds, destination, t.limit, &order[..n], out);
+}
