@@ -10,12 +10,12 @@ use borrow.Author.Tests.{le-leb, lt-leb, lt-ltb, leb-true, leb-false, ltb-true, 
 use lib.Dec.{eqb, ltb, leb}
 use lib.ListN.{length, take, drop, length-append}
 use lib.Seq.{sets, sets-eq, length-sets, length-take-le, take-at, drop-drop}
-use Rattle.stations.specs.declared.Topology.{Topology}
 use Rattle.text.specs.Fields.{before}
 use Rattle.text.specs.Lines.{fits, countWith, bufferWith, newline}
 use Rattle.text.proofs.Scan.{no-rest, take-before}
 use Rattle.console.specs.declared.Session.{Session}
-use Rattle.console.specs.Requests.{answer, refused, answerHeld}
+use Rattle.console.specs.Requests.{Held, answer, refused, answerHeld}
+use Rattle.console.specs.Replies.{heldIn}
 use Rattle.console.specs.Session.{Line, some, tooLong, State, longer, heldAfter, lineEnds, lineGrows, taken, lineIn, stateOf, PartTaken}
 
 -- a line with a part more, byte by byte
@@ -24,7 +24,7 @@ with-part most [] l = l
 with-part most (c ∷ part) l = with-part most part (longer most c l)
 
 grown : ℕ → List ℕ → State → State
-grown most part s = record { topology = s .topology; line = with-part most part (s .line) }
+grown most part s = record { held = s .held; line = with-part most part (s .line) }
 
 module _ (most : ℕ) where
   stays-long : (part : List ℕ) → with-part most part tooLong ≡ tooLong
@@ -91,11 +91,11 @@ module _ (buffer : List ℕ) (count : ℕ) where
   not-in-buffer h = rw (lt-leb count (length buffer) h)
 
   -- and what is held when it is answered
-  held-in-buffer : (t : Topology) → answerHeld t buffer count .topology ≡ heldAfter t (lineIn buffer count)
+  held-in-buffer : (h : Held) → answerHeld h buffer count .held ≡ heldAfter h (lineIn buffer count)
   unfolding answerHeld heldAfter lineIn
-  held-in-buffer t = cases (leb count (length buffer))
+  held-in-buffer h = cases (leb count (length buffer))
     where
-      cases : (b : Bool) → (cond b (answer t (take count buffer)) (refused t)) .topology ≡ heldAfter t (cond b (some (take count buffer)) tooLong)
+      cases : (b : Bool) → (cond b (answer h (take count buffer)) (refused h)) .held ≡ heldAfter h (cond b (some (take count buffer)) tooLong)
       cases true = refl
       cases false = refl
 
@@ -130,38 +130,41 @@ module _ (buffer part : List ℕ) (count : ℕ) where
           sym (rw (not-in-buffer buffer count (leb-false count (length buffer) k)) (stays-long (length buffer) part))
 
 -- what is held after a part
-module _ (s : Session) (entry part : List ℕ) (r : Session) (exit : List ℕ) where
-  gathered-line : {last : Bool} (p : PartTaken s entry part last r exit) →
+module _ (s : Session) (table entry part : List ℕ) (r : Session) (table′ exit : List ℕ) where
+  gathered-line : {last : Bool} (p : PartTaken s table entry part last r table′ exit) →
       lineIn exit (p .count) ≡ with-part (length entry) part (lineIn entry (s .count))
   gathered-line p = rw (p .gathered .stored, p .gathered .counted) (line-with entry part (s .count))
 
-  line-goes-on : PartTaken s entry part false r exit → stateOf r exit ≡ grown (length entry) part (stateOf s entry)
+  line-goes-on : PartTaken s table entry part false r table′ exit → stateOf r table′ exit ≡ grown (length entry) part (stateOf s table entry)
   unfolding stateOf grown
   line-goes-on p = rw (p .held, p .counted, gathered-line p)
 
-  line-ends : PartTaken s entry part true r exit → stateOf r exit ≡ lineEnds (grown (length entry) part (stateOf s entry))
+  line-ends : PartTaken s table entry part true r table′ exit →
+      stateOf r table′ exit ≡ lineEnds (grown (length entry) part (stateOf s table entry))
   unfolding stateOf grown lineEnds
-  line-ends p = rw (p .held, p .counted, held-in-buffer exit (p .count) (s .topology), gathered-line p, in-buffer exit 0 (omega arith))
+  line-ends p =
+      rw (p .held, p .counted, held-in-buffer exit (p .count) (heldIn (s .held) table), gathered-line p, in-buffer exit 0 (omega arith))
 
-  whole-part : (rest : List ℕ) → part ≡ before newline rest → PartTaken s entry part (ltb (length part) (length rest)) r exit →
-      taken (length entry) (drop (length part + 1) rest) (stateOf r exit) ≡ taken (length entry) rest (stateOf s entry)
+  whole-part : (rest : List ℕ) → part ≡ before newline rest → PartTaken s table entry part (ltb (length part) (length rest)) r table′ exit →
+      taken (length entry) (drop (length part + 1) rest) (stateOf r table′ exit) ≡ taken (length entry) rest (stateOf s table entry)
   unfolding ended taken
   whole-part rest e p = cases (ltb (length part) (length rest)) refl p
     where
-      cases : (last : Bool) → ltb (length part) (length rest) ≡ last → PartTaken s entry part last r exit →
-          taken (length entry) (drop (length part + 1) rest) (stateOf r exit) ≡ taken (length entry) rest (stateOf s entry)
+      cases : (last : Bool) → ltb (length part) (length rest) ≡ last → PartTaken s table entry part last r table′ exit →
+          taken (length entry) (drop (length part + 1) rest) (stateOf r table′ exit) ≡ taken (length entry) rest (stateOf s table entry)
       cases true t q =
           let h = ltb-true (length part) (length rest) t in
-          rw (line-ends q, add-one, e) (sym (ends (length entry) rest (stateOf s entry) (omega (arith, ap length e))))
+          rw (line-ends q, add-one, e) (sym (ends (length entry) rest (stateOf s table entry) (omega (arith, ap length e))))
       cases false t q =
           let h = ltb-false (length part) (length rest) t in
           rw (line-goes-on q, no-rest rest (length part + 1) (omega arith), e)
-          (sym (goes-on (length entry) rest (stateOf s entry) (omega (arith, ap length e))))
+          (sym (goes-on (length entry) rest (stateOf s table entry) (omega (arith, ap length e))))
 
 -- the turn that takes the next part
-pub next-part : (most : ℕ) (text rest : List ℕ) (at n : ℕ) {s : Session} {entry : List ℕ} {r : Session} {exit : List ℕ} →
-    rest ≡ drop at text → n ≡ length (before newline rest) → length entry ≡ most → PartTaken s entry (take n rest) (ltb n (length rest)) r exit →
-    taken most (drop (at + (n + 1)) text) (stateOf r exit) ≡ taken most rest (stateOf s entry)
-next-part most text rest at n {s} {entry} {r} {exit} d e l p =
+pub next-part : (most : ℕ) (text rest : List ℕ) (at n : ℕ) {s : Session} {table entry : List ℕ} {r : Session} {table′ exit : List ℕ} →
+    rest ≡ drop at text → n ≡ length (before newline rest) → length entry ≡ most →
+    PartTaken s table entry (take n rest) (ltb n (length rest)) r table′ exit →
+    taken most (drop (at + (n + 1)) text) (stateOf r table′ exit) ≡ taken most rest (stateOf s table entry)
+next-part most text rest at n {s} {table} {entry} {r} {table′} {exit} d e l p =
     let q = rw (e, take-before) at p in
-    rw (← l, ← drop-drop (n + 1) at text, ← d, e) (whole-part s entry (before newline rest) r exit rest refl q)
+    rw (← l, ← drop-drop (n + 1) at text, ← d, e) (whole-part s table entry (before newline rest) r table′ exit rest refl q)

@@ -1,15 +1,23 @@
 // The console: calls of the library from a shell, or from another language. It takes one request a line on standard input, with fields parted by
-// one space, numbers in decimal, bytes in lowercase hex and `-` for none, and answers one line each. A topology is held, at first all zeros.
+// one space, numbers in decimal, bytes in lowercase hex and `-` for none, and answers one line each. A topology is held, at first all zeros, and a table,
+// at first no bytes.
 //
 //     topology STREAM             NUMBER AT; what reading returned is held from then on
 //     write ROOM                  NUMBER AT BUFFER
 //     order D MODE ROOM           NUMBER AT BUFFER
 //     check-order D MODE ORDER    NUMBER AT
+//     fill D ORDER ROOM           NUMBER AT BUFFER
+//     load-table TABLE            0 0; the bytes are held from then on, untested
+//     check-table                 NUMBER AT
 //
 // BUFFER is ROOM bytes of `aa`, at most 65,536 of them, as the call left it. D is at most 255, and MODE is `shortest` or `free`.
 // Any other line, and one of more than 262,144 bytes, answers `error` and changes nothing.
+mod asked;
+mod calls;
+mod replies;
 mod requests;
 
+use calls::Holding;
 use libc::STDIN_FILENO;
 use libc::STDOUT_FILENO;
 use text::unchecked::fields;
@@ -21,20 +29,22 @@ use topology::ROUTERS;
 use topology::Topology;
 ghost use mathlib.Core.Bool.{true};
 ghost use mathlib.Core.Path.{_≡_};
+ghost use Prim.Native.Nat.{_≤_};
 ghost use lib.ListN.{length};
 ghost use Rattle.stations.specs.Topology.{zeros};
-ghost use Rattle.console.specs.Requests.{mostLine};
-ghost use Rattle.console.specs.Session.{LineAnswered, PartTaken, taken, stateOf};
+ghost use Rattle.console.specs.Requests.{mostLine, mostTable};
+ghost use Rattle.console.specs.Replies.{Ready};
+ghost use Rattle.console.specs.Session.{LineAnswered, PartTaken, TextTaken};
 
-// The topology that is held, how many bytes of a line have come, LINE + 1 if it is too long, and whether to go on.
+// What is held, but for the table's bytes; how many bytes of a line have come, LINE + 1 if it is too long; and whether to go on.
 struct Session {
-    topology: Topology,
+    held: Holding,
     count: usize,
     open: bool,
 }
 
 fn begin() -> Session
-    ensures { λ r. ⌜ r ≡ record { topology = zeros; count = 0; «open» = true } ⌝ }
+    ensures { λ r. ⌜ r ≡ record { held = record { topology = zeros; size = 0 }; count = 0; «open» = true } ⌝ }
 {
     let none = Link {
         first: Place(0),
@@ -48,61 +58,70 @@ fn begin() -> Session
         id: [0; ROUTERS],
         link: [none; LINKS],
     };
-    Session {
+    let nothing = Holding {
         topology: zeros,
+        size: 0,
+    };
+    Session {
+        held: nothing,
         count: 0,
         open: true,
     }
 }
 
 // Answers the line of count bytes in the buffer.
-fn answer(s: Session, line: &[u8]) -> Session
-    requires { ⌜ length (now line) ≡ mostLine ⌝ }
-    ensures { λ r. ⌜ LineAnswered s (now (line .entry)) r ⌝ }
+fn answer(s: Session, table: &mut [u8], line: &[u8]) -> Session
+    requires { ⌜ Ready (s .held) (now table) × (length (now line) ≡ mostLine) ⌝ }
+    ensures { λ r. ⌜ LineAnswered s (now (table .entry)) (now (line .entry)) r (now (table .exit)) ⌝ }
 {
-    let mut out = requests::room_for_answer();
-    let t = s.topology;
+    let mut out = replies::room_for_answer();
+    let h = s.held;
     let count = s.count;
-    let turn = requests::respond_held(t, line, count, &mut out);
-    let held = turn.topology;
+    let turn = requests::respond(h, table, line, count, &mut out);
+    let held = turn.held;
     let n = turn.count;
     let is_written = io::write_all(STDOUT_FILENO, &out[..n]);
     Session {
-        topology: held,
+        held: held,
         count: 0,
         open: is_written,
     }
 }
 
 // A part more of the line, and its answer if that was the last.
-fn take_part(s: Session, line: &mut [u8], part: &[u8], is_last: bool) -> Session
-    requires { ⌜ length (now line) ≡ mostLine ⌝ }
-    ensures { λ r. ⌜ PartTaken s (now (line .entry)) (now (part .entry)) «is_last» r (now (line .exit)) ⌝ }
+fn take_part(s: Session, table: &mut [u8], line: &mut [u8], part: &[u8], is_last: bool) -> Session
+    requires { ⌜ Ready (s .held) (now table) × (length (now line) ≡ mostLine) ⌝ }
+    ensures { λ r. ⌜ PartTaken s (now (table .entry)) (now (line .entry)) (now (part .entry)) «is_last» r (now (table .exit)) (now (line .exit)) ⌝ }
 {
     let mut next = s;
     next.count = lines::gather(line, s.count, part);
-    if is_last { answer(next, line) } else { next }
+    if is_last {
+        answer(next, table, line)
+    } else {
+        next
+    }
 }
 
 // The lines of what was read, of which the first may have begun before and the last may go on.
-fn take(s: Session, line: &mut [u8], text: &[u8]) -> Session
-    requires { ⌜ length (now line) ≡ mostLine ⌝ }
-    ensures { λ r. ⌜ stateOf r (now (line .exit)) ≡ taken mostLine (now (text .entry)) (stateOf s (now (line .entry))) ⌝ }
+fn take(s: Session, table: &mut [u8], line: &mut [u8], text: &[u8]) -> Session
+    requires { ⌜ Ready (s .held) (now table) × (length (now line) ≡ mostLine) ⌝ }
+    ensures { λ r. ⌜ TextTaken s (now (table .entry)) (now (line .entry)) (now (text .entry)) r (now (table .exit)) (now (line .exit)) ⌝ }
 {
     let mut next = s;
     let mut at: usize = 0;
     while at < text.len() {
         let rest = &text[at..];
         let n = fields::width(rest, b'\n');
-        next = take_part(next, line, &rest[..n], n < rest.len());
+        next = take_part(next, table, line, &rest[..n], n < rest.len());
         at += n + 1;
     }
     next
 }
 
 // Reads once.
-fn read_some(s: Session, line: &mut [u8]) -> Session
-    requires { ⌜ length (now line) ≡ mostLine ⌝ }
+fn read_some(s: Session, table: &mut [u8], line: &mut [u8]) -> Session
+    requires { ⌜ Ready (s .held) (now table) × (length (now line) ≡ mostLine) ⌝ }
+    ensures { λ r. ⌜ r .held .size ≤ length (now (table .exit)) ⌝ }
 {
     let mut text = io::large_buffer();
     let got = libc::read(STDIN_FILENO, &mut text);
@@ -112,26 +131,28 @@ fn read_some(s: Session, line: &mut [u8]) -> Session
         last.open = false;
         return last;
     }
-    take(s, line, &text[..n])
+    take(s, table, line, &text[..n])
 }
 
 // A proved loop has to end, and nothing says that the input does. So the loop counts its turns down, from a number that no run uses up.
-fn serve(line: &mut [u8]) -> Session
-    requires { ⌜ length (now line) ≡ mostLine ⌝ }
+fn serve(table: &mut [u8], line: &mut [u8]) -> Session
+    requires { ⌜ (length (now table) ≡ mostTable) × (length (now line) ≡ mostLine) ⌝ }
+    ensures { λ r. ⌜ r .held .size ≤ length (now (table .exit)) ⌝ }
 {
     let mut s = begin();
     let mut turns: u64 = 1099511627776;
     while s.open && turns > 0 {
-        s = read_some(s, line);
+        s = read_some(s, table, line);
         turns -= 1;
     }
     s
 }
 
 fn main() {
-    let mut line = requests::room_for_line();
-    let s = serve(&mut line);
+    let mut table = asked::room_for_bytes();
+    let mut line = asked::room_for_line();
+    let s = serve(&mut table, &mut line);
     if 0 < s.count {
-        answer(s, &line);
+        answer(s, &mut table, &line);
     }
 }

@@ -8,12 +8,14 @@ use mathlib.Core.Path.{_≡_, refl, ap, sym, subst, _∙_}
 use native.Mathlib.Omega.{arith}
 use borrow.Author.Tests.{eq-eqb, ne-eqb, le-leb, lt-leb, leb-true, eqb-true}
 use lib.Dec.{T, eqb, leb}
-use lib.ListN.{length, getD, drop}
+use lib.ListN.{length, getD, take, drop}
+use lib.Seq.{sets, length-sets}
 use Rattle.network.specs.Lists.{every, sameNumbers}
 use Rattle.text.specs.declared.unchecked.fields.Value.the-variants.{Is, Wrong}
 use Rattle.text.specs.Numbers.{decimal}
 use Rattle.text.specs.Hex.{none, hexadecimal, worth, bytesOf, inHex, byteCount, bytes}
 use Rattle.text.proofs.Scan.{rest, no-rest, every-at, and-left, and-right, length-same}
+use Rattle.text.proofs.Stores.{sets-none, start}
 use Rattle.text.proofs.Numbers.{below-digits, above-digits, among-digits, digit-fact}
 
 module _ (c : ℕ) where
@@ -134,3 +136,22 @@ counted s n e = dash (sameNumbers s none) refl
         let m : 0 ≡ n = cc (none-count s d) in
         (ap length (none-bytes s d) ∙ m, omega arith)
     dash false d = digits d (inHex s) refl
+
+-- a field that holds no count holds no bytes
+wrong-bytes : (s : List ℕ) → byteCount s ≡ Wrong → bytes s ≡ []
+wrong-bytes s e = cases (sameNumbers s none) refl (inHex s) refl
+  where
+    cases : (d : Bool) → sameNumbers s none ≡ d → (b : Bool) → inHex s ≡ b → bytes s ≡ []
+    cases true d b t = none-bytes s d
+    cases false d true t = let never : _≡_ {A = ℕ} 0 1 = cc (hex-count s d t) in absurd (omega arith)
+    cases false d false t = not-hex s t
+
+-- the bytes put at the start of a buffer: as many as are counted stand there, and if none are the buffer stays
+module _ (s entry exit : List ℕ) (e : exit ≡ sets entry 0 (bytes s)) where
+  pub decoded : (n : ℕ) → length s ≤ 2 * length entry → byteCount s ≡ Is n → (take n exit ≡ bytes s) × (n ≤ length exit)
+  decoded n h c =
+      let m = counted s n c in
+      (start entry (bytes s) exit n e (m .0) (omega arith), omega (arith, ap length e ∙ length-sets entry 0 (bytes s)))
+
+  pub not-decoded : byteCount s ≡ Wrong → exit ≡ entry
+  not-decoded c = e ∙ sets-none entry 0 (bytes s) (wrong-bytes s c)

@@ -10,11 +10,11 @@ use Rattle.console.proofs.answer.Tie as tie
 room-for-answer-requires : tie.Need-room-for-answer-requires
 room-for-answer-requires c κs = search needs
 
-slice-aggregate-respond-held : tie.Need-slice-aggregate-respond-held
-slice-aggregate-respond-held c = search needs
+slice-aggregate-respond : tie.Need-slice-aggregate-respond
+slice-aggregate-respond c = search needs
 
-respond-held-requires : tie.Need-respond-held-requires
-respond-held-requires c κs = search needs
+respond-requires : tie.Need-respond-requires
+respond-requires c κs = search needs
 
 array-share-prefix-out : tie.Need-array-share-prefix-out
 array-share-prefix-out c = search needs
@@ -25,6 +25,9 @@ slice-aggregate-write-all c = sym (length-take-le _ _ (omega arith))
 write-all-requires : tie.Need-write-all-requires
 write-all-requires c κs = search needs
 
+same-length : tie.Need-same-length
+same-length c = search needs
+
 returns : tie.Need-returns
 returns c = search needs
 
@@ -33,9 +36,10 @@ answer-spec =
     tie.close
     (tie.spec
     room-for-answer-requires
-    slice-aggregate-respond-held
-    respond-held-requires
+    slice-aggregate-respond
+    respond-requires
     array-share-prefix-out
     slice-aggregate-write-all
     write-all-requires
+    same-length
     returns)

@@ -14,16 +14,17 @@ use Rattle.console.proofs.take.Statement.{statement}
 use Rattle.console.proofs.take.Tie as tie
 
 abbrev Inv-loop : tie.InvT-loop
-Inv-loop line₀ text next₀ at₀ line next at =
-    (length line ≡ length line₀) × (taken (length line₀) (drop at text) (stateOf next line) ≡ taken (length line₀) text (stateOf next₀ line₀))
+Inv-loop table₀ line₀ text next₀ at₀ table line next at =
+    (length line ≡ length line₀) × (length table ≡ length table₀) × (next .held .size ≤ length table) ×
+    (taken (length line₀) (drop at text) (stateOf next table line) ≡ taken (length line₀) text (stateOf next₀ table₀ line₀))
 
 abbrev μ-loop : tie.MeasureT-loop
-μ-loop line₀ text next₀ at₀ line next at = length text - at
+μ-loop table₀ line₀ text next₀ at₀ table line next at = length text - at
 
 -- the rest of the text, from where the turn begins
 abbrev rest : tie.After-width Inv-loop μ-loop → List ℕ
 rest c =
-    let text = c .before .before .before .before .before .before .args .text .now in
+    let text = c .before .before .before .before .before .before .before .args .text .now in
     let at = c .before .before .before .loop .at in
     take (length text - at) (drop at text)
 
@@ -31,14 +32,14 @@ rest c =
 short : (c : tie.After-width Inv-loop μ-loop) → c .width .result ≤ length (rest c)
 short c = omega (arith, c .width .ensures, before-length newline (rest c))
 
-within : (c : tie.After-width Inv-loop μ-loop) → c .width .result ≤ length (c .before .before .before .before .before .before .args .text .now)
+within : (c : tie.After-width Inv-loop μ-loop) → c .width .result ≤ length (c .before .before .before .before .before .before .before .args .text .now)
 within c =
-    let text = c .before .before .before .before .before .before .args .text .now in
+    let text = c .before .before .before .before .before .before .before .args .text .now in
     let at = c .before .before .before .loop .at in
     omega (arith, short c, ap length (to-end text at), length-drop at text)
 
 loop-holds : tie.Need-loop-holds Inv-loop μ-loop
-loop-holds c = (refl, refl)
+loop-holds c = (refl, refl, c .before .before .before .pre .0 .size, refl)
 
 sub-rest : tie.Need-sub-rest Inv-loop μ-loop
 sub-rest c = omega arith
@@ -53,38 +54,44 @@ width-requires : tie.Need-width-requires Inv-loop μ-loop
 width-requires c κs = tt
 
 slice-aggregate-take-part : tie.Need-slice-aggregate-take-part Inv-loop μ-loop
-slice-aggregate-take-part c = sym (length-take-le _ _ (short (c .before .before)))
+slice-aggregate-take-part c = sym (length-take-le _ _ (short (c .before .before .before)))
 
 take-part-requires : tie.Need-take-part-requires Inv-loop μ-loop
-take-part-requires c κs = omega arith
+take-part-requires c κs =
+    let l = c .before .before .before .before .before .before .loop in
+    (record { size = l .inv .2; room = omega arith }, omega arith)
 
 add-at : tie.Need-add-at Inv-loop μ-loop
-add-at c = omega (arith, within (c .before .before .before .before .before))
+add-at c = omega (arith, within (c .before .before .before .before .before .before .before .before))
 
 add-at-2 : tie.Need-add-at-2 Inv-loop μ-loop
-add-at-2 c = omega (arith, within (c .before .before .before .before .before))
+add-at-2 c = omega (arith, within (c .before .before .before .before .before .before .before .before))
 
 loop-less : tie.Need-loop-less Inv-loop μ-loop
 loop-less c = omega arith
 
 loop-again : tie.Need-loop-again Inv-loop μ-loop
 loop-again c =
-    let w = c .before .before .before .before .before in
+    let w = c .before .before .before .before .before .before .before .before in
     let l = w .before .before .before .loop in
-    let text = w .before .before .before .before .before .before .args .text .now in
+    let text = w .before .before .before .before .before .before .before .args .text .now in
     let all = to-end text (l .at) in
-    let p = next-part _ text (rest w) (l .at) (w .width .result) all (w .width .ensures) (l .inv .0) (c .before .before .take-part .ensures) in
-    (c .before .before .take-part .kept .1 .0 ∙ l .inv .0, p ∙ rw (all) (l .inv .1))
+    let called = c .before .before .before .before .take-part in
+    let p = next-part _ text (rest w) (l .at) (w .width .result) all (w .width .ensures) (l .inv .0) (called .ensures) in
+    (called .kept .1 .1 .0 ∙ l .inv .0, called .kept .1 .0 ∙ l .inv .1, called .ensures .size, p ∙ rw (all) (l .inv .3))
 
 same-length : tie.Need-same-length Inv-loop μ-loop
-same-length c = c .before .loop .inv .0
+same-length c = c .before .loop .inv .1
+
+same-length-2 : tie.Need-same-length-2 Inv-loop μ-loop
+same-length-2 c = c .before .loop .inv .0
 
 returns : tie.Need-returns Inv-loop μ-loop
 unfolding taken
 returns c =
-    let a = c .before .before .before .before .args in
-    let end = no-rest (a .text .now) (c .before .loop .at) (omega arith) in
-    rw (end, c .before .before .before .before .pre) at (c .before .loop .inv .1)
+    let entry = c .before .before .before .before .before in
+    let end = no-rest (entry .args .text .now) (c .before .loop .at) (omega arith) in
+    record { state = rw (end, entry .pre .1) at (c .before .loop .inv .3); size = c .before .loop .inv .2 }
 
 pub take-spec : {M : Type 1} → statement M
 take-spec =
@@ -104,4 +111,5 @@ take-spec =
     loop-less
     loop-again
     same-length
+    same-length-2
     returns)

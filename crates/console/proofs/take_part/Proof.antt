@@ -13,26 +13,44 @@ answer-requires c κs = search needs
 same-length : tie.Need-same-length
 same-length c = search needs
 
+same-length-2 : tie.Need-same-length-2
+same-length-2 c = search needs
+
 returns : tie.Need-returns
 returns c =
-    let g = c .before .before .before .before .before .gather in
-    let last = c .before .before .if1 .taken in
+    let g = c .before .before .before .before .before .before .before .before .gather in
+    let last = c .before .before .before .before .before .if1 .taken in
+    let a = c .before .before .answer .ensures in
     record {
       count = g .result;
       gathered = g .ensures;
-      held = rw (last) (c .answer .ensures .held);
-      counted = rw (last) (c .answer .ensures .none);
+      held = rw (last) (a .held);
+      size = a .size;
+      counted = rw (last) (a .none);
     }
 
-same-length-2 : tie.Need-same-length-2
-same-length-2 c = search needs
+same-length-3 : tie.Need-same-length-3
+same-length-3 c = search needs
 
 returns-2 : tie.Need-returns-2
 returns-2 c =
     let g = c .before .before .before .gather in
-    record { count = g .result; gathered = g .ensures; held = rw (c .if1 .left); counted = rw (c .if1 .left) }
+    record {
+      count = g .result;
+      gathered = g .ensures;
+      held = rw (c .if1 .left);
+      size = c .before .before .before .before .before .before .before .before .pre .0 .size;
+      counted = rw (c .if1 .left);
+    }
 
 pub take-part-spec : {M : Type 1} → statement M
 take-part-spec =
     tie.close
-    (tie.spec gather-requires answer-requires same-length returns same-length-2 returns-2)
+    (tie.spec
+    gather-requires
+    answer-requires
+    same-length
+    same-length-2
+    returns
+    same-length-3
+    returns-2)

@@ -2,8 +2,8 @@
 -- Assumes nothing.
 use mathlib.Core.Path.{refl}
 use Rattle.console.specs.Requests.{lent}
-use Rattle.console.proofs.requests.lent.Statement.{statement}
-use Rattle.console.proofs.requests.lent.Tie as tie
+use Rattle.console.proofs.replies.lent.Statement.{statement}
+use Rattle.console.proofs.replies.lent.Tie as tie
 
 returns : tie.Need-returns
 unfolding lent

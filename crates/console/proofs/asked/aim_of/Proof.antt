@@ -10,8 +10,8 @@ use Rattle.text.specs.Numbers.{number}
 use Rattle.console.specs.Requests.{mostDestination, shortestWord, freeWord, aimOf}
 use Rattle.text.proofs.Numbers.{number-bound}
 use borrow.Author.Needs.{needs}
-use Rattle.console.proofs.requests.aim_of.Statement.{statement}
-use Rattle.console.proofs.requests.aim_of.Tie as tie
+use Rattle.console.proofs.asked.aim_of.Statement.{statement}
+use Rattle.console.proofs.asked.aim_of.Tie as tie
 
 -- the field holds the number
 held : (c : tie.After-known-told) → number mostDestination (c .before .before .before .before .before .before .args .destination .now) ≡ Is (c .before .d .given .0 .0)
