@@ -23,7 +23,7 @@ use Rattle.rows.specs.Bytes.{tableBytes, rowStart}
 use Rattle.table.specs.Listed.{destinationIn, limitIn, orderIn}
 use Rattle.table.specs.Calls.{wrongBytes, differing, tableJudging, tableChecking}
 use Rattle.table.specs.Theorems.{answer, TableIs, GivenBy, SomeGive, SoundStart, WrongAt, by-length, by-start, by-byte}
-use Rattle.table.specs.Theorems.{TablesExact, OnlyOneGives, TableChecked, TablesEach}
+use Rattle.table.specs.Theorems.{TablesExact, OnlyOneGives, TableChecked, TablesEach, AcceptedGiven}
 use Rattle.table.proofs.Bytes.{bytes-exact}
 use Rattle.table.proofs.Accepting.{starts?, its-order, starts, start-passes, none-differs, agree, first-apart, apart-first}
 
@@ -189,8 +189,7 @@ pub tables-exact : TablesExact
 tables-exact t s table = (λ e. says-0 t table 0 e .2, accepts t table s)
 
 -- what gives an accepted table: the header's destination and K, and the order that the ranks form
-pub accepted-given : (t : Topology) → T (sound t) → (table : List ℕ) → tableChecking t table ≡ answer 0 0 →
-    GivenBy t table (getD table 1 0) (getD table 3 0) (orderIn (t .routers) table)
+pub accepted-given : AcceptedGiven
 accepted-given t s table e =
     let (d, limit, order, g) = tables-exact t s table .0 e in
     rw (g .bytes .destination, g .bytes .limit-is, its-order t s table order (start-of t table s d limit order g)) g

@@ -162,13 +162,19 @@ abbrev pub TablesList : Type 1
 TablesList =
     (t : Topology) → T (sound t) → (table : List ℕ) (d limit : ℕ) (order : List ℕ) → GivenBy t table d limit order → ListsRows t table d limit order
 
--- The same from the answer: the destination and K are the header's, the order is the one that the ranks form.
+-- From the answer: the destination and K that give an accepted table are the header's, K from 1 to 16, and the order is the one that the ranks form.
+abbrev pub AcceptedGiven : Type 0
+AcceptedGiven =
+    (t : Topology) → T (sound t) → (table : List ℕ) → tableChecking t table ≡ answer 0 0 →
+    GivenBy t table (getD table 1 0) (getD table 3 0) (orderIn (t .routers) table)
+
 abbrev pub AcceptedList : Type 1
 AcceptedList =
     (t : Topology) → T (sound t) → (table : List ℕ) → tableChecking t table ≡ answer 0 0 →
     ListsRows t table (getD table 1 0) (getD table 3 0) (orderIn (t .routers) table)
 
--- So every theorem of `network` on rows and forwarding holds of an accepted table. One on shortest-path mode is a claim that begins with that mode.
+-- So every theorem of `network` on rows and forwarding holds of an accepted table. One on shortest-path mode is a claim that
+-- begins with that mode, and with K of at least 1, which `AcceptedGiven` has.
 abbrev pub TablesCarry : Type 1
 TablesCarry =
     (claim : Network → ℕ → ℕ → List ℕ → Type 0) → OfTables claim →
