@@ -20,7 +20,7 @@ use Rattle.soundness.specs.Sound.{sound}
 use Rattle.soundness.proofs.Sound.{sound-networks}
 use Rattle.order.specs.Calls.{says, atFirst}
 use Rattle.rows.specs.Bytes.{tableBytes, rowStart}
-use Rattle.table.specs.Listed.{destinationIn, limitIn, orderIn}
+use Rattle.table.specs.Listed.{destinationIn, limitIn}
 use Rattle.table.specs.Calls.{wrongBytes, differing, tableJudging, tableChecking}
 use Rattle.table.specs.Theorems.{answer, TableIs, GivenBy, SomeGive, SoundStart, WrongAt, by-length, by-start, by-byte}
 use Rattle.table.specs.Theorems.{TablesExact, OnlyOneGives, TableChecked, TablesEach, AcceptedGiven}

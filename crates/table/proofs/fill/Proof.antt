@@ -1,16 +1,14 @@
 -- `table::fill` meets its contract: the tests are those of `filling`, in turn, and what the rows are filled with is the table's bytes.
 -- Assumes nothing.
-use Prim.Native.Nat.{_+_, _*_, _<_, _≤_}
+use Prim.Native.Nat.{_+_, _*_, _<_}
 use mathlib.Core.Bool.{true}
-use mathlib.Core.Path.{_≡_, refl, sym, ap, _∙_}
+use mathlib.Core.Path.{_≡_, refl, sym, _∙_}
 use native.Mathlib.Omega.{arith}
 use borrow.Author.Needs.{needs}
-use borrow.Author.Tests.{not-true, not-false, lt-ltb, le-ltb, eq-eqb, ne-eqb}
+use borrow.Author.Tests.{not-true, not-false, lt-ltb, le-ltb, ne-eqb}
 use denote.Ref.{now}
 use lib.Dec.{T}
 use lib.ListN.{length}
-use Rattle.network.specs.Order.{free}
-use Rattle.network.specs.Theorems.Order.{Accepted}
 use Rattle.stations.specs.Outcome.{given, turnedAway}
 use Rattle.stations.specs.Topology.{networkOf}
 use Rattle.soundness.specs.Sound.{sound}

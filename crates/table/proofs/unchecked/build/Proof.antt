@@ -1,20 +1,16 @@
 -- `table::unchecked::build` meets its contract: the order that is built is accepted in free mode, so its table can be filled.
 -- Assumes nothing.
-use Prim.Native.Nat.{_≤_}
-use mathlib.Core.List.{_++_}
-use mathlib.Core.Path.{_≡_, refl, sym, ap, _∙_}
+use mathlib.Core.Path.{_≡_, sym, ap, _∙_}
 use native.Mathlib.Omega.{arith}
 use borrow.Author.Needs.{needs}
-use lib.ListN.{length, take, drop, length-append, length-drop}
-use lib.Seq.{length-take-le, take-at}
-use Rattle.network.specs.Order.{build, free}
-use Rattle.network.specs.Theorems.Order.{Accepted}
+use lib.ListN.{length, take, length-append, length-drop}
+use lib.Seq.{take-at}
+use Rattle.network.specs.Order.{build}
 use Rattle.stations.specs.Topology.{networkOf}
 use Rattle.soundness.proofs.Sound.{sound-exact}
 use Rattle.order.specs.Calls.{modeOf}
 use Rattle.order.proofs.Reached.{built-long}
 use Rattle.order.proofs.Turn.{settled-serve}
-use Rattle.rows.specs.Bytes.{rowStart}
 use Rattle.table.proofs.Calling.{fillable, built-free}
 use Rattle.table.proofs.unchecked.build.Statement.{statement}
 use Rattle.table.proofs.unchecked.build.Tie as tie

@@ -1,15 +1,15 @@
 -- `table::unchecked::check` meets its contract: at each `return` the tests before it passed and the one that led there failed, which is what judging the
 -- table answers.
 -- Assumes nothing.
-use Prim.Native.Nat.{_≤_, _<_}
-use mathlib.Core.Bool.{Bool, true, false, _&&_}
+use Prim.Native.Nat.{_≤_}
+use mathlib.Core.Bool.{Bool, false}
 use mathlib.Core.Path.{_≡_, refl, sym, ap, _∙_}
 use native.Mathlib.Omega.{arith}
 use borrow.Author.Needs.{needs}
 use borrow.Author.Tests.{not-true, not-false}
 use denote.Ref.{now}
 use lib.Dec.{T}
-use lib.ListN.{length, getD, take}
+use lib.ListN.{getD}
 use lib.Seq.{length-take-le}
 use Rattle.network.proofs.Tests.{both, and}
 use Rattle.soundness.proofs.Sound.{sound-exact}
@@ -18,7 +18,7 @@ use Rattle.order.specs.declared.Mode.the-variants as mode
 use Rattle.order.specs.Calls.{says, judging}
 use Rattle.rows.specs.Bytes.{rowStart}
 use Rattle.table.specs.Listed.{destinationIn, orderIn}
-use Rattle.table.specs.Calls.{soundHeader, soundRanks}
+use Rattle.table.specs.Calls.{soundHeader}
 use Rattle.table.proofs.Accepting.{starts?, header-place}
 use Rattle.table.proofs.Calling.{ranks-pass, ranks-fail, begins-with, wrong-length, wrong-start, wrong-byte, none-wrong}
 use Rattle.table.proofs.unchecked.check.Statement.{statement}

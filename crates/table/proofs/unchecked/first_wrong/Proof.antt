@@ -8,12 +8,11 @@ use borrow.Author.Needs.{needs}
 use denote.Ref.{now}
 use lib.ListN.{length, getD, take, length-take}
 use lib.Seq.{length-take-le, take-at}
-use Rattle.stations.specs.Inner.{firstOr}
 use Rattle.stations.specs.Topology.{networkOf}
 use Rattle.soundness.proofs.Sound.{sound-exact}
 use Rattle.rows.specs.Bytes.{tableBytes, rowStart}
 use Rattle.table.specs.Listed.{destinationIn, limitIn, orderIn}
-use Rattle.table.specs.Calls.{differing, wrongBytes}
+use Rattle.table.specs.Calls.{wrongBytes}
 use Rattle.table.specs.Theorems.{SoundStart}
 use Rattle.table.proofs.Accepting.{starts}
 use Rattle.table.proofs.Bytes.{bytes-exact}
