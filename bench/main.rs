@@ -1,8 +1,8 @@
-//! What bench/run times beside the proved program: the same work in plain Rust, and plain Dijkstra. Both take the proved program's input: the mode, how
-//! often, and a topology stream.
+//! What bench/run times beside the proved program: the same work in plain Rust, and plain Dijkstra. Both take the proved program's input: the mode,
+//! `s` or `f` for orders and `S` or `F` for tables, how often, and a topology stream.
 mod plain;
 
-use plain::{Link, Mode, Topology, LINKS, ROUTERS};
+use plain::{Link, Mode, Topology, LINKS, ROUTERS, TABLE};
 use std::io::{Read, Write};
 
 /// A ring of 64 in which each router is linked to the next four, all at cost 1: 256 links, and many equal paths.
@@ -32,6 +32,18 @@ fn random() -> Vec<(u8, u8, u16)> {
         links.push((a, b, next(65535) as u16 + 1));
     }
     links
+}
+
+/// A grid of 8 by 8, all at cost 1: 112 links.
+fn grid() -> Vec<(u8, u8, u16)> {
+    let across = (0..64u8).filter(|u| u % 8 < 7).map(|u| (u, u + 1, 1));
+    let down = (0..56u8).map(|u| (u, u + 8, 1));
+    across.chain(down).collect()
+}
+
+/// A ring of 64 at cost 1 with chords to the second, third and fourth next so dear that every shortest path goes round the ring link by link.
+fn chords() -> Vec<(u8, u8, u16)> {
+    (0..64u32).flat_map(|u| (1..5).map(move |k| (u as u8, ((u + k) % 64) as u8, if k == 1 { 1 } else { 65535 }))).collect()
 }
 
 fn input(mode: u8, times: u16, links: &[(u8, u8, u16)]) -> Vec<u8> {
@@ -84,6 +96,22 @@ fn orders(t: &Topology, mode: Mode, times: u32) -> u32 {
     sum
 }
 
+fn tables(t: &Topology, mode: Mode, times: u32) -> u32 {
+    let mut sum = 0;
+    for _ in 0..times {
+        if !plain::is_sound(t) {
+            return 0;
+        }
+        let a = plain::arcs_of(t);
+        for d in 0..t.routers as u8 {
+            let mut out = [0u8; TABLE];
+            plain::table(t, &a, d, mode, &mut out);
+            sum = out.iter().step_by(7).fold(sum, |s, &b| added(s, b));
+        }
+    }
+    sum
+}
+
 fn next_hops(t: &Topology, times: u32) -> u32 {
     let mut sum = 0;
     for _ in 0..times {
@@ -99,18 +127,24 @@ fn next_hops(t: &Topology, times: u32) -> u32 {
 fn main() {
     let args: Vec<String> = std::env::args().collect();
     if args[1] == "input" {
-        let links = if args[2] == "ring" { ring() } else { random() };
+        let links = match args[2].as_str() {
+            "ring" => ring(),
+            "random" => random(),
+            "grid" => grid(),
+            _ => chords(),
+        };
         let times: u16 = args[4].parse().expect("a number");
         std::io::stdout().write_all(&input(args[3].as_bytes()[0], times, &links)).expect("standard output");
         return;
     }
     let mut bytes = Vec::new();
     std::io::stdin().read_to_end(&mut bytes).expect("standard input");
-    let mode = if bytes[0] == b's' { Mode::ShortestPath } else { Mode::Free };
+    let mode = if bytes[0].to_ascii_lowercase() == b's' { Mode::ShortestPath } else { Mode::Free };
     let times = u32::from(bytes[1]) * 256 + u32::from(bytes[2]);
     let t = topology(&bytes[3..]);
     match args[1].as_str() {
-        "plain" => println!("{}", orders(&t, mode, times)),
+        "plain" if bytes[0].is_ascii_lowercase() => println!("{}", orders(&t, mode, times)),
+        "plain" => println!("{}", tables(&t, mode, times)),
         _ => println!("{}", next_hops(&t, times)),
     }
 }

@@ -1,6 +1,7 @@
 -- `timing::all_orders` meets its contract. Each order keeps the sum below 65,521.
 -- Assumes nothing.
 use Prim.Native.Nat.{_≤_, _<_, _-_}
+use native.Mathlib.Omega.{arith}
 use borrow.Author.Needs.{needs}
 use Rattle.timing.proofs.all_orders.Statement.{statement}
 use Rattle.timing.proofs.all_orders.Tie as tie
@@ -20,8 +21,12 @@ slice-aggregate-build c = search needs
 build-requires : tie.Need-build-requires Inv-loop μ-loop
 build-requires c κs = search needs
 
-with-order-requires : tie.Need-with-order-requires Inv-loop μ-loop
-with-order-requires c κs = search needs
+slice-aggregate-with-bytes : tie.Need-slice-aggregate-with-bytes Inv-loop μ-loop
+slice-aggregate-with-bytes c = search needs
+
+with-bytes-requires : tie.Need-with-bytes-requires Inv-loop μ-loop
+with-bytes-requires c κs =
+    (c .before .before .before .before .before .loop .inv .1, omega (arith, c .before .before .build .kept .1 .1 .1 .0), omega arith, omega arith)
 
 add-d : tie.Need-add-d Inv-loop μ-loop
 add-d c = search needs
@@ -44,7 +49,8 @@ all-orders-spec =
     loop-holds
     slice-aggregate-build
     build-requires
-    with-order-requires
+    slice-aggregate-with-bytes
+    with-bytes-requires
     add-d
     loop-less
     loop-again

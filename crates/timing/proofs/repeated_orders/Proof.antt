@@ -1,9 +1,9 @@
--- `timing::repeated` meets its contract. The turns are counted.
+-- `timing::repeated_orders` meets its contract. The turns are counted.
 -- Assumes nothing.
 use Prim.Native.Nat.{_≤_, _<_, _-_}
 use borrow.Author.Needs.{needs}
-use Rattle.timing.proofs.repeated.Statement.{statement}
-use Rattle.timing.proofs.repeated.Tie as tie
+use Rattle.timing.proofs.repeated_orders.Statement.{statement}
+use Rattle.timing.proofs.repeated_orders.Tie as tie
 
 abbrev Inv-loop : tie.InvT-loop
 Inv-loop t mode times sum₀ i₀ sum i = (i ≤ times) × (sum < 65521)
@@ -29,7 +29,7 @@ loop-again c = search needs
 returns : tie.Need-returns Inv-loop μ-loop
 returns c = search needs
 
-pub repeated-spec : {M : Type 1} → statement M
-repeated-spec =
+pub repeated-orders-spec : {M : Type 1} → statement M
+repeated-orders-spec =
     tie.close
     (tie.spec Inv-loop μ-loop loop-holds all-orders-requires add-i loop-less loop-again returns)
