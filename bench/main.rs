@@ -1,8 +1,9 @@
-//! What bench/run times beside the proved program: the same work in plain Rust, and plain Dijkstra. Both take the proved program's input: the mode,
-//! `s` or `f` for orders and `S` or `F` for tables, how often, and a topology stream.
+//! What bench/run and bench/walks time beside the proved program: the same work in plain Rust, and plain Dijkstra. Both take the proved program's
+//! input: the kind, how often, and a topology stream. The kind is the mode, `s` or `f` for orders and `S` or `F` for tables; `g` for greatest hop counts,
+//! `w` for walks, `W` for walks over ten times the rows. In `blocks` the states of a schedule are tested in blocks, in `plain` one by one.
 mod plain;
 
-use plain::{Link, Mode, Topology, LINKS, ROUTERS, TABLE};
+use plain::{Link, Mode, Topology, Walked, LINKS, ROUTERS, TABLE};
 use std::io::{Read, Write};
 
 /// A ring of 64 in which each router is linked to the next four, all at cost 1: 256 links, and many equal paths.
@@ -112,6 +113,41 @@ fn tables(t: &Topology, mode: Mode, times: u32) -> u32 {
     sum
 }
 
+/// The table of destination 0 for the order in shortest-path mode.
+fn first_table(t: &Topology) -> Vec<u8> {
+    let mut out = vec![0; 4 + 19 * t.routers];
+    plain::table(t, &plain::arcs_of(t), 0, Mode::ShortestPath, &mut out);
+    out
+}
+
+fn counts(t: &Topology, times: u32) -> u32 {
+    let table = first_table(t);
+    let mut sum = 0;
+    for _ in 0..times {
+        let mut out = [0u8; ROUTERS];
+        plain::greatest_hops(t, &table, &mut out);
+        sum = out.iter().fold(sum, |s, &b| added(s, b));
+    }
+    sum
+}
+
+/// Walks from every start over a schedule in which link l is down in row h where l + h is a multiple of three.
+fn walks(t: &Topology, rows: usize, times: u32, over: impl Fn(&[u8]) -> Option<usize>) -> u32 {
+    let table = first_table(t);
+    let schedule: Vec<u8> = (0..rows).flat_map(|h| (0..t.links).map(move |l| u8::from((l + h) % 3 != 0))).collect();
+    let mut sum = 0;
+    for _ in 0..times {
+        for u in 0..t.routers as u8 {
+            sum = match plain::walk(t, &table, u, &schedule, &over) {
+                Walked::Delivered(station, hops) => added(added(sum, station), hops),
+                Walked::Dropped(station, hops) => added(added(sum, station), hops + 128),
+                Walked::Refused((number, _)) => added(sum, number),
+            };
+        }
+    }
+    sum
+}
+
 fn next_hops(t: &Topology, times: u32) -> u32 {
     let mut sum = 0;
     for _ in 0..times {
@@ -143,6 +179,12 @@ fn main() {
     let times = u32::from(bytes[1]) * 256 + u32::from(bytes[2]);
     let t = topology(&bytes[3..]);
     match args[1].as_str() {
+        "plain" if bytes[0] == b'g' => println!("{}", counts(&t, times)),
+        "plain" if bytes[0] == b'w' => println!("{}", walks(&t, t.routers - 1, times, plain::first_over)),
+        "plain" if bytes[0] == b'W' => println!("{}", walks(&t, 10 * (t.routers - 1), times, plain::first_over)),
+        "blocks" if bytes[0] == b'w' => println!("{}", walks(&t, t.routers - 1, times, plain::first_over_in_blocks)),
+        "blocks" if bytes[0] == b'W' => println!("{}", walks(&t, 10 * (t.routers - 1), times, plain::first_over_in_blocks)),
+        "blocks" => println!("{}", counts(&t, times)),
         "plain" if bytes[0].is_ascii_lowercase() => println!("{}", orders(&t, mode, times)),
         "plain" => println!("{}", tables(&t, mode, times)),
         _ => println!("{}", next_hops(&t, times)),

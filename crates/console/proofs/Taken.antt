@@ -14,8 +14,9 @@ use Rattle.text.specs.Fields.{before}
 use Rattle.text.specs.Lines.{fits, countWith, bufferWith, newline}
 use Rattle.text.proofs.Scan.{no-rest, take-before}
 use Rattle.console.specs.declared.Session.{Session}
-use Rattle.console.specs.Requests.{Held, answer, refused, answerHeld}
-use Rattle.console.specs.Replies.{heldIn}
+use Rattle.requests.specs.Requests.{Held, refused}
+use Rattle.requests.specs.Replies.{heldIn}
+use Rattle.console.specs.Answers.{answer, answerHeld}
 use Rattle.console.specs.Session.{Line, some, tooLong, State, longer, heldAfter, lineEnds, lineGrows, taken, lineIn, stateOf, PartTaken}
 
 -- a line with a part more, byte by byte

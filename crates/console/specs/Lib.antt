@@ -1,3 +1,2 @@
-pub mod Replies
-pub mod Requests
+pub mod Answers
 pub mod Session

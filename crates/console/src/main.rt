@@ -1,6 +1,6 @@
 // The console: calls of the library from a shell, or from another language. It takes one request a line on standard input, with fields parted by
-// one space, numbers in decimal, bytes in lowercase hex and `-` for none, and answers one line each. A topology is held, at first all zeros, and a table,
-// at first no bytes.
+// one space, numbers in decimal, bytes in lowercase hex and `-` for none, and answers one line each. Held are a topology, a table and a
+// packet, at first all zeros, no bytes and (0, 0).
 //
 //     topology STREAM             NUMBER AT; what reading returned is held from then on
 //     write ROOM                  NUMBER AT BUFFER
@@ -9,17 +9,22 @@
 //     fill D ORDER ROOM           NUMBER AT BUFFER
 //     load-table TABLE            0 0; the bytes are held from then on, untested
 //     check-table                 NUMBER AT
+//     greatest ROOM               NUMBER AT BUFFER
+//     load-packet STATION HOPS    0 0; the packet is held from then on, untested
+//     set START                   set STATION HOPS, and that packet is held from then on; or refused NUMBER AT
+//     hop STATES                  delivered, moved or dropped, then STATION HOPS as the held packet is now; or refused NUMBER AT
+//     walk START SCHEDULE         delivered or dropped, then STATION HOPS; or refused NUMBER AT
 //
-// BUFFER is ROOM bytes of `aa`, at most 65,536 of them, as the call left it. D is at most 255, and MODE is `shortest` or `free`.
+// BUFFER is ROOM bytes of `aa`, at most 65,536 of them, as the call left it. D, START, STATION and HOPS are at most 255, and MODE is `shortest` or `free`.
 // Any other line, and one of more than 262,144 bytes, answers `error` and changes nothing.
-mod asked;
-mod calls;
-mod replies;
-mod requests;
+mod answers;
 
-use calls::Holding;
+use forwarding::Packet;
 use libc::STDIN_FILENO;
 use libc::STDOUT_FILENO;
+use requests::unchecked::asked;
+use requests::unchecked::calls::Holding;
+use requests::unchecked::replies;
 use text::unchecked::fields;
 use text::unchecked::lines;
 use topology::LINKS;
@@ -32,8 +37,8 @@ ghost use mathlib.Core.Path.{_≡_};
 ghost use Prim.Native.Nat.{_≤_};
 ghost use lib.ListN.{length};
 ghost use Rattle.stations.specs.Topology.{zeros};
-ghost use Rattle.console.specs.Requests.{mostLine, mostTable};
-ghost use Rattle.console.specs.Replies.{Ready};
+ghost use Rattle.requests.specs.Requests.{mostLine, mostTable};
+ghost use Rattle.requests.specs.Replies.{Ready};
 ghost use Rattle.console.specs.Session.{LineAnswered, PartTaken, TextTaken};
 
 // What is held, but for the table's bytes; how many bytes of a line have come, LINE + 1 if it is too long; and whether to go on.
@@ -44,7 +49,7 @@ struct Session {
 }
 
 fn begin() -> Session
-    ensures { λ r. ⌜ r ≡ record { held = record { topology = zeros; size = 0 }; count = 0; «open» = true } ⌝ }
+    ensures { λ r. ⌜ r ≡ record { held = record { topology = zeros; size = 0; packet = record { station = record { 0 = 0 }; hops = 0 } }; count = 0; «open» = true } ⌝ }
 {
     let none = Link {
         first: Place(0),
@@ -61,6 +66,10 @@ fn begin() -> Session
     let nothing = Holding {
         topology: zeros,
         size: 0,
+        packet: Packet {
+            station: Place(0),
+            hops: 0,
+        },
     };
     Session {
         held: nothing,
@@ -77,7 +86,7 @@ fn answer(s: Session, table: &mut [u8], line: &[u8]) -> Session
     let mut out = replies::room_for_answer();
     let h = s.held;
     let count = s.count;
-    let turn = requests::respond(h, table, line, count, &mut out);
+    let turn = answers::respond(h, table, line, count, &mut out);
     let held = turn.held;
     let n = turn.count;
     let is_written = io::write_all(STDOUT_FILENO, &out[..n]);

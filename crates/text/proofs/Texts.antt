@@ -14,7 +14,7 @@ use lib.ListN.{length, getD, drop, length-append}
 use Rattle.io.specs.Digits.{glyph, digits}
 use Rattle.text.specs.Numbers.{lastDigits, numberText}
 use Rattle.text.specs.Hex.{none, digit, hexOf, bytesText}
-use Rattle.text.specs.Lines.{Put, Gathered, fits, countWith, bufferWith, answerText, answerLine, bufferLine, newline}
+use Rattle.text.specs.Lines.{Put, Gathered, fits, countWith, bufferWith, answerText, answerLine, wordLine, bufferLine, newline}
 use Rattle.text.proofs.Scan.{rest, no-rest}
 
 module _ (buffer : List ℕ) (count : ℕ) (part : List ℕ) where
@@ -124,6 +124,10 @@ text-length (b ∷ s) = omega (arith, hex-length (b ∷ s))
 pub answer-line-length : (number at : ℕ) → length (answerLine number at) ≤ 42
 unfolding answerLine
 answer-line-length number at = simp (length-append) (omega (arith, answer-length number at))
+
+pub word-line-length : (word : List ℕ) (number at : ℕ) → length (wordLine word number at) ≤ length word + 43
+unfolding wordLine
+word-line-length word number at = simp (length-append) (omega (arith, answer-line-length number at))
 
 pub buffer-line-length : (number at : ℕ) (buffer : List ℕ) → length (bufferLine number at buffer) ≤ 44 + 2 * length buffer
 unfolding bufferLine

@@ -49,6 +49,10 @@ answerText number at = numberText number ++ (space ∷ numberText at)
 unfoldable pub answerLine : ℕ → ℕ → List ℕ
 answerLine number at = answerText number at ++ (newline ∷ [])
 
+-- a word, NUMBER AT and the line's end
+unfoldable pub wordLine : List ℕ → ℕ → ℕ → List ℕ
+wordLine word number at = word ++ (space ∷ answerLine number at)
+
 -- NUMBER AT BUFFER and the line's end
 unfoldable pub bufferLine : ℕ → ℕ → List ℕ → List ℕ
 bufferLine number at buffer = answerText number at ++ (space ∷ bytesText buffer ++ (newline ∷ []))

@@ -1,37 +1,84 @@
--- The prover computes every starred fact from the definitions.
+-- The prover computes every fact from the definitions.
 -- Assumes nothing.
+use mathlib.Core.Path.{refl}
 use Rattle.network.specs.Lists.{numbersFrom, below, keep, every, any, leastBy, greatestBy, ahead, foremost, insert, sort, member, distinct, sameNumbers, wins}
 use Rattle.network.specs.Network.{size, idOf, arcsOf, greatestCost, arcsAmong, linked, soundLink, samePair, pairsDiffer, soundLinks}
-use Rattle.network.specs.Distance.{absent, distanceIn, through, atFirst, round, rounds, distances}
-use Rattle.network.specs.Order.{reached, shortestNextHops, leadsInto, ready, candidate, placedNeighbours, preferred, select, continued, placing}
-use Rattle.network.specs.Order.{build}
+use Rattle.network.specs.Distance as of-distance
+use Rattle.network.specs.Distance.{absent, distanceIn, through, round, rounds, distances}
+use Rattle.network.specs.Order as of-order
+use Rattle.network.specs.Order.{reached, shortestNextHops, leadsInto, ready, candidate, placedNeighbours, preferred, select, continued, placing, build}
+use Rattle.network.specs.Order.{candidatesInTurn, holdsEachOnce, firstIs, othersInTurn}
 use Rattle.network.specs.Row.{rank, sortsBefore, rankedBefore, fullRow, row}
 use Rattle.network.specs.Forwarding.{hopTo, hop, walkOn, walkEnd, walk, start, routeOn, route, longest}
 use Rattle.network.specs.Calls.{afterHop, afterCall, afterCalls}
 use Rattle.network.specs.Routing.{up, firstLive, validStates, greatestHop, greatestHops, costOf}
 use Rattle.network.proofs.Linked.{linked-well-formed}
-use Rattle.worked.specs.Fact.{upBut, leftAt, endsSo, callOf, claimHolds, holds}
-use Rattle.worked.specs.Starred.{link, T-network, F-network, alone, about, thenAllUp, starred, StarredHold, T-reversed, allUp, further, FurtherHold}
-use Rattle.worked.specs.Starred.{WorkedWellFormed}
-
-both-hold : StarredHold × FurtherHold
-unfolding numbersFrom below keep every any leastBy greatestBy ahead foremost insert sort member sameNumbers wins
-    size idOf arcsOf greatestCost arcsAmong linked
-    absent distanceIn through atFirst round rounds distances
-    reached shortestNextHops leadsInto ready candidate placedNeighbours preferred select continued placing build
-    rank sortsBefore rankedBefore fullRow row
-    hopTo hop walkOn walkEnd walk start routeOn route longest afterHop afterCall afterCalls
-    up firstLive validStates greatestHop greatestHops costOf
-    upBut leftAt endsSo callOf claimHolds holds
-    link T-network F-network alone T-reversed about thenAllUp allUp starred further
-both-hold = (tt, tt)
+use Rattle.stations.specs.Inner.{firstOr}
+use Rattle.stations.specs.Outcome.{turnedAway, given}
+use Rattle.stations.specs.Topology.{noLink, padded, contents, held, zeros, seen, networkIn, networkOf}
+use Rattle.soundness.specs.Apart.{apart}
+use Rattle.soundness.specs.Sound.{within, inLimits, wellLinked, uncrowded, none?, connected, isNoLink, unusedZero, slotted, sound}
+use Rattle.stream.specs.Stream.{bigEndianOn, bigEndian, bodyLength, linkIn, decoded, recordIn, records}
+use Rattle.stream.specs.Reading.{refusal, accepted, routerFault, crowded, linkFault, fault, added, width, isEnd, joined, ended, unless, some?, inTurn}
+use Rattle.stream.specs.Reading.{nothingListed, reading}
+use Rattle.stream.specs.Table.{T-stream}
+use Rattle.topology.specs.Written.{joinedOver}
+use Rattle.order.specs.Calls.{modeOf, building, says, wrongRanks, unreadyRanks, atFirst, judging, checking}
+use Rattle.order.specs.Table.{answers}
+use Rattle.rows.specs.Bytes.{rowBytes, headerBytes, rowOf, rowsBytes, tableBytes, rowStart}
+use Rattle.table.specs.Listed.{kindIn, destinationIn, countIn, limitIn, rankIn, placesIn, arcsTo, entriesIn, listed, orderIn}
+use Rattle.table.specs.Calls.{unlessRefused, filling, soundHeader, soundRanks, differing, wrongBytes, tableJudging, tableChecking}
+use Rattle.table.specs.Facts.{room}
+use Rattle.forwarding.specs.Schedule.{rowIn, rowCounts, rowsIn, soundLength, wrongStates}
+use Rattle.forwarding.specs.Calls.{tested, testedBy, testedOver, figure, figures, countingHops, walking}
+use Rattle.worked.specs.Fact.{upBut, leftAt, callOf, claimHolds, holds}
+use Rattle.worked.specs.Chain.{wrote, endsSo, byTable, byOrder, byReading, follows}
+use Rattle.worked.specs.Starred.{link, T-network, F-network, alone, about, F-stream, F-limited, alone-stream, from, F-schedule, starred, StarredHold}
+use Rattle.worked.specs.Starred.{T-reversed, allUp, further, FurtherHold, WorkedWellFormed, StreamsRead}
 
 pub starred-hold : StarredHold
-starred-hold = both-hold .0
+unfolding numbersFrom below keep every any leastBy greatestBy ahead foremost insert sort member distinct sameNumbers wins
+    size idOf arcsOf greatestCost arcsAmong linked soundLink samePair pairsDiffer soundLinks
+    absent distanceIn through of-distance.atFirst round rounds distances
+    reached shortestNextHops leadsInto ready candidate placedNeighbours preferred select continued placing build
+    candidatesInTurn holdsEachOnce firstIs othersInTurn of-order.accepted
+    rank sortsBefore rankedBefore fullRow row
+    hopTo hop walkOn walkEnd walk start longest up firstLive
+    firstOr turnedAway given noLink padded contents held zeros seen networkIn networkOf apart
+    within inLimits wellLinked uncrowded none? connected isNoLink unusedZero slotted sound
+    bigEndianOn bigEndian bodyLength linkIn decoded recordIn records
+    refusal accepted routerFault crowded linkFault fault added width isEnd joined ended unless some? inTurn nothingListed reading
+    T-stream joinedOver modeOf building says wrongRanks unreadyRanks atFirst judging checking answers
+    rowBytes headerBytes rowOf rowsBytes tableBytes rowStart
+    kindIn destinationIn countIn limitIn rankIn placesIn arcsTo entriesIn listed orderIn
+    unlessRefused filling soundHeader soundRanks differing wrongBytes tableJudging tableChecking room
+    rowIn rowCounts rowsIn soundLength wrongStates tested testedBy testedOver figure figures countingHops walking
+    upBut leftAt wrote endsSo byTable byOrder byReading follows
+    link F-network F-stream F-limited alone-stream from F-schedule starred
+starred-hold = tt
 
 pub further-hold : FurtherHold
-further-hold = both-hold .1
+unfolding numbersFrom below keep every any leastBy greatestBy ahead foremost insert sort member sameNumbers wins
+    size idOf arcsOf greatestCost arcsAmong linked
+    absent distanceIn through of-distance.atFirst round rounds distances
+    reached shortestNextHops leadsInto ready candidate placedNeighbours preferred select continued placing build
+    rank sortsBefore rankedBefore fullRow row
+    hopTo hop start routeOn route longest afterHop afterCall afterCalls
+    up firstLive validStates greatestHop greatestHops costOf
+    upBut leftAt callOf claimHolds holds
+    link T-network F-network T-reversed about allUp further
+further-hold = tt
 
 pub worked-well-formed : WorkedWellFormed
 unfolding every any member distinct greatestCost soundLink samePair pairsDiffer soundLinks link T-network F-network alone
 worked-well-formed = (linked-well-formed _ _ tt, linked-well-formed _ _ tt, linked-well-formed _ _ tt)
+
+pub streams-read : StreamsRead
+unfolding numbersFrom below keep every any leastBy member
+    size arcsOf greatestCost arcsAmong linked samePair
+    absent distanceIn through of-distance.atFirst round rounds distances reached
+    noLink padded contents held zeros seen networkIn networkOf apart within
+    bigEndianOn bigEndian bodyLength linkIn decoded recordIn records
+    refusal accepted routerFault crowded linkFault fault added width isEnd joined ended unless some? inTurn nothingListed reading
+    T-stream link T-network F-network alone F-stream alone-stream
+streams-read = (refl, refl, refl)

@@ -1,7 +1,7 @@
 -- A worked fact: which network, destination and mode, what is asked of the order that is built for it, and what is expected.
 -- Assumes nothing.
 use Prim.Native.Nat.{ℕ}
-use mathlib.Core.Bool.{Bool, false, cond, _&&_}
+use mathlib.Core.Bool.{Bool, cond, _&&_}
 use mathlib.Core.List.{List, map}
 use lib.Dec.{eqb}
 use Rattle.network.specs.Lists.{below, member, sameNumbers}
@@ -9,14 +9,9 @@ use Rattle.network.specs.Network.{Network}
 use Rattle.network.specs.Distance.{distances}
 use Rattle.network.specs.Order.{Mode, build}
 use Rattle.network.specs.Row.{row}
-use Rattle.network.specs.Forwarding.{Packet, Walk, delivered-at, dropped-at, unfinished-at, walk, start, route}
+use Rattle.network.specs.Forwarding.{Packet, start, route}
 use Rattle.network.specs.Calls.{Call, setting, hopping, afterCalls}
 use Rattle.network.specs.Routing.{routers, greatestHops, callTests, costOf}
-
--- Which end a walk is expected to have, at which station, after how many hops.
-pub data End : Type 0 where
-  delivered : ℕ → ℕ → End
-  dropped : ℕ → ℕ → End
 
 -- One call on a packet: a setting at a start, or a hop under a row of link states.
 pub data Step : Type 0 where
@@ -30,8 +25,6 @@ pub data Claim : Type 0 where
   row-is : ℕ → ℕ → List ℕ → Claim
   -- with the limit K, the greatest hop count of every place
   greatest-are : ℕ → List ℕ → Claim
-  -- with the limit K, a walk from a start under a schedule
-  walk-ends : ℕ → ℕ → List (List ℕ) → End → Claim
   -- with the limit K, what the arcs of a walk from a start under a schedule cost
   walk-costs : ℕ → ℕ → List (List ℕ) → ℕ → Claim
   -- with the limit K, the station and the hops made of a packet after a list of calls, at first at place 0 with 0 hops made
@@ -50,14 +43,6 @@ upBut n down = map (λ link. cond (member link down) 0 1) (below (n .links))
 unfoldable pub leftAt : Packet ℕ → ℕ → ℕ → Bool
 leftAt p station hops = eqb (p .station) station && eqb (p .hops) hops
 
-unfoldable pub endsSo : End → Walk ℕ → Bool
-endsSo (delivered station hops) (delivered-at p) = leftAt p station hops
-endsSo (delivered station hops) (dropped-at p) = false
-endsSo (delivered station hops) (unfinished-at p) = false
-endsSo (dropped station hops) (delivered-at p) = false
-endsSo (dropped station hops) (dropped-at p) = leftAt p station hops
-endsSo (dropped station hops) (unfinished-at p) = false
-
 unfoldable pub callOf : (n : Network) (d limit : ℕ) (order : List ℕ) → Step → Call (routers n d limit order)
 callOf n d limit order (set u) = setting u
 callOf n d limit order (hop states) = hopping states
@@ -67,7 +52,6 @@ unfoldable pub claimHolds : Network → ℕ → List ℕ → Claim → Bool
 claimHolds n d order (order-is expected) = sameNumbers order expected
 claimHolds n d order (row-is limit u expected) = sameNumbers (map (λ a. a .to) (row n (distances n d) limit order u)) expected
 claimHolds n d order (greatest-are limit expected) = sameNumbers (greatestHops n d limit order) expected
-claimHolds n d order (walk-ends limit u schedule expected) = endsSo expected (walk (routers n d limit order) schedule (start u))
 claimHolds n d order (walk-costs limit u schedule expected) = eqb (costOf (route (routers n d limit order) schedule u)) expected
 claimHolds n d order (calls-leave limit steps station hops) =
     leftAt (afterCalls (routers n d limit order) (callTests n d limit order) (map (callOf n d limit order) steps) (start 0)) station hops

@@ -1,14 +1,21 @@
 -- The starred facts of 01, Two networks by hand, as one list. A new fact is one line.
 -- Assumes nothing.
-use Prim.Native.Nat.{ℕ, _-_}
-use mathlib.Core.List.{List, [], _∷_, _++_}
+use Prim.Native.Nat.{ℕ}
+use mathlib.Core.List.{List, [], _∷_}
+use mathlib.Core.Path.{_≡_}
 use lib.Dec.{T}
-use lib.ListN.{length, replicate}
+use lib.ListN.{replicate}
 use Rattle.network.specs.Lists.{every}
 use Rattle.network.specs.Network.{Network, Link, WellFormed, linked}
 use Rattle.network.specs.Order.{Mode, shortest-path, free}
-use Rattle.worked.specs.Fact.{Fact, Claim, order-is, row-is, greatest-are, walk-ends, walk-costs, calls-leave, delivered, dropped}
-use Rattle.worked.specs.Fact.{set, hop, upBut, holds}
+use Rattle.stations.specs.Topology.{networkOf}
+use Rattle.stream.specs.Reading.{reading}
+use Rattle.stream.specs.Table.{T-stream}
+use Rattle.topology.specs.Written.{joinedOver}
+use Rattle.order.specs.declared.Mode as call
+use Rattle.order.specs.declared.Mode.the-variants.{ShortestPath, Free}
+use Rattle.worked.specs.Fact.{Fact, Claim, order-is, row-is, greatest-are, walk-costs, calls-leave, set, hop, upBut, holds}
+use Rattle.worked.specs.Chain.{Chain, Expected, builds, lists, counts, walks, delivered, dropped, follows}
 
 unfoldable pub link : ℕ → ℕ → ℕ → Link
 link u v c = record { first = u; second = v; cost = c }
@@ -27,33 +34,48 @@ F-network =
 unfoldable pub alone : Network
 alone = linked (1 ∷ []) []
 
-unfoldable pub about : Network → ℕ → Mode → Claim → Fact
-about n d mode claim = record { network = n; destination = d; mode = mode; claim = claim }
+-- F in bytes: its routers, and its links in two lines
+unfoldable pub F-stream : List ℕ
+F-stream =
+    1 ∷ 0 ∷ 0 ∷ 0 ∷ 1 ∷ 1 ∷ 0 ∷ 0 ∷ 0 ∷ 2 ∷ 1 ∷ 0 ∷ 0 ∷ 0 ∷ 3 ∷ 1 ∷ 0 ∷ 0 ∷ 0 ∷ 4 ∷ 1 ∷ 0 ∷ 0 ∷ 0 ∷ 5 ∷ 1 ∷ 0 ∷ 0 ∷ 0 ∷ 6
+    ∷ 2 ∷ 0 ∷ 1 ∷ 0 ∷ 1 ∷ 2 ∷ 0 ∷ 2 ∷ 0 ∷ 1 ∷ 2 ∷ 1 ∷ 2 ∷ 0 ∷ 1 ∷ 2 ∷ 1 ∷ 3 ∷ 0 ∷ 1
+    ∷ 2 ∷ 2 ∷ 4 ∷ 0 ∷ 1 ∷ 2 ∷ 3 ∷ 4 ∷ 0 ∷ 1 ∷ 2 ∷ 3 ∷ 5 ∷ 0 ∷ 1 ∷ 2 ∷ 4 ∷ 5 ∷ 0 ∷ 1 ∷ 3 ∷ []
 
--- a schedule for F of N - 1 rows, five: the given ones, then rows with all links up
-unfoldable pub thenAllUp : List (List ℕ) → List (List ℕ)
-thenAllUp rows = rows ++ replicate (5 - length rows) (upBut F-network [])
+-- F with K = 1: the record `08 01` in front
+unfoldable pub F-limited : List ℕ
+F-limited = 8 ∷ 1 ∷ F-stream
 
-unfoldable pub starred : List Fact
+-- one router alone, in bytes
+unfoldable pub alone-stream : List ℕ
+alone-stream = 1 ∷ 0 ∷ 0 ∷ 0 ∷ 1 ∷ 3 ∷ []
+
+unfoldable pub from : List ℕ → ℕ → call.Mode → Expected → Chain
+from stream d m expected = record { stream = stream; destination = d; mode = m; expected = expected }
+
+-- a schedule for F in bytes, a row of 8 for each list of links, these down and the rest up; N - 1 = 5 rows are enough
+unfoldable pub F-schedule : List (List ℕ) → List ℕ
+F-schedule down = joinedOver (upBut F-network) down
+
+unfoldable pub starred : List Chain
 starred =
-    about T-network 0 shortest-path (order-is (0 ∷ 1 ∷ 2 ∷ []))
-    ∷ about T-network 1 shortest-path (order-is (1 ∷ 2 ∷ 0 ∷ []))
-    ∷ about T-network 2 shortest-path (order-is (2 ∷ 1 ∷ 0 ∷ []))
-    ∷ about T-network 0 free (order-is (0 ∷ 2 ∷ 1 ∷ []))
-    ∷ about T-network 0 free (row-is 16 1 (0 ∷ 2 ∷ []))
-    ∷ about F-network 0 shortest-path (order-is (0 ∷ 2 ∷ 1 ∷ 4 ∷ 3 ∷ 5 ∷ []))
-    ∷ about F-network 0 shortest-path (greatest-are 16 (0 ∷ 2 ∷ 1 ∷ 3 ∷ 2 ∷ 4 ∷ []))
-    ∷ about F-network 0 shortest-path (greatest-are 1 (0 ∷ 1 ∷ 1 ∷ 2 ∷ 2 ∷ 3 ∷ []))
-    ∷ about F-network 0 shortest-path (walk-ends 16 5 (thenAllUp []) (delivered 0 3))
-    ∷ about F-network 0 shortest-path (walk-ends 16 5 (replicate 5 (upBut F-network (1 ∷ []))) (dropped 2 2))
-    ∷ about F-network 0 shortest-path (walk-ends 16 5 (thenAllUp (upBut F-network (7 ∷ []) ∷ upBut F-network (3 ∷ []) ∷ [])) (delivered 0 4))
-    ∷ about alone 0 shortest-path (order-is (0 ∷ []))
-    ∷ about alone 0 shortest-path (walk-ends 16 0 [] (delivered 0 0))
+    from T-stream 0 ShortestPath (builds (0 ∷ 1 ∷ 2 ∷ []))
+    ∷ from T-stream 1 ShortestPath (builds (1 ∷ 2 ∷ 0 ∷ []))
+    ∷ from T-stream 2 ShortestPath (builds (2 ∷ 1 ∷ 0 ∷ []))
+    ∷ from T-stream 0 Free (builds (0 ∷ 2 ∷ 1 ∷ []))
+    ∷ from T-stream 0 Free (lists 1 (0 ∷ 2 ∷ []))
+    ∷ from F-stream 0 ShortestPath (builds (0 ∷ 2 ∷ 1 ∷ 4 ∷ 3 ∷ 5 ∷ []))
+    ∷ from F-stream 0 ShortestPath (counts (0 ∷ 2 ∷ 1 ∷ 3 ∷ 2 ∷ 4 ∷ []))
+    ∷ from F-limited 0 ShortestPath (counts (0 ∷ 1 ∷ 1 ∷ 2 ∷ 2 ∷ 3 ∷ []))
+    ∷ from F-stream 0 ShortestPath (walks 5 (F-schedule (replicate 5 [])) (delivered 0 3))
+    ∷ from F-stream 0 ShortestPath (walks 5 (F-schedule (replicate 5 (1 ∷ []))) (dropped 2 2))
+    ∷ from F-stream 0 ShortestPath (walks 5 (F-schedule ((7 ∷ []) ∷ (3 ∷ []) ∷ replicate 3 [])) (delivered 0 4))
+    ∷ from alone-stream 0 ShortestPath (builds (0 ∷ []))
+    ∷ from alone-stream 0 ShortestPath (walks 0 [] (delivered 0 0))
     ∷ []
 
--- The one statement: every fact of the list holds, by computing it.
+-- The one statement: every fact of the list holds, by computing all of its calls.
 abbrev pub StarredHold : Type 0
-StarredHold = T (every holds starred)
+StarredHold = T (every follows starred)
 
 -- T with its IDs against the places, 3, 2, 1: the tie of the free mode now goes to place 1
 unfoldable pub T-reversed : Network
@@ -62,6 +84,9 @@ T-reversed = linked (3 ∷ 2 ∷ 1 ∷ []) (link 0 1 1 ∷ link 1 2 1 ∷ link 0
 -- the states of T's three links, all up
 unfoldable pub allUp : List ℕ
 allUp = upBut T-network []
+
+unfoldable pub about : Network → ℕ → Mode → Claim → Fact
+about n d mode claim = record { network = n; destination = d; mode = mode; claim = claim }
 
 -- Facts beside the starred ones: 01's listing of T and its rows of F, where a tie stands in a row; T with its IDs reversed, where an ID taken for a
 -- place would show; lists of calls, refused ones included, and what walks cost, worked by hand.
@@ -88,7 +113,7 @@ further =
     ∷ about T-reversed 2 free (row-is 16 1 (2 ∷ 0 ∷ []))
     ∷ about T-network 0 shortest-path (walk-costs 16 2 (allUp ∷ allUp ∷ []) 2)
     ∷ about T-network 0 shortest-path (walk-costs 16 2 (upBut T-network (1 ∷ []) ∷ allUp ∷ []) 3)
-    ∷ about F-network 0 shortest-path (walk-costs 16 5 (thenAllUp []) 3)
+    ∷ about F-network 0 shortest-path (walk-costs 16 5 (replicate 5 (upBut F-network [])) 3)
     ∷ about T-network 0 shortest-path (calls-leave 16 (set 2 ∷ hop allUp ∷ []) 1 1)
     ∷ about T-network 0 shortest-path (calls-leave 16 (set 2 ∷ hop (1 ∷ 1 ∷ []) ∷ []) 2 0)
     ∷ about T-network 0 shortest-path (calls-leave 16 (set 2 ∷ hop allUp ∷ set 3 ∷ []) 1 1)
@@ -103,3 +128,10 @@ FurtherHold = T (every holds further)
 -- The three networks are well formed, so every theorem of the crate network holds of them.
 abbrev pub WorkedWellFormed : Type 0
 WorkedWellFormed = WellFormed T-network × WellFormed F-network × WellFormed alone
+
+-- The streams are read as these networks.
+abbrev pub StreamsRead : Type 0
+StreamsRead =
+    (networkOf (reading T-stream .topology) ≡ T-network)
+    × (networkOf (reading F-stream .topology) ≡ F-network)
+    × (networkOf (reading alone-stream .topology) ≡ alone)

@@ -62,10 +62,14 @@ take-part-requires c κs =
     (record { size = l .inv .2; room = omega arith }, omega arith)
 
 add-at : tie.Need-add-at Inv-loop μ-loop
-add-at c = omega (arith, within (c .before .before .before .before .before .before .before .before))
+add-at c =
+    let width = c .before .before .before .before .before .before .before .before in
+    omega (arith, within width, width .before .before .before .before .before .before .before .good .1 .1 .1 .0 .1)
 
 add-at-2 : tie.Need-add-at-2 Inv-loop μ-loop
-add-at-2 c = omega (arith, within (c .before .before .before .before .before .before .before .before))
+add-at-2 c =
+    let width = c .before .before .before .before .before .before .before .before in
+    omega (arith, within width, width .before .before .before .before .before .before .before .good .1 .1 .1 .0 .1)
 
 loop-less : tie.Need-loop-less Inv-loop μ-loop
 loop-less c = omega arith

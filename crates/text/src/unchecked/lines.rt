@@ -6,7 +6,7 @@ ghost use lib.Seq.{sets};
 ghost use Rattle.text.specs.Hex.{hexOf, bytesText};
 ghost use Rattle.text.specs.Hex as hex;
 ghost use Rattle.text.specs.Numbers.{numberText};
-ghost use Rattle.text.specs.Lines.{Put, Gathered, errorLine, answerText, answerLine, bufferLine};
+ghost use Rattle.text.specs.Lines.{Put, Gathered, errorLine, answerText, answerLine, wordLine, bufferLine};
 
 // Puts a text into a buffer from an offset on, and answers the offset after it.
 fn put(out: &mut [u8], at: usize, text: &[u8]) -> usize
@@ -83,11 +83,11 @@ pub fn put_error(out: &mut [u8]) -> usize
     put(out, 0, b"error\n")
 }
 
-fn put_answer(out: &mut [u8], number: u8, at: usize) -> usize
-    requires { ⌜ 41 ≤ length (now out) ⌝ }
-    ensures { λ r. ⌜ Put (now (out .entry)) 0 (answerText number at) r (now (out .exit)) ⌝ }
+fn put_answer(out: &mut [u8], start: usize, number: u8, at: usize) -> usize
+    requires { ⌜ start + 41 ≤ length (now out) ⌝ }
+    ensures { λ r. ⌜ Put (now (out .entry)) start (answerText number at) r (now (out .exit)) ⌝ }
 {
-    let space = put_number(out, 0, number as usize);
+    let space = put_number(out, start, number as usize);
     let next = put(out, space, b" ");
     put_number(out, next, at)
 }
@@ -97,7 +97,18 @@ pub fn put_answer_line(out: &mut [u8], number: u8, at: usize) -> usize
     requires { ⌜ 42 ≤ length (now out) ⌝ }
     ensures { λ r. ⌜ Put (now (out .entry)) 0 (answerLine number at) r (now (out .exit)) ⌝ }
 {
-    let end = put_answer(out, number, at);
+    let end = put_answer(out, 0, number, at);
+    put(out, end, b"\n")
+}
+
+// A word, NUMBER AT
+pub fn put_word_line(out: &mut [u8], word: &[u8], number: u8, at: usize) -> usize
+    requires { ⌜ length (now word) + 43 ≤ length (now out) ⌝ }
+    ensures { λ r. ⌜ Put (now (out .entry)) 0 (wordLine (now (word .entry)) number at) r (now (out .exit)) ⌝ }
+{
+    let space = put(out, 0, word);
+    let next = put(out, space, b" ");
+    let end = put_answer(out, next, number, at);
     put(out, end, b"\n")
 }
 
@@ -106,7 +117,7 @@ pub fn put_buffer_line(out: &mut [u8], number: u8, at: usize, buffer: &[u8]) -> 
     requires { ⌜ 44 + 2 * length (now buffer) ≤ length (now out) ⌝ }
     ensures { λ r. ⌜ Put (now (out .entry)) 0 (bufferLine number at (now (buffer .entry))) r (now (out .exit)) ⌝ }
 {
-    let space = put_answer(out, number, at);
+    let space = put_answer(out, 0, number, at);
     let next = put(out, space, b" ");
     let end = put_bytes(out, next, buffer);
     put(out, end, b"\n")

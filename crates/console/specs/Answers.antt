@@ -1,0 +1,120 @@
+-- Which request a line is, what it answers, and what is held from then on. `answer` is the whole of it.
+-- Assumes nothing.
+use Prim.Native.Nat.{ℕ, _≤_}
+use mathlib.Core.Bool.{cond}
+use mathlib.Core.List.{List, [], _∷_}
+use mathlib.Core.Path.{_≡_}
+use lib.Dec.{leb}
+use lib.ListN.{length, take}
+use Rattle.text.specs.Fields.{asks}
+use Rattle.text.specs.Lines.{Put}
+use Rattle.requests.specs.Requests.{Held, Answered, unchanged, refused, setWord, readIn, loadIn, writeIn, orderIn, checkOrderIn, fillIn, checkTable, countIn, loadPacketIn, setIn, hopIn, walkIn}
+use Rattle.requests.specs.Replies.{heldIn}
+use Rattle.console.specs.declared.answers.Turn.{Turn}
+use Rattle.console.specs.declared.answers.Request.{Request}
+use Rattle.console.specs.declared.answers.Request.the-variants as request
+
+-- `topology`
+unfoldable pub topologyWord : List ℕ
+topologyWord = 116 ∷ 111 ∷ 112 ∷ 111 ∷ 108 ∷ 111 ∷ 103 ∷ 121 ∷ []
+
+-- `write`
+unfoldable pub writeWord : List ℕ
+writeWord = 119 ∷ 114 ∷ 105 ∷ 116 ∷ 101 ∷ []
+
+-- `order`
+unfoldable pub orderWord : List ℕ
+orderWord = 111 ∷ 114 ∷ 100 ∷ 101 ∷ 114 ∷ []
+
+-- `check-order`
+unfoldable pub checkOrderWord : List ℕ
+checkOrderWord = 99 ∷ 104 ∷ 101 ∷ 99 ∷ 107 ∷ 45 ∷ 111 ∷ 114 ∷ 100 ∷ 101 ∷ 114 ∷ []
+
+-- `fill`
+unfoldable pub fillWord : List ℕ
+fillWord = 102 ∷ 105 ∷ 108 ∷ 108 ∷ []
+
+-- `load-table`
+unfoldable pub loadTableWord : List ℕ
+loadTableWord = 108 ∷ 111 ∷ 97 ∷ 100 ∷ 45 ∷ 116 ∷ 97 ∷ 98 ∷ 108 ∷ 101 ∷ []
+
+-- `check-table`
+unfoldable pub checkTableWord : List ℕ
+checkTableWord = 99 ∷ 104 ∷ 101 ∷ 99 ∷ 107 ∷ 45 ∷ 116 ∷ 97 ∷ 98 ∷ 108 ∷ 101 ∷ []
+
+-- `greatest`
+unfoldable pub greatestWord : List ℕ
+greatestWord = 103 ∷ 114 ∷ 101 ∷ 97 ∷ 116 ∷ 101 ∷ 115 ∷ 116 ∷ []
+
+-- `load-packet`
+unfoldable pub loadPacketWord : List ℕ
+loadPacketWord = 108 ∷ 111 ∷ 97 ∷ 100 ∷ 45 ∷ 112 ∷ 97 ∷ 99 ∷ 107 ∷ 101 ∷ 116 ∷ []
+
+-- `hop`
+unfoldable pub hopWord : List ℕ
+hopWord = 104 ∷ 111 ∷ 112 ∷ []
+
+-- `walk`
+unfoldable pub walkWord : List ℕ
+walkWord = 119 ∷ 97 ∷ 108 ∷ 107 ∷ []
+
+-- A request's first word, and the number of fields after it.
+pub record Form : Type 0 where
+  pub word : List ℕ
+  pub fields : ℕ
+  pub request : Request
+
+unfoldable pub forms : List Form
+forms =
+    record { word = topologyWord; fields = 1; request = request.Topology } ∷
+    record { word = writeWord; fields = 1; request = request.Write } ∷
+    record { word = orderWord; fields = 3; request = request.Order } ∷
+    record { word = checkOrderWord; fields = 3; request = request.CheckOrder } ∷
+    record { word = fillWord; fields = 3; request = request.Fill } ∷
+    record { word = loadTableWord; fields = 1; request = request.LoadTable } ∷
+    record { word = checkTableWord; fields = 0; request = request.CheckTable } ∷
+    record { word = greatestWord; fields = 1; request = request.Greatest } ∷
+    record { word = loadPacketWord; fields = 2; request = request.LoadPacket } ∷
+    record { word = setWord; fields = 1; request = request.Set } ∷
+    record { word = hopWord; fields = 1; request = request.Hop } ∷
+    record { word = walkWord; fields = 2; request = request.Walk } ∷ []
+
+-- the request of the first form that a line has
+unfoldable pub formed : List Form → List ℕ → Request
+formed [] line = request.Unknown
+formed (f ∷ fs) line = cond (asks (f .word) (f .fields) line) (f .request) (formed fs line)
+
+-- which request a line is
+unfoldable pub requestIn : List ℕ → Request
+requestIn line = formed forms line
+
+-- what such a request answers, with what is held
+unfoldable pub answerTo : Request → Held → List ℕ → Answered
+answerTo request.Topology h line = readIn h line
+answerTo request.Write h line = unchanged h (writeIn (h .topology) line)
+answerTo request.Order h line = unchanged h (orderIn (h .topology) line)
+answerTo request.CheckOrder h line = unchanged h (checkOrderIn (h .topology) line)
+answerTo request.Fill h line = unchanged h (fillIn (h .topology) line)
+answerTo request.LoadTable h line = loadIn h line
+answerTo request.CheckTable h line = unchanged h (checkTable h)
+answerTo request.Greatest h line = unchanged h (countIn h line)
+answerTo request.LoadPacket h line = loadPacketIn h line
+answerTo request.Set h line = setIn h line
+answerTo request.Hop h line = hopIn h line
+answerTo request.Walk h line = unchanged h (walkIn h line)
+answerTo request.Unknown h line = refused h
+
+-- what a line answers
+unfoldable pub answer : Held → List ℕ → Answered
+answer h line = answerTo (requestIn line) h line
+
+-- what a line answers of which so many bytes have come, if the buffer holds them all; one that is too long is no request
+unfoldable pub answerHeld : Held → List ℕ → ℕ → Answered
+answerHeld h buffer count = cond (leb count (length buffer)) (answer h (take count buffer)) (refused h)
+
+-- A line was answered: what it leaves is held, and the line that answers was put at the start of a lent buffer, which it fits.
+pub record Told (a : Answered) (r : Turn) (table entry exit : List ℕ) : Type 0 where
+  pub held : heldIn (r .held) table ≡ a .held
+  pub size : r .held .size ≤ length table
+  pub fits : length (a .text) ≤ length entry
+  pub put : Put entry 0 (a .text) (r .count) exit

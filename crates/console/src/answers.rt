@@ -1,0 +1,163 @@
+// A line is answered: what is held from then on, and the line that answers, in a lent buffer.
+use requests::unchecked::calls;
+use requests::unchecked::calls::Holding;
+use requests::unchecked::calls::Step;
+use requests::unchecked::packets;
+use requests::unchecked::replies;
+use requests::unchecked::replies::Reply;
+use text::unchecked::fields;
+ghost use mathlib.Core.Path.{_≡_};
+ghost use Prim.Native.Nat.{_≤_};
+ghost use lib.ListN.{length};
+ghost use Rattle.requests.specs.Requests.{lent, mostRoom, mostLine, mostAnswer};
+ghost use Rattle.requests.specs.Replies.{Ready, Stepped, heldIn};
+ghost use Rattle.console.specs.Answers.{Told, requestIn, answer, answerHeld};
+
+// The requests, by their first word and the number of fields after it.
+pub enum Request {
+    Topology,
+    Write,
+    Order,
+    CheckOrder,
+    Fill,
+    LoadTable,
+    CheckTable,
+    Greatest,
+    LoadPacket,
+    Set,
+    Hop,
+    Walk,
+    Unknown,
+}
+
+// What a line leaves: what is held from then on, and how many bytes the line that answers has.
+pub struct Turn {
+    pub held: Holding,
+    pub count: usize,
+}
+
+fn request_in(line: &[u8]) -> Request
+    ensures { λ r. ⌜ r ≡ requestIn (now (line .entry)) ⌝ }
+{
+    if fields::asks(line, b"topology", 1) {
+        return Request::Topology;
+    }
+    if fields::asks(line, b"write", 1) {
+        return Request::Write;
+    }
+    if fields::asks(line, b"order", 3) {
+        return Request::Order;
+    }
+    if fields::asks(line, b"check-order", 3) {
+        return Request::CheckOrder;
+    }
+    if fields::asks(line, b"fill", 3) {
+        return Request::Fill;
+    }
+    if fields::asks(line, b"load-table", 1) {
+        return Request::LoadTable;
+    }
+    if fields::asks(line, b"check-table", 0) {
+        return Request::CheckTable;
+    }
+    if fields::asks(line, b"greatest", 1) {
+        return Request::Greatest;
+    }
+    if fields::asks(line, b"load-packet", 2) {
+        return Request::LoadPacket;
+    }
+    if fields::asks(line, b"set", 1) {
+        return Request::Set;
+    }
+    if fields::asks(line, b"hop", 1) {
+        return Request::Hop;
+    }
+    if fields::asks(line, b"walk", 2) {
+        return Request::Walk;
+    }
+    Request::Unknown
+}
+
+// Each request has its function.
+fn step(h: Holding, table: &mut [u8], line: &[u8], buffer: &mut [u8]) -> Step
+    requires { ⌜ Ready h (now table) × (length (now line) ≤ mostLine) × (now buffer ≡ lent mostRoom) ⌝ }
+    ensures { λ r. ⌜ Stepped (answer (heldIn h (now (table .entry))) (now (line .entry))) r (now (table .exit)) (now (buffer .exit)) ⌝ }
+{
+    let t = h.topology;
+    let request = request_in(line);
+    match request {
+        Request::Topology => calls::read(h, line),
+        Request::LoadTable => calls::load_table(h, table, line),
+        Request::LoadPacket => packets::load(h, line),
+        Request::Set => packets::set(h, line),
+        Request::Hop => packets::hop(h, table, line),
+        Request::Write => Step {
+            held: h,
+            reply: calls::write(t, line, buffer),
+        },
+        Request::Order => Step {
+            held: h,
+            reply: calls::build_order(t, line, buffer),
+        },
+        Request::CheckOrder => Step {
+            held: h,
+            reply: calls::check_order(t, line),
+        },
+        Request::Fill => Step {
+            held: h,
+            reply: calls::fill(t, line, buffer),
+        },
+        Request::CheckTable => Step {
+            held: h,
+            reply: calls::check_table(h, table),
+        },
+        Request::Greatest => Step {
+            held: h,
+            reply: calls::count_hops(h, table, line, buffer),
+        },
+        Request::Walk => Step {
+            held: h,
+            reply: packets::walk(h, table, line),
+        },
+        Request::Unknown => Step {
+            held: h,
+            reply: Reply::Error,
+        },
+    }
+}
+
+// The line of which count bytes have come, if the buffer holds them all.
+fn step_held(h: Holding, table: &mut [u8], line: &[u8], count: usize, buffer: &mut [u8]) -> Step
+    requires { ⌜ Ready h (now table) × (length (now line) ≤ mostLine) × (now buffer ≡ lent mostRoom) ⌝ }
+    ensures { λ r. ⌜ Stepped (answerHeld (heldIn h (now (table .entry))) (now (line .entry)) count) r (now (table .exit)) (now (buffer .exit)) ⌝ }
+{
+    if count <= line.len() {
+        return step(h, table, &line[..count], buffer);
+    }
+    Step {
+        held: h,
+        reply: Reply::Error,
+    }
+}
+
+// Answers the line of which count bytes have come.
+pub(crate) fn respond(
+    h: Holding,
+    table: &mut [u8],
+    line: &[u8],
+    count: usize,
+    out: &mut [u8],
+) -> Turn
+    requires { ⌜ Ready h (now table) × (length (now line) ≤ mostLine) × (mostAnswer ≤ length (now out)) ⌝ }
+    ensures { λ r. ⌜ Told (answerHeld (heldIn h (now (table .entry))) (now (line .entry)) count) r (now (table .exit)) (now (out .entry)) (now (out .exit)) ⌝ }
+{
+    let mut buffer = replies::lent();
+    let next = step_held(h, table, line, count, &mut buffer);
+    let held = next.held;
+    let reply = next.reply;
+    let n = replies::put_reply(reply, &buffer, out);
+    Turn {
+        held: held,
+        count: n,
+    }
+}

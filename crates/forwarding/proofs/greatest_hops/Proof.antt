@@ -1,0 +1,80 @@
+-- `forwarding::greatest_hops` meets its contract: the table is checked, 14 and 21, and then the bounds of all places are the figures.
+-- Assumes nothing.
+use mathlib.Core.List.{map}
+use mathlib.Core.Path.{_≡_, sym, ap, _∙_}
+use borrow.Author.Needs.{needs}
+use borrow.Author.Tests.{lt-ltb, le-ltb, ne-eqb}
+use denote.Ref.{now}
+use lib.Dec.{T}
+use lib.ListN.{length}
+use Rattle.network.specs.Lists.{below}
+use Rattle.network.proofs.Below.{below-lt, length-map-below}
+use Rattle.stations.specs.Outcome.{turnedAway, given}
+use Rattle.stations.specs.declared.Answer.{Answer}
+use Rattle.soundness.specs.Sound.{sound}
+use Rattle.soundness.proofs.Sound.{sound-exact}
+use Rattle.order.proofs.Runs.{map-same}
+use Rattle.table.specs.Calls.{unlessRefused, tableChecking}
+use Rattle.table.proofs.Verdicts.{tables-each}
+use Rattle.forwarding.specs.Calls.{figure, figures, countingHops}
+use Rattle.forwarding.specs.Inner.{boundOf}
+use Rattle.forwarding.proofs.Returned.{passed-table}
+use Rattle.forwarding.proofs.greatest_hops.Statement.{statement}
+use Rattle.forwarding.proofs.greatest_hops.Tie as tie
+
+check-requires : tie.Need-check-requires
+check-requires c κs = search needs
+
+returns : tie.Need-returns
+unfolding countingHops unlessRefused turnedAway
+returns c = rw (← c .before .before .check .ensures, ne-eqb _ _ (c .if1 .taken))
+
+-- the table is accepted, and so the topology is sound
+module _ (c : tie.Else1) where
+  whole : let a = c .before .before .before .before .before .args in tableChecking (a .t) (now (a .table)) ≡ record { number = 0; at = 0 }
+  whole = passed-table _ _ (ap (λ (a : Answer). a .number) (sym (c .before .before .check .ensures)) ∙ c .if1 .left)
+
+  passed : T (sound (c .before .before .before .before .before .args .t))
+  passed = tables-each _ _ 0 .says-0 .0 whole .1
+
+  long : let a = c .before .before .before .before .before .args in length (figures (a .t) (now (a .table))) ≡ a .t .routers
+  unfolding figures
+  long = let a = c .before .before .before .before .before .args in length-map-below (figure (a .t) (now (a .table))) (a .t .routers)
+
+returns-2 : tie.Need-returns-2
+unfolding countingHops unlessRefused given turnedAway
+returns-2 c = rw (whole (c .before), long (c .before), lt-ltb _ _ (c .if2 .taken))
+
+bounds-of-requires : tie.Need-bounds-of-requires
+bounds-of-requires c κs = (passed (c .before), whole (c .before))
+
+put-bounds-requires : tie.Need-put-bounds-requires
+put-bounds-requires c κs = (sound-exact _ .0 (passed (c .before .before .before)) .routers-most, c .before .before .if2 .left)
+
+-- the bounds are the figures
+same : (c : tie.After-bounds-of) → let a = c .before .before .before .before .before .before .before .args in
+    map (boundOf (c .bounds-of .result .by)) (below (a .t .routers)) ≡ figures (a .t) (now (a .table))
+unfolding figures
+same c = map-same _ _ _ (λ u m. c .bounds-of .ensures .each u (below-lt _ m))
+
+same-length : tie.Need-same-length
+same-length c = search needs
+
+returns-3 : tie.Need-returns-3
+unfolding countingHops unlessRefused given
+returns-3 c =
+    let b : tie.After-bounds-of = c .before .before .before .before in
+    let e : tie.Else1 = b .before .before in
+    rw (c .before .before .put-bounds .ensures, same b, whole e, long e, le-ltb _ _ (b .before .if2 .left))
+
+pub greatest-hops-spec : {M : Type 1} → statement M
+greatest-hops-spec =
+    tie.close
+    (tie.spec
+    check-requires
+    returns
+    returns-2
+    bounds-of-requires
+    put-bounds-requires
+    same-length
+    returns-3)

@@ -1,0 +1,43 @@
+-- `forwarding::set` meets its contract: its tests are those of a setting, in turn.
+-- Assumes nothing.
+use mathlib.Core.Bool.{true}
+use mathlib.Core.Path.{_≡_, sym, _∙_}
+use native.Mathlib.Omega.{arith}
+use borrow.Author.Needs.{needs}
+use borrow.Author.Tests.{not-true, not-false, lt-ltb, le-ltb}
+use Rattle.network.specs.Forwarding as network
+use Rattle.soundness.specs.Sound.{sound}
+use Rattle.forwarding.specs.Calls.{packetIn, settingSays, tested, settingAt}
+use Rattle.forwarding.proofs.set.Statement.{statement}
+use Rattle.forwarding.proofs.set.Tie as tie
+
+is-sound-requires : tie.Need-is-sound-requires
+is-sound-requires c κs = search needs
+
+returns : tie.Need-returns
+unfolding settingAt settingSays tested
+returns c = rw (sym (c .before .is-sound .ensures) ∙ not-true _ (c .if1 .taken))
+
+index-requires : tie.Need-index-requires
+index-requires c κs = search needs
+
+-- the topology is sound
+good : (c : tie.Else1) → sound (c .before .before .args .t) ≡ true
+good c = sym (c .before .is-sound .ensures) ∙ not-false _ (c .if1 .left)
+
+returns-2 : tie.Need-returns-2
+unfolding settingAt settingSays tested
+returns-2 c =
+    let i : tie.After-index = c .before .before in
+    let a = i .before .before .before .args in
+    rw (good (i .before), le-ltb (a .start .0) (a .t .routers) (omega (arith, i .index .ensures, c .if2 .taken)), i .index .ensures)
+
+returns-3 : tie.Need-returns-3
+unfolding settingAt settingSays tested packetIn network.start
+returns-3 c =
+    let i : tie.After-index = c .before .before in
+    let a = i .before .before .before .args in
+    rw (good (i .before), lt-ltb (a .start .0) (a .t .routers) (omega (arith, i .index .ensures, c .if2 .left)))
+
+pub set-spec : {M : Type 1} → statement M
+set-spec = tie.close (tie.spec is-sound-requires returns index-requires returns-2 returns-3)

@@ -1,0 +1,149 @@
+// Packets, hops, walks and greatest hop counts (01, Packet, hop and schedule).
+use stations::Answer;
+use stations::Place;
+use stations::Topology;
+
+mod counting;
+mod moving;
+mod schedule;
+
+ghost use mathlib.Core.Path.{_≡_};
+ghost use Rattle.forwarding.specs.Calls.{packetIn, settingSays, hopSays, walkSays, countingHops, settingAt, hopping, walking};
+
+// 01, Packet, hop and schedule: the packet is one small record, station and hops made.
+pub struct Packet {
+    pub station: Place,
+    pub hops: u8,
+}
+
+// What setting a packet answers.
+pub enum Setting {
+    Set(Packet),
+    Refused(Answer),
+}
+
+// What one hop answers; only moved changes the packet.
+pub enum Hopped {
+    Delivered,
+    Moved(Packet),
+    Dropped,
+    Refused(Answer),
+}
+
+// What a walk answers: how it ended, the station and the hops made.
+pub enum Walked {
+    Delivered(Packet),
+    Dropped(Packet),
+    Refused(Answer),
+}
+
+// The greatest hop count of every place, N bytes: refusals 14, 21 and 24.
+pub fn greatest_hops(t: Topology, table: &[u8], out: &mut [u8]) -> Answer
+    ensures { λ r. ⌜ record { answer = r; buffer = now (out .exit) } ≡ countingHops t (now (table .entry)) (now (out .entry)) ⌝ }
+{
+    let checked = table::check(t, table);
+    if checked.number != 0 {
+        return checked;
+    }
+    let n = t.routers;
+    if out.len() < n {
+        return Answer { number: 24, at: n };
+    }
+    counting::put_bounds(counting::bounds_of(t, table), n, out);
+    Answer { number: 0, at: n }
+}
+
+// A packet at a start, with 0 hops made: refusals 14 and 15.
+pub fn set(t: Topology, start: Place) -> Setting
+    ensures { λ r. ⌜ settingSays r ≡ settingAt t (start .0) ⌝ }
+{
+    if !soundness::is_sound(t) {
+        return Setting::Refused(Answer { number: 14, at: 0 });
+    }
+    let u = start.index();
+    if t.routers <= u {
+        return Setting::Refused(Answer { number: 15, at: u });
+    }
+    Setting::Set(Packet {
+        station: start,
+        hops: 0,
+    })
+}
+
+// One hop of a packet under a row of link states: refusals 14, 15 for the packet's station, then its hops made, and 21 to 23.
+pub fn hop(t: Topology, table: &[u8], states: &[u8], packet: Packet) -> Hopped
+    ensures { λ r. ⌜ hopSays r ≡ hopping t (now (table .entry)) (now (states .entry)) (packetIn packet) ⌝ }
+{
+    if !soundness::is_sound(t) {
+        return Hopped::Refused(Answer { number: 14, at: 0 });
+    }
+    let n = t.routers;
+    let station = packet.station.0 as usize;
+    if n <= station {
+        return Hopped::Refused(Answer {
+            number: 15,
+            at: station,
+        });
+    }
+    let hops = packet.hops as usize;
+    if n <= hops {
+        return Hopped::Refused(Answer {
+            number: 15,
+            at: hops,
+        });
+    }
+    let a = arcs::unchecked::of(t);
+    let checked = table::unchecked::check(t, a, table);
+    if checked.number != 0 {
+        return Hopped::Refused(checked);
+    }
+    let length = states.len();
+    if length != t.links {
+        return Hopped::Refused(Answer {
+            number: 22,
+            at: length,
+        });
+    }
+    let over = schedule::first_over(states);
+    if over < length {
+        return Hopped::Refused(Answer {
+            number: 23,
+            at: over,
+        });
+    }
+    moving::hop_by(t, a, table, states, packet)
+}
+
+// A walk from a start over a schedule: refusals 14, 15 and 21 to 23.
+pub fn walk(t: Topology, table: &[u8], start: Place, schedule: &[u8]) -> Walked
+    ensures { λ r. ⌜ walkSays r ≡ walking t (now (table .entry)) (start .0) (now (schedule .entry)) ⌝ }
+{
+    if !soundness::is_sound(t) {
+        return Walked::Refused(Answer { number: 14, at: 0 });
+    }
+    let n = t.routers;
+    let u = start.index();
+    if n <= u {
+        return Walked::Refused(Answer { number: 15, at: u });
+    }
+    let a = arcs::unchecked::of(t);
+    let checked = table::unchecked::check(t, a, table);
+    if checked.number != 0 {
+        return Walked::Refused(checked);
+    }
+    let length = schedule.len();
+    if !schedule::is_whole(n, t.links, length) {
+        return Walked::Refused(Answer {
+            number: 22,
+            at: length,
+        });
+    }
+    let over = schedule::first_over(schedule);
+    if over < length {
+        return Walked::Refused(Answer {
+            number: 23,
+            at: over,
+        });
+    }
+    moving::walk_by(t, a, table, start, schedule)
+}

@@ -1,0 +1,117 @@
+-- The states stand at the start of the buffer, and what the call says is what the request answers; a packet that moved is held.
+-- Assumes nothing.
+use mathlib.Core.Path.{_≡_, refl, sym, _∙_}
+use lib.Seq.{length-take-le}
+use Rattle.text.specs.declared.unchecked.fields.Value.the-variants.{Is, Wrong}
+use Rattle.text.specs.Fields.{field}
+use Rattle.text.specs.Hex.{byteCount}
+use Rattle.forwarding.specs.Calls.{hopSays}
+use Rattle.requests.specs.Requests.{hopIn, hopBy, hopAnswer}
+use Rattle.requests.specs.Replies.{heldIn, replyText, roomOf}
+use Rattle.requests.proofs.Replying.{error-step, kept-step, carried-step, plain-reply}
+use borrow.Author.Needs.{needs}
+use Rattle.requests.proofs.unchecked.packets.hop.Statement.{statement}
+use Rattle.requests.proofs.unchecked.packets.hop.Tie as tie
+
+-- the field holds so many bytes
+held : (c : tie.After-known-told) → byteCount (field 1 (c .before .before .before .before .before .before .before .before .before .args .line .now)) ≡ Is (c .before .n .given .0 .0)
+held c = sym (c .before .before .before .before .bytes-in .ensures .counted) ∙ c .before .n .given .1
+
+-- what the call says is answered
+said : (c : tie.After-hop) →
+    hopIn (heldIn (c .before .before .before .before .before .before .before .before .before .before .before .before .before .before .args .h) (c .before .before .before .before .before .before .before .before .before .before .before .before .before .before .args .table .now)) (c .before .before .before .before .before .before .before .before .before .before .before .before .before .before .args .line .now) ≡
+    hopAnswer (heldIn (c .before .before .before .before .before .before .before .before .before .before .before .before .before .before .args .h) (c .before .before .before .before .before .before .before .before .before .before .before .before .before .before .args .table .now)) (hopSays (c .hop .result))
+unfolding hopIn hopBy heldIn
+said c =
+    let known = c .before .before .before .before .before in
+    rw (held known, ← known .before .before .before .before .bytes-in .ensures .start _ (held known) .0, c .hop .ensures)
+
+room-for-bytes-requires : tie.Need-room-for-bytes-requires
+room-for-bytes-requires c κs = search needs
+
+slice-aggregate-bytes-in : tie.Need-slice-aggregate-bytes-in
+slice-aggregate-bytes-in c = search needs
+
+bytes-in-requires : tie.Need-bytes-in-requires
+bytes-in-requires c κs = search needs
+
+enum-known-n : tie.Need-enum-known-n
+enum-known-n c = search needs
+
+enum-told : tie.Need-enum-told
+enum-told c = search needs
+
+returns : tie.Need-returns
+unfolding hopIn hopBy
+returns c buffer =
+    let e : byteCount (field 1 (c .before .before .before .before .before .before .before .before .args .line .now)) ≡ Wrong = sym (c .before .before .before .bytes-in .ensures .counted) ∙ c .enum-told .given .1 in
+    rw (e) (error-step (c .before .before .before .before .before .before .before .before .pre .0))
+
+slice-aggregate-hop : tie.Need-slice-aggregate-hop
+slice-aggregate-hop c = sym (length-take-le _ _ (c .before .before .before .before .before .before .before .before .before .before .before .before .pre .0))
+
+array-share-prefix-bytes : tie.Need-array-share-prefix-bytes
+array-share-prefix-bytes c = c .before .before .before .before .before .before .before .bytes-in .ensures .start _ (held (c .before .before .before)) .1
+
+slice-aggregate-hop-2 : tie.Need-slice-aggregate-hop-2
+slice-aggregate-hop-2 c = sym (length-take-le _ _ (c .before .before .before .before .before .before .before .before .bytes-in .ensures .start _ (held (c .before .before .before .before)) .1))
+
+hop-requires : tie.Need-hop-requires
+hop-requires c κs = search needs
+
+enum-told-2 : tie.Need-enum-told-2
+enum-told-2 c = search needs
+
+enum-known-hopped : tie.Need-enum-known-hopped
+enum-known-hopped c = search needs
+
+carry-requires : tie.Need-carry-requires
+carry-requires c κs = search needs
+
+enum-told-3 : tie.Need-enum-told-3
+enum-told-3 c = search needs
+
+enum-known-hopped-2 : tie.Need-enum-known-hopped-2
+enum-known-hopped-2 c = search needs
+
+returns-2 : tie.Need-returns-2
+unfolding hopAnswer hopSays heldIn replyText roomOf
+returns-2 c buffer = rw (said (c .before .before), c .enum-told2 .given .1) (kept-step (c .before .before .before .before .before .before .before .before .before .before .before .before .before .before .before .before .pre .0) (plain-reply refl))
+
+returns-3 : tie.Need-returns-3
+unfolding hopAnswer hopSays heldIn replyText roomOf
+returns-3 c buffer =
+    let entry = c .before .before .before .before .before .before .before .before .before .before .before .before .before .before .before .before .before .before in
+    rw (said (c .before .before .before .before), c .before .before .hopped .given .1) (carried-step (entry .args .h) _ (c .carry .ensures) (entry .pre .0) (plain-reply refl))
+
+returns-4 : tie.Need-returns-4
+unfolding hopAnswer hopSays heldIn replyText roomOf
+returns-4 c buffer = rw (said (c .before .before), c .enum-told3 .given .1) (kept-step (c .before .before .before .before .before .before .before .before .before .before .before .before .before .before .before .before .pre .0) (plain-reply refl))
+
+returns-5 : tie.Need-returns-5
+unfolding hopAnswer hopSays heldIn replyText roomOf
+returns-5 c buffer = rw (said (c .before .before .before), c .before .hopped2 .given .1) (kept-step (c .before .before .before .before .before .before .before .before .before .before .before .before .before .before .before .before .before .pre .0) (plain-reply refl))
+
+pub hop-spec : {M : Type 1} → statement M
+hop-spec =
+    tie.close
+    (tie.spec
+    room-for-bytes-requires
+    slice-aggregate-bytes-in
+    bytes-in-requires
+    enum-known-n
+    enum-told
+    returns
+    slice-aggregate-hop
+    array-share-prefix-bytes
+    slice-aggregate-hop-2
+    hop-requires
+    enum-told-2
+    enum-known-hopped
+    carry-requires
+    enum-told-3
+    enum-known-hopped-2
+    returns-2
+    returns-3
+    returns-4
+    returns-5)

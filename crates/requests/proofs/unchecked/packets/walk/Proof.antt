@@ -1,0 +1,131 @@
+-- The schedule stands at the start of the buffer, and what the call says is what the request answers.
+-- Assumes nothing.
+use mathlib.Core.Path.{_≡_, refl, sym, _∙_}
+use native.Mathlib.Omega.{arith}
+use lib.Seq.{length-take-le}
+use Rattle.text.specs.declared.unchecked.fields.Value.the-variants.{Is, Wrong}
+use Rattle.text.specs.Fields.{field}
+use Rattle.text.specs.Numbers.{number}
+use Rattle.text.specs.Hex.{byteCount}
+use Rattle.text.proofs.Numbers.{number-bound}
+use Rattle.forwarding.specs.Calls.{walkSays}
+use Rattle.requests.specs.Requests.{mostByte, walkIn, walkBy, walkText}
+use Rattle.requests.specs.Replies.{heldIn, replyText, roomOf}
+use Rattle.requests.proofs.Replying.{error-reply, plain-reply}
+use borrow.Author.Needs.{needs}
+use Rattle.requests.proofs.unchecked.packets.walk.Statement.{statement}
+use Rattle.requests.proofs.unchecked.packets.walk.Tie as tie
+
+-- the first field holds the start
+start : (c : tie.After-known-told) → number mostByte (field 1 (c .before .before .before .before .before .before .before .before .args .line .now)) ≡ Is (c .before .u .given .0 .0)
+start c = sym (c .before .before .before .number-in .ensures) ∙ c .before .u .given .1
+
+-- the second so many bytes
+held : (c : tie.After-known-told2) → byteCount (field 2 (c .before .before .before .before .before .before .before .before .before .before .before .before .before .before .args .line .now)) ≡ Is (c .before .n .given .0 .0)
+held c = sym (c .before .before .before .before .bytes-in .ensures .counted) ∙ c .before .n .given .1
+
+-- what the call says is answered
+said : (c : tie.After-walk) →
+    walkIn (heldIn (c .before .before .before .before .before .before .before .before .before .before .before .before .before .before .before .before .before .args .h) (c .before .before .before .before .before .before .before .before .before .before .before .before .before .before .before .before .before .args .table .now)) (c .before .before .before .before .before .before .before .before .before .before .before .before .before .before .before .before .before .args .line .now) ≡ walkText (walkSays (c .walk .result))
+unfolding walkIn walkBy heldIn
+said c =
+    let known = c .before .before .before in
+    rw (start (known .before .before .before .before .before .before), held known, ← known .before .before .before .before .bytes-in .ensures .start _ (held known) .0, c .walk .ensures)
+
+room-for-bytes-requires : tie.Need-room-for-bytes-requires
+room-for-bytes-requires c κs = search needs
+
+number-in-requires : tie.Need-number-in-requires
+number-in-requires c κs = search needs
+
+enum-known-u : tie.Need-enum-known-u
+enum-known-u c = search needs
+
+enum-told : tie.Need-enum-told
+enum-told c = search needs
+
+returns : tie.Need-returns
+unfolding walkIn walkBy
+returns c buffer =
+    let e : number mostByte (field 1 (c .before .before .before .before .before .before .before .args .line .now)) ≡ Wrong = sym (c .before .before .number-in .ensures) ∙ c .enum-told .given .1 in
+    rw (e) error-reply
+
+slice-aggregate-bytes-in : tie.Need-slice-aggregate-bytes-in
+slice-aggregate-bytes-in c = search needs
+
+bytes-in-requires : tie.Need-bytes-in-requires
+bytes-in-requires c κs = search needs
+
+enum-known-n : tie.Need-enum-known-n
+enum-known-n c = search needs
+
+enum-told-2 : tie.Need-enum-told-2
+enum-told-2 c = search needs
+
+returns-2 : tie.Need-returns-2
+unfolding walkIn walkBy
+returns-2 c buffer =
+    let e : byteCount (field 2 (c .before .before .before .before .before .before .before .before .before .before .before .before .before .args .line .now)) ≡ Wrong = sym (c .before .before .before .bytes-in .ensures .counted) ∙ c .enum-told2 .given .1 in
+    rw (start (c .before .before .before .before .before), e) error-reply
+
+slice-aggregate-walk : tie.Need-slice-aggregate-walk
+slice-aggregate-walk c = sym (length-take-le _ _ (c .before .before .before .before .before .before .before .before .before .before .before .before .before .before .before .pre .0))
+
+cast-t20 : tie.Need-cast-t20
+cast-t20 c = omega (arith, number-bound mostByte _ _ (start (c .before .before .before .before .before .before .before)))
+
+array-share-prefix-bytes : tie.Need-array-share-prefix-bytes
+array-share-prefix-bytes c = c .before .before .before .before .before .bytes-in .ensures .start _ (held (c .before)) .1
+
+slice-aggregate-walk-2 : tie.Need-slice-aggregate-walk-2
+slice-aggregate-walk-2 c = sym (length-take-le _ _ (c .before .before .before .before .before .before .bytes-in .ensures .start _ (held (c .before .before)) .1))
+
+walk-requires : tie.Need-walk-requires
+walk-requires c κs = search needs
+
+enum-known-walked : tie.Need-enum-known-walked
+enum-known-walked c = search needs
+
+enum-known-walked-2 : tie.Need-enum-known-walked-2
+enum-known-walked-2 c = search needs
+
+enum-known-walked-3 : tie.Need-enum-known-walked-3
+enum-known-walked-3 c = search needs
+
+returns-3 : tie.Need-returns-3
+unfolding walkText walkSays replyText roomOf
+returns-3 c buffer = rw (said (c .before .before .before), c .before .walked .given .1) (plain-reply refl)
+
+returns-4 : tie.Need-returns-4
+unfolding walkText walkSays replyText roomOf
+returns-4 c buffer = rw (said (c .before .before .before), c .before .walked2 .given .1) (plain-reply refl)
+
+returns-5 : tie.Need-returns-5
+unfolding walkText walkSays replyText roomOf
+returns-5 c buffer = rw (said (c .before .before .before), c .before .walked3 .given .1) (plain-reply refl)
+
+pub walk-spec : {M : Type 1} → statement M
+walk-spec =
+    tie.close
+    (tie.spec
+    room-for-bytes-requires
+    number-in-requires
+    enum-known-u
+    enum-told
+    returns
+    slice-aggregate-bytes-in
+    bytes-in-requires
+    enum-known-n
+    enum-told-2
+    returns-2
+    slice-aggregate-walk
+    cast-t20
+    array-share-prefix-bytes
+    slice-aggregate-walk-2
+    walk-requires
+    enum-known-walked
+    enum-known-walked-2
+    enum-known-walked-3
+    returns-3
+    returns-4
+    returns-5)

@@ -1,0 +1,134 @@
+// The requests that set, move and walk packets. What was set or moved is held from then on.
+use super::asked;
+use super::asked::BYTE;
+use super::calls::Holding;
+use super::calls::Step;
+use super::replies::Reply;
+use forwarding::Hopped;
+use forwarding::Packet;
+use forwarding::Setting;
+use forwarding::Walked;
+use text::unchecked::fields::Value;
+use topology::Answer;
+use topology::Place;
+ghost use mathlib.Core.List.{List};
+ghost use mathlib.Core.Path.{_≡_};
+ghost use Prim.Native.Nat.{ℕ, _≤_};
+ghost use lib.ListN.{length};
+ghost use Rattle.requests.specs.Requests.{mostLine, loadPacketIn, setIn, hopIn, walkIn};
+ghost use Rattle.requests.specs.Replies.{Replies, Stepped, heldIn};
+
+// The packet is held beside the rest.
+fn carry(h: Holding, packet: Packet, reply: Reply) -> Step
+    ensures { λ r. ⌜ r ≡ record { held = record { topology = h .topology; size = h .size; packet = packet }; reply = reply } ⌝ }
+{
+    let t = h.topology;
+    let next = Holding {
+        topology: t,
+        size: h.size,
+        packet: packet,
+    };
+    Step {
+        held: next,
+        reply: reply,
+    }
+}
+
+// `load-packet STATION HOPS`
+pub fn load(h: Holding, line: &[u8]) -> Step
+    ensures { λ r. ⌜ ((table buffer : List ℕ) → h .size ≤ length table → Stepped (loadPacketIn (heldIn h table) (now (line .entry))) r table buffer) ⌝ }
+{
+    let Value::Is(u) = asked::number_in(line, 1, BYTE) else {
+        return Step {
+            held: h,
+            reply: Reply::Error,
+        };
+    };
+    let Value::Is(k) = asked::number_in(line, 2, BYTE) else {
+        return Step {
+            held: h,
+            reply: Reply::Error,
+        };
+    };
+    let packet = Packet {
+        station: Place(u as u8),
+        hops: k as u8,
+    };
+    carry(h, packet, Reply::Says(Answer { number: 0, at: 0 }))
+}
+
+// `set START`
+pub fn set(h: Holding, line: &[u8]) -> Step
+    ensures { λ r. ⌜ ((table buffer : List ℕ) → h .size ≤ length table → Stepped (setIn (heldIn h table) (now (line .entry))) r table buffer) ⌝ }
+{
+    let Value::Is(u) = asked::number_in(line, 1, BYTE) else {
+        return Step {
+            held: h,
+            reply: Reply::Error,
+        };
+    };
+    let t = h.topology;
+    let setting = forwarding::set(t, Place(u as u8));
+    match setting {
+        Setting::Set(p) => carry(h, p, Reply::Set(p)),
+        Setting::Refused(a) => Step {
+            held: h,
+            reply: Reply::Refused(a),
+        },
+    }
+}
+
+// `hop STATES`
+pub fn hop(h: Holding, table: &[u8], line: &[u8]) -> Step
+    requires { ⌜ (h .size ≤ length (now table)) × (length (now line) ≤ mostLine) ⌝ }
+    ensures { λ r. ⌜ ((buffer : List ℕ) → Stepped (hopIn (heldIn h (now (table .entry))) (now (line .entry))) r (now (table .entry)) buffer) ⌝ }
+{
+    let mut bytes = asked::room_for_bytes();
+    let Value::Is(n) = asked::bytes_in(line, 1, &mut bytes) else {
+        return Step {
+            held: h,
+            reply: Reply::Error,
+        };
+    };
+    let t = h.topology;
+    let size = h.size;
+    let packet = h.packet;
+    let hopped = forwarding::hop(t, &table[..size], &bytes[..n], packet);
+    match hopped {
+        Hopped::Delivered => Step {
+            held: h,
+            reply: Reply::Delivered(packet),
+        },
+        Hopped::Moved(p) => carry(h, p, Reply::Moved(p)),
+        Hopped::Dropped => Step {
+            held: h,
+            reply: Reply::Dropped(packet),
+        },
+        Hopped::Refused(a) => Step {
+            held: h,
+            reply: Reply::Refused(a),
+        },
+    }
+}
+
+// `walk START SCHEDULE`
+pub fn walk(h: Holding, table: &[u8], line: &[u8]) -> Reply
+    requires { ⌜ (h .size ≤ length (now table)) × (length (now line) ≤ mostLine) ⌝ }
+    ensures { λ r. ⌜ ((buffer : List ℕ) → Replies (walkIn (heldIn h (now (table .entry))) (now (line .entry))) r buffer) ⌝ }
+{
+    let mut bytes = asked::room_for_bytes();
+    let t = h.topology;
+    let size = h.size;
+    let Value::Is(u) = asked::number_in(line, 1, BYTE) else {
+        return Reply::Error;
+    };
+    let Value::Is(n) = asked::bytes_in(line, 2, &mut bytes) else {
+        return Reply::Error;
+    };
+    let walked = forwarding::walk(t, &table[..size], Place(u as u8), &bytes[..n]);
+    match walked {
+        Walked::Delivered(p) => Reply::Delivered(p),
+        Walked::Dropped(p) => Reply::Dropped(p),
+        Walked::Refused(a) => Reply::Refused(a),
+    }
+}

@@ -1,0 +1,139 @@
+-- `timing::repeated_walks` meets its contract. The turns are counted; the table is a part of its room, and the schedule of its own.
+-- Assumes nothing.
+use Prim.Native.Nat.{_≤_, _<_, _-_}
+use mathlib.Core.Logic.{⊎-elim}
+use mathlib.Core.Path.{_≡_, sym, _∙_}
+use native.Mathlib.Omega.{arith}
+use borrow.Author.Needs.{needs}
+use borrow.Author.Tests.{not-false}
+use lib.Dec.{T}
+use lib.ListN.{length}
+use lib.Seq.{length-take-le}
+use Rattle.soundness.specs.Sound.{sound}
+use Rattle.soundness.proofs.Sound.{sound-exact}
+use Rattle.timing.proofs.repeated_walks.Statement.{statement}
+use Rattle.timing.proofs.repeated_walks.Tie as tie
+
+abbrev Inv-loop : tie.InvT-loop
+Inv-loop t long times bytes length most rows schedule end sum₀ i₀ sum i = (i ≤ times) × (sum < 65521)
+
+abbrev μ-loop : tie.MeasureT-loop
+μ-loop t long times bytes length most rows schedule end sum₀ i₀ sum i = times - i
+
+is-sound-requires : tie.Need-is-sound-requires Inv-loop μ-loop
+is-sound-requires c κs = search needs
+
+returns : tie.Need-returns Inv-loop μ-loop
+returns c = search needs
+
+-- the topology is sound
+passed : (c : tie.Else1 Inv-loop μ-loop) → T (sound (c .before .before .args .t))
+passed c = rw (sym (c .before .is-sound .ensures) ∙ not-false _ (c .if1 .left)) tt
+
+room-requires : tie.Need-room-requires Inv-loop μ-loop
+room-requires c κs = search needs
+
+slice-aggregate-put-table : tie.Need-slice-aggregate-put-table Inv-loop μ-loop
+slice-aggregate-put-table c = c .before .room .ensures
+
+put-table-requires : tie.Need-put-table-requires Inv-loop μ-loop
+put-table-requires c κs = (passed (c .before .before), c .before .room .ensures)
+
+-- the room is as long as it was
+long : (c : tie.After-put-table Inv-loop μ-loop) → length (c .put-table .last .1 .0) ≡ 1220
+long c = c .put-table .kept .1 .0 ∙ sym (c .before .before .room .ensures)
+
+mul-length : tie.Need-mul-length Inv-loop μ-loop
+mul-length c = omega (arith, sound-exact _ .0 (passed (c .before .before .before .before .before)) .routers-most)
+
+add-length : tie.Need-add-length Inv-loop μ-loop
+add-length c = omega (arith, sound-exact _ .0 (passed (c .before .before .before .before .before)) .routers-most)
+
+sub-most : tie.Need-sub-most Inv-loop μ-loop
+sub-most c = omega (arith, sound-exact _ .0 (passed (c .before .before .before .before .before .before)) .routers-least)
+
+mul-rows : tie.Need-mul-rows Inv-loop μ-loop
+mul-rows c = omega (arith, sound-exact _ .0 (passed (c .before .before .before .before .before .before .before)) .routers-most)
+
+room-for-schedule-requires : tie.Need-room-for-schedule-requires Inv-loop μ-loop
+room-for-schedule-requires c κs = search needs
+
+slice-aggregate-put-schedule : tie.Need-slice-aggregate-put-schedule Inv-loop μ-loop
+slice-aggregate-put-schedule c = c .before .room-for-schedule .ensures
+
+-- ten times 63 rows at most
+few : (c : tie.Joined2 Inv-loop μ-loop) → c .if2 .rows ≤ 630
+few c =
+    let most = sound-exact _ .0 (passed (c .before .before .before .before .before .before .before)) .routers-most in
+    ⊎-elim (λ w. omega (arith, most)) (λ w. omega (arith, most)) (c .if2 .came)
+
+put-schedule-requires : tie.Need-put-schedule-requires Inv-loop μ-loop
+put-schedule-requires c κs =
+    (few (c .before .before), sound-exact _ .0 (passed (c .before .before .before .before .before .before .before .before .before)) .links-most, c .before .room-for-schedule .ensures)
+
+-- the schedule's room is as long as it was
+long-schedule : (c : tie.After-put-schedule Inv-loop μ-loop) → length (c .put-schedule .last .1 .1 .0) ≡ 161280
+long-schedule c = c .put-schedule .kept .1 .1 .0 ∙ sym (c .before .before .room-for-schedule .ensures)
+
+loop-holds : tie.Need-loop-holds Inv-loop μ-loop
+loop-holds c = search needs
+
+array-share-prefix-bytes : tie.Need-array-share-prefix-bytes Inv-loop μ-loop
+array-share-prefix-bytes c =
+    let put = c .before .before .before .before .before .before .before .before .before .before in
+    omega (arith, long put, sound-exact _ .0 (passed (put .before .before .before)) .routers-most)
+
+slice-aggregate-all-walks : tie.Need-slice-aggregate-all-walks Inv-loop μ-loop
+slice-aggregate-all-walks c = sym (length-take-le _ _ (array-share-prefix-bytes (c .before)))
+
+array-share-prefix-schedule : tie.Need-array-share-prefix-schedule Inv-loop μ-loop
+array-share-prefix-schedule c =
+    let put = c .before .before .before .before in omega (arith, long-schedule put, put .put-schedule .ensures)
+
+slice-aggregate-all-walks-2 : tie.Need-slice-aggregate-all-walks-2 Inv-loop μ-loop
+slice-aggregate-all-walks-2 c = sym (length-take-le _ _ (array-share-prefix-schedule (c .before)))
+
+all-walks-requires : tie.Need-all-walks-requires Inv-loop μ-loop
+all-walks-requires c κs =
+    (sound-exact _ .0 (passed (c .before .before .before .before .before .before .before .before .before .before .before .before .before .before .before)) .routers-most, c .before .before .before .loop .inv .1)
+
+add-i : tie.Need-add-i Inv-loop μ-loop
+add-i c = search needs
+
+loop-less : tie.Need-loop-less Inv-loop μ-loop
+loop-less c = search needs
+
+loop-again : tie.Need-loop-again Inv-loop μ-loop
+loop-again c = search needs
+
+returns-2 : tie.Need-returns-2 Inv-loop μ-loop
+returns-2 c = search needs
+
+pub repeated-walks-spec : {M : Type 1} → statement M
+repeated-walks-spec =
+    tie.close
+    (tie.spec
+    Inv-loop
+    μ-loop
+    is-sound-requires
+    returns
+    room-requires
+    slice-aggregate-put-table
+    put-table-requires
+    mul-length
+    add-length
+    sub-most
+    mul-rows
+    room-for-schedule-requires
+    slice-aggregate-put-schedule
+    put-schedule-requires
+    loop-holds
+    array-share-prefix-bytes
+    slice-aggregate-all-walks
+    array-share-prefix-schedule
+    slice-aggregate-all-walks-2
+    all-walks-requires
+    add-i
+    loop-less
+    loop-again
+    returns-2)

@@ -1,0 +1,77 @@
+-- A starred fact: calls one after the other, each by its own definition, from the bytes of a stream on, and what the last of them is expected to give.
+-- Assumes nothing.
+use Prim.Native.Nat.{ℕ}
+use mathlib.Core.Bool.{Bool, false, _&&_}
+use mathlib.Core.List.{List}
+use lib.ListN.{length}
+use Rattle.network.specs.Lists.{sameNumbers}
+use Rattle.network.specs.Forwarding.{Walk, delivered-at, dropped-at, unfinished-at}
+use Rattle.stations.specs.Outcome.{Outcome}
+use Rattle.stations.specs.declared.Topology.{Topology}
+use Rattle.stream.specs.declared.Reading.{Reading}
+use Rattle.stream.specs.Reading.{reading}
+use Rattle.order.specs.declared.Mode.{Mode}
+use Rattle.order.specs.Calls.{building}
+use Rattle.order.specs.Table.{answers}
+use Rattle.rows.specs.Bytes.{tableLength}
+use Rattle.table.specs.Listed.{placesIn}
+use Rattle.table.specs.Calls.{filling}
+use Rattle.table.specs.Facts.{room}
+use Rattle.forwarding.specs.Calls.{Said, done, refused, countingHops, walking}
+use Rattle.worked.specs.Fact.{leftAt}
+
+-- Which end a walk is expected to have, at which station, after how many hops.
+pub data End : Type 0 where
+  delivered : ℕ → ℕ → End
+  dropped : ℕ → ℕ → End
+
+-- What is expected, of the last call or of what it wrote.
+pub data Expected : Type 0 where
+  -- building writes this order
+  builds : List ℕ → Expected
+  -- filling, for the order built, writes a table whose row of a place lists these places
+  lists : ℕ → List ℕ → Expected
+  -- the greatest hop counts, for the table filled, are these
+  counts : List ℕ → Expected
+  -- a walk, by the table filled, from a start under the bytes of a schedule
+  walks : ℕ → List ℕ → End → Expected
+
+pub record Chain : Type 0 where
+  pub stream : List ℕ
+  pub destination : ℕ
+  pub mode : Mode
+  pub expected : Expected
+
+-- 01, Refusals: the call answers number 0, and at how many bytes were written, here the whole buffer; on with these bytes
+unfoldable pub wrote : Outcome → (List ℕ → Bool) → Bool
+wrote o next = answers (o .answer) 0 (length (o .buffer)) && next (o .buffer)
+
+unfoldable pub endsSo : End → Said (Walk ℕ) → Bool
+endsSo (delivered station hops) (done (delivered-at p)) = leftAt p station hops
+endsSo (delivered station hops) (done (dropped-at p)) = false
+endsSo (delivered station hops) (done (unfinished-at p)) = false
+endsSo (delivered station hops) (refused number at) = false
+endsSo (dropped station hops) (done (delivered-at p)) = false
+endsSo (dropped station hops) (done (dropped-at p)) = leftAt p station hops
+endsSo (dropped station hops) (done (unfinished-at p)) = false
+endsSo (dropped station hops) (refused number at) = false
+
+-- on from the topology, by filling the table for an order
+unfoldable pub byTable : Topology → ℕ → List ℕ → (List ℕ → Bool) → Bool
+byTable t d order next = wrote (filling t d order (room (tableLength (t .routers)))) next
+
+-- on from the order that was built
+unfoldable pub byOrder : Topology → ℕ → Expected → List ℕ → Bool
+byOrder t d (builds expected) order = sameNumbers order expected
+byOrder t d (lists u expected) order = byTable t d order (λ table. sameNumbers (placesIn table u) expected)
+byOrder t d (counts expected) order =
+    byTable t d order (λ table. wrote (countingHops t table (room (t .routers))) (λ figures. sameNumbers figures expected))
+byOrder t d (walks u schedule expected) order = byTable t d order (λ table. endsSo expected (walking t table u schedule))
+
+-- on from what was read, which must not be refused
+unfoldable pub byReading : Reading → ℕ → Mode → Expected → Bool
+byReading r d m e =
+    answers (r .answer) 0 0 && wrote (building (r .topology) d m (room (r .topology .routers))) (byOrder (r .topology) d e)
+
+unfoldable pub follows : Chain → Bool
+follows c = byReading (reading (c .stream)) (c .destination) (c .mode) (c .expected)
