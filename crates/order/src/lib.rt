@@ -9,7 +9,6 @@ mod proposal;
 pub mod unchecked;
 
 ghost use mathlib.Core.Path.{_≡_};
-ghost use Rattle.stations.specs.Outcome.{Outcome};
 ghost use Rattle.order.specs.Calls.{building, checking};
 
 // 01, Order: shortest-path mode is ANHOR-SP, free mode ANHOR.

@@ -1,7 +1,6 @@
 // Putting a header and rows into a lent buffer.
 use super::ENTRIES;
 use super::FRONT;
-use super::HEADER;
 use stations::Place;
 use stations::Rank;
 ghost use mathlib.Core.List.{map};

@@ -9,7 +9,6 @@ mod reading;
 pub mod unchecked;
 
 ghost use mathlib.Core.Path.{_≡_};
-ghost use Rattle.stations.specs.Outcome.{Outcome};
 ghost use Rattle.table.specs.Calls.{filling, tableChecking};
 
 // Fills the table of a destination for an order accepted in free mode: refusals 14, 15, 17 to 20 and 24.
