@@ -12,11 +12,12 @@ use Rattle.network.specs.Forwarding as network
 use Rattle.network.specs.Forwarding.{Packet, start, hop, walk}
 use Rattle.network.proofs.Tests.{eq-test}
 use Rattle.stations.specs.declared.Topology.{Topology}
+use Rattle.stations.specs.Outcome.{answer}
 use Rattle.soundness.specs.Sound.{sound}
 use Rattle.table.specs.Calls.{tableChecking}
 use Rattle.forwarding.specs.Schedule.{rowsIn, soundLength}
 use Rattle.forwarding.specs.Calls.{Said, done, refused, by, tested, hopping, walking}
-use Rattle.forwarding.specs.Theorems.{answer, Standing, WholeRows, HopAnswers, HopsAnswer, WalkAnswers, WalksAnswer}
+use Rattle.forwarding.specs.Theorems.{Standing, WholeRows, HopAnswers, HopsAnswer, WalkAnswers, WalksAnswer}
 use Rattle.forwarding.proofs.Schedules.{sound-length}
 use Rattle.forwarding.proofs.Tested.{clash, Decides, decides, decides-below, pass, stop, fork, numbers, points, flat-three, flat-four, flat-five, ending, Ends, ends}
 

@@ -20,11 +20,12 @@ use Rattle.network.proofs.Tests.{truth, passes, fails}
 use Rattle.network.proofs.Routing.{tests-right, routers-calls}
 use Rattle.stations.specs.declared.Topology.{Topology}
 use Rattle.stations.specs.Topology.{networkOf}
+use Rattle.stations.specs.Outcome.{answer}
 use Rattle.soundness.specs.Sound.{sound}
 use Rattle.table.specs.Calls.{tableChecking}
 use Rattle.forwarding.specs.Calls.{Said, done, refused, figures, settingAt, hopping}
 use Rattle.forwarding.specs.Lists.{Call, set-at, hop-under, afterSetting, afterHop, lastAfter, after, afterAll, setIn, lastSetIn}
-use Rattle.forwarding.specs.Theorems.{answer, Standing, CallsBounded, CallsExact}
+use Rattle.forwarding.specs.Theorems.{Standing, CallsBounded, CallsExact}
 use Rattle.forwarding.proofs.Calls.{settings-answer}
 use Rattle.forwarding.proofs.Listed.{Over, over}
 use Rattle.forwarding.proofs.Answers.{hops-done}

@@ -18,6 +18,7 @@ use Rattle.network.proofs.Order.{acceptance-exact, order-fits}
 use Rattle.network.proofs.Rank.{rank-in}
 use Rattle.stations.specs.declared.Topology.{Topology}
 use Rattle.stations.specs.Topology.{networkOf}
+use Rattle.stations.specs.Outcome.{answer}
 use Rattle.soundness.specs.Sound.{sound}
 use Rattle.soundness.proofs.Sound.{sound-networks}
 use Rattle.table.specs.Listed.{entriesIn, listed, forwardingBy}
@@ -26,7 +27,7 @@ use Rattle.table.specs.Theorems.{GivenBy, SomeGive, ListsRows}
 use Rattle.table.proofs.Lists.{tables-list}
 use Rattle.table.proofs.Verdicts.{tables-exact}
 use Rattle.forwarding.specs.Calls.{by, figure, figures}
-use Rattle.forwarding.specs.Theorems.{answer, destinationByte, rankByte}
+use Rattle.forwarding.specs.Theorems.{destinationByte, rankByte}
 
 -- what an accepted table gives
 pub record Over (t : Topology) (table : List ℕ) : Type 1 where

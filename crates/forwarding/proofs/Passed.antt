@@ -6,11 +6,12 @@ use mathlib.Core.Path.{_≡_, refl, sym}
 use lib.Dec.{T}
 use Rattle.network.specs.Forwarding.{Packet, Walk, hop, walk, start}
 use Rattle.stations.specs.declared.Topology.{Topology}
+use Rattle.stations.specs.Outcome.{answer}
 use Rattle.soundness.specs.Sound.{sound}
 use Rattle.table.specs.Calls.{tableChecking}
 use Rattle.forwarding.specs.Schedule.{rowsIn}
 use Rattle.forwarding.specs.Calls.{done, by, hopping, walking}
-use Rattle.forwarding.specs.Theorems.{answer, SoundSchedule, Standing, SoundStates}
+use Rattle.forwarding.specs.Theorems.{SoundSchedule, Standing, SoundStates}
 use Rattle.forwarding.proofs.Answers.{hops-done, walks-done}
 
 module _ (t : Topology) (table : List ℕ) (right : tableChecking t table ≡ answer 0 0) where

@@ -15,11 +15,12 @@ use Rattle.network.proofs.Forwarding.{Way, stop, down, longest-way, way-falls, 
 use Rattle.network.proofs.Routing.{routers-lawful, entry-arc}
 use Rattle.stations.specs.declared.Topology.{Topology}
 use Rattle.stations.specs.Topology.{networkOf}
+use Rattle.stations.specs.Outcome.{answer}
 use Rattle.soundness.specs.Sound.{sound}
 use Rattle.table.specs.Calls.{tableChecking}
 use Rattle.forwarding.specs.Calls.{done, figures}
 use Rattle.forwarding.specs.Lists.{Call, set-at, hop-under, after, afterAll, setIn, lastSetIn}
-use Rattle.forwarding.specs.Theorems.{answer, SoundStates}
+use Rattle.forwarding.specs.Theorems.{SoundStates}
 use Rattle.forwarding.proofs.Calls.{settings-answer, calls-by-rule}
 use Rattle.forwarding.proofs.Figures.{valid-states}
 use Rattle.forwarding.proofs.Listed.{Over}

@@ -10,10 +10,10 @@ use lib.ListN.{length}
 use Rattle.network.specs.Lists.{below}
 use Rattle.stations.specs.Inner.{firstOr}
 use Rattle.stations.specs.declared.Topology.{Topology}
+use Rattle.stations.specs.Outcome.{answer}
 use Rattle.soundness.specs.Sound.{sound}
 use Rattle.order.proofs.Decided.{none-there, ranks-below}
 use Rattle.table.specs.Calls.{tableJudging, tableChecking}
-use Rattle.table.specs.Theorems.{answer}
 use Rattle.table.proofs.Verdicts.{tables-each}
 use Rattle.forwarding.specs.Schedule.{wrongStates}
 use Rattle.forwarding.specs.Calls.{Said, refused, testedOver}

@@ -14,14 +14,15 @@ use Rattle.network.proofs.Tests.{truth, as-true, as-false, passes, fails}
 use Rattle.stations.specs.declared.Answer.{Answer}
 use Rattle.stations.specs.declared.Topology.{Topology}
 use Rattle.stations.specs.Topology.{networkOf}
+use Rattle.stations.specs.Outcome.{answer}
 use Rattle.soundness.specs.Sound.{sound}
-use Rattle.order.specs.Calls.{says, atFirst}
+use Rattle.order.specs.Calls.{atFirst}
 use Rattle.rows.specs.Bytes.{tableLength, rowStart}
 use Rattle.table.specs.Calls.{wrongBytes, tableJudging, tableChecking}
 use Rattle.table.proofs.Accepting.{starts?}
 use Rattle.forwarding.specs.Schedule.{wrongStates}
 use Rattle.forwarding.specs.Calls.{Said, done, refused, tested, testedBy, testedOver}
-use Rattle.forwarding.specs.Theorems.{answer, FirstOver}
+use Rattle.forwarding.specs.Theorems.{FirstOver}
 use Rattle.forwarding.proofs.Schedules.{none-over, first-over, over-first}
 
 pub clash : {A : Type 0} → _≡_ {A = ℕ} 0 1 → A
@@ -107,12 +108,12 @@ kind-tested a (inr (at, e)) =
 
 module _ (t : Topology) (good : T (sound t)) (table : List ℕ) where
   kind : Kind (tableChecking t table)
-  unfolding tableChecking tableJudging says atFirst rowStart
+  unfolding tableChecking tableJudging atFirst rowStart
   kind =
       rw (as-true (sound t) good)
       (by-tests (not (eqb (length table) (tableLength (t .routers)))) (not (starts? t table)) (length table) (wrongBytes (networkOf t) (t .routers) table))
     where
-      by-tests : (b c : Bool) (long : ℕ) (wrong : List ℕ) → Kind (cond b (says 21 long) (cond c (says 21 0) (atFirst 21 wrong (says 0 0))))
+      by-tests : (b c : Bool) (long : ℕ) (wrong : List ℕ) → Kind (cond b (answer 21 long) (cond c (answer 21 0) (atFirst 21 wrong (answer 0 0))))
       by-tests true c long wrong = inr (long, refl)
       by-tests false true long wrong = inr (0, refl)
       by-tests false false long (i ∷ wrong) = inr (i, refl)

@@ -31,12 +31,13 @@ use Rattle.network.proofs.Routing.{routers-lawful, entry-arc}
 use Rattle.network.proofs.ShortestWalk as shortest
 use Rattle.stations.specs.declared.Topology.{Topology}
 use Rattle.stations.specs.Topology.{networkOf}
+use Rattle.stations.specs.Outcome.{answer}
 use Rattle.soundness.specs.Sound.{sound}
 use Rattle.order.proofs.Ranges.{getD-mem}
 use Rattle.table.specs.Calls.{tableChecking}
 use Rattle.forwarding.specs.Schedule.{rowIn, rowsIn}
 use Rattle.forwarding.specs.Calls.{done, hopping, walking}
-use Rattle.forwarding.specs.Theorems.{answer, SoundSchedule, SoundStates, WalkEnds, delivers, drops, WalksEnd}
+use Rattle.forwarding.specs.Theorems.{SoundSchedule, SoundStates, WalkEnds, delivers, drops, WalksEnd}
 use Rattle.forwarding.specs.Theorems.{ByHops, arrives, goes-on, WalksByHops, ShortestWalk, ShortestWalks}
 use Rattle.forwarding.specs.Theorems as forwarding
 use Rattle.forwarding.proofs.Listed.{Over, over}

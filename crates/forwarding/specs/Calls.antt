@@ -10,7 +10,7 @@ use Rattle.network.specs.Forwarding as network
 use Rattle.network.specs.Forwarding.{Forwarding, start, hop, walk, longest}
 use Rattle.stations.specs.declared.Answer.{Answer}
 use Rattle.stations.specs.declared.Topology.{Topology}
-use Rattle.stations.specs.Outcome.{Outcome, given}
+use Rattle.stations.specs.Outcome.{answer, Outcome, given}
 use Rattle.stations.specs.Topology.{networkOf}
 use Rattle.soundness.specs.Sound.{sound}
 use Rattle.table.specs.Listed.{listed, forwardingBy}
@@ -31,8 +31,8 @@ pub data Said (A : Type 0) : Type 0 where
 
 -- 01, Refusals: the number and the at that it answers
 unfoldable pub said : {A : Type 0} → Said A → Answer
-said (done x) = record { number = 0; at = 0 }
-said (refused number at) = record { number = number; at = at }
+said (done x) = answer 0 0
+said (refused number at) = answer number at
 
 -- a packet with its place as a number
 unfoldable pub packetIn : Packet → network.Packet ℕ

@@ -13,6 +13,7 @@ use Rattle.network.specs.Routing.{up}
 use Rattle.stations.specs.declared.Rank.{Rank}
 use Rattle.stations.specs.declared.Topology.{Topology}
 use Rattle.stations.specs.Limits.{mostRouters, mostNeighbours, mostNextHops}
+use Rattle.stations.specs.Outcome.{answer}
 use Rattle.stations.specs.Topology.{networkOf}
 use Rattle.soundness.specs.Sound.{sound}
 use Rattle.arcs.specs.declared.Arcs.{Arcs}
@@ -69,7 +70,7 @@ pub record Bounded (by : List Rank) : Type 0 where
 pub record Checked (t : Topology) (a : Arcs) (table : List ℕ) : Type 0 where
   pub on-sound : T (sound t)
   pub holds : Holds (networkOf t) a
-  pub passes : tableChecking t table ≡ record { number = 0; at = 0 }
+  pub passes : tableChecking t table ≡ answer 0 0
 
 -- the greatest hop count of every place
 pub record Figures (t : Topology) (table : List ℕ) (r : Bounds) : Type 0 where

@@ -15,6 +15,7 @@ use Rattle.network.specs.Forwarding.{Packet, Walk, delivered-at, dropped-at, pa
 use Rattle.network.specs.Theorems.Order.{Accepted}
 use Rattle.stations.specs.declared.Answer.{Answer}
 use Rattle.stations.specs.declared.Topology.{Topology}
+use Rattle.stations.specs.Outcome.{answer}
 use Rattle.stations.specs.Topology.{networkOf}
 use Rattle.soundness.specs.Sound.{sound}
 use Rattle.table.specs.Listed.{orderIn}
@@ -26,10 +27,6 @@ use Rattle.forwarding.specs.declared.Walked.the-variants as walked
 use Rattle.forwarding.specs.Schedule.{rowIn}
 use Rattle.forwarding.specs.Calls.{done, refused, said, packetIn, settingSays, hopSays, walkSays, figures, countingHops, settingAt, hopping, walking}
 use Rattle.forwarding.specs.Lists.{Call, set-at, hop-under, after, afterAll, setIn, lastSetIn}
-
--- 01, Refusals: an answer
-abbrev pub answer : ℕ → ℕ → Answer
-answer number at = record { number = number; at = at }
 
 -- 01, Packet, hop and schedule; Refusals: a packet of the code, and the answers that hold it, with its place as a number
 pub record PacketMeant (p : code.Packet) : Type 0 where

@@ -11,77 +11,73 @@ use lib.ListN.{length, getD}
 use Rattle.stations.specs.declared.Answer.{Answer}
 use Rattle.stations.specs.declared.Topology.{Topology}
 use Rattle.stations.specs.Topology.{networkOf}
+use Rattle.stations.specs.Outcome.{answer}
 use Rattle.soundness.specs.Sound.{sound}
 use Rattle.order.specs.declared.Mode.{Mode}
-use Rattle.order.specs.Calls.{modeOf, says, wrongRanks, unreadyRanks, atFirst, judging, checking}
+use Rattle.order.specs.Calls.{modeOf, wrongRanks, unreadyRanks, atFirst, judging, checking}
 use Rattle.order.specs.Proposed.{Proposed}
-use Rattle.order.specs.Theorems.{answer}
 
 -- the answer's number is another
 abbrev Apart : ℕ → Answer → Type 0
 Apart k x = x .number ≡ k → ⊥
 
 -- an answer with another number comes from a later test
-later : (b : Bool) (number other at at′ : ℕ) (next : Answer) → number ≢ other → cond (not b) (says number at) next ≡ answer other at′ →
+later : (b : Bool) (number other at at′ : ℕ) (next : Answer) → number ≢ other → cond (not b) (answer number at) next ≡ answer other at′ →
     T b × (next ≡ answer other at′)
-unfolding says
 later true number other at at′ next apart e = (tt, e)
 later false number other at at′ next apart e = absurd (apart (ap (λ (x : Answer). x .number) e))
 
 none-first : (ranks : List ℕ) (number other at : ℕ) (next : Answer) → number ≢ other → atFirst number ranks next ≡ answer other at →
     (ranks ≡ []) × (next ≡ answer other at)
-unfolding atFirst says
+unfolding atFirst
 none-first [] number other at next apart e = (refl, e)
 none-first (r ∷ ranks) number other at next apart e = absurd (apart (ap (λ (x : Answer). x .number) e))
 
 -- an answer with a number that no later test has comes from this one
-fails-here : (b : Bool) (number at at′ : ℕ) (next : Answer) → Apart number next → cond (not b) (says number at) next ≡ answer number at′ →
+fails-here : (b : Bool) (number at at′ : ℕ) (next : Answer) → Apart number next → cond (not b) (answer number at) next ≡ answer number at′ →
     (at′ ≡ at) × (T b → ⊥)
-unfolding says
 fails-here true number at at′ next apart e = absurd (apart (ap (λ (x : Answer). x .number) e))
 fails-here false number at at′ next apart e = (sym (ap (λ (x : Answer). x .at) e), λ t. t)
 
 -- and over the order it points at the first rank
 first-here : (ranks : List ℕ) (number r : ℕ) (next : Answer) → Apart number next → atFirst number ranks next ≡ answer number r →
     (rest : List ℕ) × (ranks ≡ r ∷ rest)
-unfolding atFirst says
+unfolding atFirst
 first-here [] number r next apart e = absurd (apart (ap (λ (x : Answer). x .number) e))
 first-here (x ∷ rest) number r next apart e = (rest, ap (λ (y : Answer). y .at ∷ rest) e)
 
-apart-test : (b : Bool) (number at k : ℕ) (next : Answer) → number ≢ k → Apart k next → Apart k (cond (not b) (says number at) next)
-unfolding says
+apart-test : (b : Bool) (number at k : ℕ) (next : Answer) → number ≢ k → Apart k next → Apart k (cond (not b) (answer number at) next)
 apart-test true number at k next apart on = on
 apart-test false number at k next apart on = apart
 
 apart-first : (ranks : List ℕ) (number k : ℕ) (next : Answer) → number ≢ k → Apart k next → Apart k (atFirst number ranks next)
-unfolding atFirst says
+unfolding atFirst
 apart-first [] number k next apart on = on
 apart-first (x ∷ rest) number k next apart on = apart
 
 module _ (t : Topology) (d : ℕ) (m : Mode) (order : List ℕ) where
   -- the tests from one on
   abbrev from-20 : Answer
-  from-20 = atFirst 20 (unreadyRanks (networkOf t) d (modeOf m) order) (says 0 0)
+  from-20 = atFirst 20 (unreadyRanks (networkOf t) d (modeOf m) order) (answer 0 0)
 
   abbrev from-19 : Answer
-  from-19 = cond (not (eqb (getD order 0 0) d)) (says 19 0) from-20
+  from-19 = cond (not (eqb (getD order 0 0) d)) (answer 19 0) from-20
 
   abbrev from-18 : Answer
   from-18 = atFirst 18 (wrongRanks (t .routers) order) from-19
 
   abbrev from-17 : Answer
-  from-17 = cond (not (eqb (length order) (t .routers))) (says 17 (length order)) from-18
+  from-17 = cond (not (eqb (length order) (t .routers))) (answer 17 (length order)) from-18
 
   abbrev from-15 : Answer
-  from-15 = cond (not (ltb d (t .routers))) (says 15 d) from-17
+  from-15 = cond (not (ltb d (t .routers))) (answer 15 d) from-17
 
   module _ (k : ℕ) (least : 1 ≤ k) where
-    apart-0 : Apart k (says 0 0)
-    unfolding says
+    apart-0 : Apart k (answer 0 0)
     apart-0 e = omega arith
 
     apart-20 : k < 20 → Apart k from-20
-    apart-20 h = apart-first (unreadyRanks (networkOf t) d (modeOf m) order) 20 k (says 0 0) (λ e. omega arith) apart-0
+    apart-20 h = apart-first (unreadyRanks (networkOf t) d (modeOf m) order) 20 k (answer 0 0) (λ e. omega arith) apart-0
 
     apart-19 : k < 19 → Apart k from-19
     apart-19 h = apart-test (eqb (getD order 0 0) d) 19 0 k from-20 (λ e. omega arith) (apart-20 (omega arith))
@@ -162,11 +158,10 @@ module _ (t : Topology) (d : ℕ) (m : Mode) (order : List ℕ) where
         Proposed t d order × ((rest : List ℕ) × (unreadyRanks (networkOf t) d (modeOf m) order ≡ at ∷ rest))
     is-20 e =
         let (p, e₁) = past-19 20 (λ k. omega arith) (λ k. omega arith) (λ k. omega arith) (λ k. omega arith) (λ k. omega arith) e in
-        (p, first-here (unreadyRanks (networkOf t) d (modeOf m) order) 20 at (says 0 0) (apart-0 20 (omega arith)) e₁)
+        (p, first-here (unreadyRanks (networkOf t) d (modeOf m) order) 20 at (answer 0 0) (apart-0 20 (omega arith)) e₁)
 
     pub is-0 : checking t d m order ≡ answer 0 at → (at ≡ 0) × Proposed t d order × (unreadyRanks (networkOf t) d (modeOf m) order ≡ [])
-    unfolding says
     is-0 e =
         let (p, e₁) = past-19 0 (λ k. omega arith) (λ k. omega arith) (λ k. omega arith) (λ k. omega arith) (λ k. omega arith) e in
-        let (none, e₂) = none-first (unreadyRanks (networkOf t) d (modeOf m) order) 20 0 at (says 0 0) (λ k. omega arith) e₁ in
+        let (none, e₂) = none-first (unreadyRanks (networkOf t) d (modeOf m) order) 20 0 at (answer 0 0) (λ k. omega arith) e₁ in
         (sym (ap (λ (x : Answer). x .at) e₂), p, none)

@@ -15,15 +15,16 @@ use Rattle.stations.specs.declared.Topology.{Topology}
 use Rattle.soundness.specs.Sound.{sound}
 use Rattle.stations.specs.Topology.{networkOf}
 use Rattle.stations.specs.Inner.{firstOr}
+use Rattle.stations.specs.Outcome.{answer}
 use Rattle.order.specs.declared.Mode.{Mode}
-use Rattle.order.specs.Calls.{says, atFirst, wrongRanks, unreadyRanks, modeOf, judging, checking}
+use Rattle.order.specs.Calls.{atFirst, wrongRanks, unreadyRanks, modeOf, judging, checking}
 use Rattle.order.specs.Proposed.{Proposed}
 
 -- a first number below n is there
-first-there : (xs : List ℕ) (n r number : ℕ) (next : Answer) → r ≡ firstOr n xs → r < n → says number r ≡ atFirst number xs next
+first-there : (xs : List ℕ) (n r number : ℕ) (next : Answer) → r ≡ firstOr n xs → r < n → answer number r ≡ atFirst number xs next
 unfolding firstOr atFirst
 first-there [] n r number next e h = absurd (omega (arith, e))
-first-there (x ∷ xs) n r number next e h = ap (says number) e
+first-there (x ∷ xs) n r number next e h = ap (answer number) e
 
 -- where it is not below n, and every number of the list would be, the list is empty
 pub none-there : (xs : List ℕ) (n r : ℕ) → ((x : ℕ) → List·Memᴰ x xs → x < n) → r ≡ firstOr n xs → n ≤ r → xs ≡ []
@@ -40,12 +41,12 @@ pub ranks-below : (f : ℕ → Bool) (s count n : ℕ) → s + count ≤ n → (
 ranks-below f s count n h x m = omega (arith, from-bounds s count (mem-keep f (numbersFrom s count) m .0))
 
 module _ (t : Topology) (d : ℕ) (m : Mode) (order : List ℕ) where
-  pub unsound : sound t ≡ false → says 14 0 ≡ checking t d m order
+  pub unsound : sound t ≡ false → answer 14 0 ≡ checking t d m order
   unfolding checking
   unsound e = rw e
 
   module _ (good : sound t ≡ true) where
-    pub outside : t .routers ≤ d → says 15 d ≡ checking t d m order
+    pub outside : t .routers ≤ d → answer 15 d ≡ checking t d m order
     unfolding checking
     outside h = rw (good, le-ltb _ _ h)
 
@@ -53,12 +54,12 @@ module _ (t : Topology) (d : ℕ) (m : Mode) (order : List ℕ) where
     unfolding checking
     judged place = rw (good, lt-ltb _ _ place)
 
-  pub other-length : (length order ≡ t .routers → ⊥) → says 17 (length order) ≡ judging t d m order
+  pub other-length : (length order ≡ t .routers → ⊥) → answer 17 (length order) ≡ judging t d m order
   unfolding judging
   other-length h = rw (ne-eqb _ _ h)
 
   module _ (long : length order ≡ t .routers) where
-    pub wrong-entry : (r : ℕ) → r ≡ firstOr (t .routers) (wrongRanks (t .routers) order) → r < t .routers → says 18 r ≡ judging t d m order
+    pub wrong-entry : (r : ℕ) → r ≡ firstOr (t .routers) (wrongRanks (t .routers) order) → r < t .routers → answer 18 r ≡ judging t d m order
     unfolding judging
     wrong-entry r e h = rw (eq-eqb _ _ long) (first-there (wrongRanks (t .routers) order) (t .routers) r 18 _ e h)
 
@@ -67,12 +68,12 @@ module _ (t : Topology) (d : ℕ) (m : Mode) (order : List ℕ) where
     all-right r e h = none-there _ (t .routers) r (ranks-below _ 0 (length order) (t .routers) (omega arith)) e h
 
     module _ (once : wrongRanks (t .routers) order ≡ []) where
-      pub other-first : (getD order 0 0 ≡ d → ⊥) → says 19 0 ≡ judging t d m order
+      pub other-first : (getD order 0 0 ≡ d → ⊥) → answer 19 0 ≡ judging t d m order
       unfolding judging atFirst
       other-first h = rw (eq-eqb _ _ long, once, ne-eqb _ _ h)
 
   module _ (p : Proposed t d order) where
-    pub unready : (r : ℕ) → r ≡ firstOr (t .routers) (unreadyRanks (networkOf t) d (modeOf m) order) → r < t .routers → says 20 r ≡ judging t d m order
+    pub unready : (r : ℕ) → r ≡ firstOr (t .routers) (unreadyRanks (networkOf t) d (modeOf m) order) → r < t .routers → answer 20 r ≡ judging t d m order
     unfolding judging atFirst
     unready r e h =
         rw (eq-eqb _ _ (p .long), p .once, eq-eqb _ _ (p .first))
@@ -85,6 +86,6 @@ module _ (t : Topology) (d : ℕ) (m : Mode) (order : List ℕ) where
         none-there _ (t .routers) r
         (ranks-below _ 1 (pred (length order)) (t .routers) (omega (arith, p .long, pred-one (length order) d (omega (arith, p .long, p .place))))) e h
 
-    pub passes : unreadyRanks (networkOf t) d (modeOf m) order ≡ [] → says 0 0 ≡ judging t d m order
+    pub passes : unreadyRanks (networkOf t) d (modeOf m) order ≡ [] → answer 0 0 ≡ judging t d m order
     unfolding judging atFirst
     passes e = rw (eq-eqb _ _ (p .long), p .once, eq-eqb _ _ (p .first), e)

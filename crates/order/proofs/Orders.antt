@@ -28,13 +28,13 @@ use Rattle.stations.specs.declared.Topology.{Topology}
 use Rattle.stations.specs.Topology.{networkOf}
 use Rattle.soundness.specs.Sound.{sound}
 use Rattle.stations.specs.Inner.{firstOr}
-use Rattle.stations.specs.Outcome.{given, turnedAway}
+use Rattle.stations.specs.Outcome.{answer, given, turnedAway}
 use Rattle.soundness.specs.Theorems.{SoundNetwork}
 use Rattle.order.specs.declared.Mode.{Mode}
 use Rattle.order.specs.declared.Mode.the-variants as mode
-use Rattle.order.specs.Calls.{modeOf, says, unreadyRanks, building, checking}
+use Rattle.order.specs.Calls.{modeOf, unreadyRanks, building, checking}
 use Rattle.order.specs.Proposed.{Proposed}
-use Rattle.order.specs.Theorems.{answer, refused, ChecksExact, BuiltWell, BuildsByRule, BuildRefuses, UnreadyAt}
+use Rattle.order.specs.Theorems.{ChecksExact, BuiltWell, BuildsByRule, BuildRefuses, UnreadyAt}
 use Rattle.soundness.proofs.Sound.{sound-networks}
 use Rattle.order.proofs.Reached.{built-long}
 use Rattle.order.proofs.Ranges.{getD-mem, mem-getD, differ, keep-none, none-passes, keep-first, first-passes}
@@ -121,7 +121,6 @@ module _ (t : Topology) (is-sound : T (sound t)) (d : ℕ) (place : d < t .route
       none-unready = keep-none _ 1 (pred (length order)) (λ r h k. not-unready r (turn-of r h (omega arith)))
 
     pub exact : (checking t d m order ≡ answer 0 0) ↔ Accepted (networkOf t) d (modeOf m) order
-    unfolding says
     exact = (
       λ e. let (at, p, none) = is-0 t d m order 0 e in accepts p none,
       λ a. let p = proposes a in sym (passes t d m order p (none-unready a) ∙ judged t d m order good place),
@@ -169,7 +168,7 @@ module _ (t : Topology) (is-sound : T (sound t)) (d : ℕ) (place : d < t .route
     unfolding building given
     left enough = rw (good, lt-ltb d (t .routers) place, order-long, le-ltb (length buffer) (t .routers) enough)
 
-    no-room : length buffer < t .routers → building t d m buffer ≡ refused 24 (t .routers) buffer
+    no-room : length buffer < t .routers → building t d m buffer ≡ turnedAway 24 (t .routers) buffer
     unfolding building given turnedAway
     no-room short = rw (good, lt-ltb d (t .routers) place, order-long, lt-ltb (length buffer) (t .routers) short)
 

@@ -10,7 +10,7 @@ use Rattle.stations.specs.Outcome.{turnedAway, given}
 use Rattle.stations.specs.Topology.{noLink, padded, contents, held, zeros, seen, networkIn, networkOf}
 use Rattle.soundness.specs.Apart.{apart}
 use Rattle.soundness.specs.Sound.{within, inLimits, wellLinked, uncrowded, none?, connected, isNoLink, unusedZero, slotted, sound}
-use Rattle.order.specs.Calls.{modeOf, building, says, wrongRanks, unreadyRanks, atFirst, judging, checking}
+use Rattle.order.specs.Calls.{modeOf, building, wrongRanks, unreadyRanks, atFirst, judging, checking}
 use Rattle.order.specs.Table.{answers, holds, link, T-topology, square, facts, FactsHold}
 
 pub facts-hold : FactsHold
@@ -20,6 +20,6 @@ unfolding numbersFrom below keep every any leastBy ahead foremost member distinc
     reached shortestNextHops leadsInto ready candidate placedNeighbours preferred select continued placing build
     turnedAway given noLink padded contents held zeros seen networkIn networkOf apart
     within inLimits wellLinked uncrowded none? connected isNoLink unusedZero slotted sound
-    modeOf building says wrongRanks unreadyRanks atFirst judging checking
+    modeOf building wrongRanks unreadyRanks atFirst judging checking
     answers holds link T-topology square facts
 facts-hold = tt

@@ -10,12 +10,13 @@ use lib.ListN.{length, getD}
 use Rattle.network.proofs.Tests.{as-true, as-false}
 use Rattle.stations.specs.declared.Answer.{Answer}
 use Rattle.stations.specs.declared.Topology.{Topology}
+use Rattle.stations.specs.Outcome.{answer}
 use Rattle.soundness.specs.Sound.{sound}
 use Rattle.order.specs.declared.Mode.{Mode}
 use Rattle.order.specs.declared.Mode.the-variants as mode
-use Rattle.order.specs.Calls.{modeOf, says, wrongRanks, judging, checking}
+use Rattle.order.specs.Calls.{modeOf, wrongRanks, judging, checking}
 use Rattle.order.specs.Proposed.{Proposed}
-use Rattle.order.specs.Theorems.{answer, Called, AllRight, Begun, Checked, ChecksEach}
+use Rattle.order.specs.Theorems.{Called, AllRight, Begun, Checked, ChecksEach}
 use Rattle.order.proofs.Entries.{entry-right, none-wrong, first-wrong, wrong-first}
 use Rattle.order.proofs.Answers.{is-14, is-15, is-17, is-18, is-19, is-20, is-0}
 use Rattle.order.proofs.Decided.{unsound, outside, other-length, wrong-entry, other-first, unready, judged}
@@ -46,7 +47,6 @@ module _ (t : Topology) (d : ℕ) (order : List ℕ) where
 
   module _ (m : Mode) (at : ℕ) where
     checked : Checked t d m (modeOf m) order at
-    unfolding says
     checked =
         record {
           says-14 = (is-14 t d m order at, λ (e, out). sym (unsound t d m order (as-false (sound t) out)) ∙ ap (answer 14) (sym e));

@@ -14,7 +14,7 @@ use Rattle.stations.specs.declared.Answer.{Answer}
 use Rattle.stations.specs.declared.Topology.{Topology}
 use Rattle.stations.specs.Topology.{networkOf}
 use Rattle.soundness.specs.Sound.{sound}
-use Rattle.stations.specs.Outcome.{Outcome, turnedAway, given}
+use Rattle.stations.specs.Outcome.{answer, Outcome, turnedAway, given}
 use Rattle.order.specs.declared.Mode.{Mode}
 use Rattle.order.specs.declared.Mode.the-variants as mode
 
@@ -30,10 +30,6 @@ building t d m buffer =
     (cond (ltb d (t .routers)) (given (build (networkOf t) d (modeOf m)) buffer) (turnedAway 15 d buffer))
     (turnedAway 14 0 buffer)
 
--- an answer
-unfoldable pub says : ℕ → ℕ → Answer
-says number at = record { number = number; at = at }
-
 -- 18: the ranks whose entry is not below N, or stands before
 unfoldable pub wrongRanks : ℕ → List ℕ → List ℕ
 wrongRanks count order = keep (λ r. not (ltb (getD order r 0) count) || member (getD order r 0) (take r order)) (below (length order))
@@ -45,16 +41,16 @@ unreadyRanks n d m order = keep (λ r. not (candidate n (distances n d) m (take 
 -- a test over the whole order: it points at the first rank that fails it, else the next test follows
 unfoldable pub atFirst : ℕ → List ℕ → Answer → Answer
 atFirst number [] next = next
-atFirst number (r ∷ rs) next = says number r
+atFirst number (r ∷ rs) next = answer number r
 
 -- 17 at the length, 18 at the rank, 19, and 20 at the first such rank, each over the whole order
 unfoldable pub judging : Topology → ℕ → Mode → List ℕ → Answer
 judging t d m order =
-    cond (not (eqb (length order) (t .routers))) (says 17 (length order))
+    cond (not (eqb (length order) (t .routers))) (answer 17 (length order))
     (atFirst 18 (wrongRanks (t .routers) order)
-    (cond (not (eqb (getD order 0 0) d)) (says 19 0)
-    (atFirst 20 (unreadyRanks (networkOf t) d (modeOf m) order) (says 0 0))))
+    (cond (not (eqb (getD order 0 0) d)) (answer 19 0)
+    (atFirst 20 (unreadyRanks (networkOf t) d (modeOf m) order) (answer 0 0))))
 
 -- 14, 15, then 17 to 20
 unfoldable pub checking : Topology → ℕ → Mode → List ℕ → Answer
-checking t d m order = cond (not (sound t)) (says 14 0) (cond (not (ltb d (t .routers))) (says 15 d) (judging t d m order))
+checking t d m order = cond (not (sound t)) (answer 14 0) (cond (not (ltb d (t .routers))) (answer 15 d) (judging t d m order))

@@ -8,9 +8,8 @@ use lib.Dec.{T}
 use lib.ListN.{length, getD, take, drop}
 use Rattle.network.specs.Order as network
 use Rattle.network.specs.Theorems.Order.{Candidate, Accepted, ByRule}
-use Rattle.stations.specs.declared.Answer.{Answer}
 use Rattle.stations.specs.declared.Topology.{Topology}
-use Rattle.stations.specs.Outcome.{Outcome}
+use Rattle.stations.specs.Outcome.{answer, turnedAway}
 use Rattle.stations.specs.Topology.{networkOf}
 use Rattle.soundness.specs.Sound.{sound}
 use Rattle.order.specs.declared.Mode.{Mode}
@@ -25,10 +24,6 @@ pub record InBoth (claim : Mode → network.Mode → Type 0) : Type 0 where
 -- a claim of every sound topology, every destination in it and both modes
 abbrev pub OfOrders : (Topology → ℕ → Mode → network.Mode → Type 0) → Type 0
 OfOrders claim = (t : Topology) → T (sound t) → (d : ℕ) → d < t .routers → InBoth (claim t d)
-
--- 01, Refusals: an answer
-abbrev pub answer : ℕ → ℕ → Answer
-answer number at = record { number = number; at = at }
 
 -- 01, Order: `checking` answers 0 if and only if the order is accepted, as `network` has it.
 abbrev pub ChecksExact : Type 0
@@ -47,15 +42,11 @@ pub record BuiltWell (t : Topology) (d : ℕ) (m : Mode) (meant : network.Mode) 
 abbrev pub BuildsByRule : Type 0
 BuildsByRule = OfOrders (λ t d m meant. (buffer : List ℕ) → t .routers ≤ length buffer → BuiltWell t d m meant buffer)
 
--- 01, Refusals: a refused call, the buffer unchanged
-abbrev pub refused : ℕ → ℕ → List ℕ → Outcome
-refused number at buffer = record { answer = answer number at; buffer = buffer }
-
 -- 01, Refusals, 14, 15 and 24: what building refuses, where it points, and that it leaves the buffer as it was; all else is `BuildsByRule`.
 pub record BuildRefused (t : Topology) (d : ℕ) (m : Mode) (buffer : List ℕ) : Type 0 where
-  pub not-sound : (T (sound t) → ⊥) → building t d m buffer ≡ refused 14 0 buffer
-  pub no-place : T (sound t) → t .routers ≤ d → building t d m buffer ≡ refused 15 d buffer
-  pub no-room : T (sound t) → d < t .routers → length buffer < t .routers → building t d m buffer ≡ refused 24 (t .routers) buffer
+  pub not-sound : (T (sound t) → ⊥) → building t d m buffer ≡ turnedAway 14 0 buffer
+  pub no-place : T (sound t) → t .routers ≤ d → building t d m buffer ≡ turnedAway 15 d buffer
+  pub no-room : T (sound t) → d < t .routers → length buffer < t .routers → building t d m buffer ≡ turnedAway 24 (t .routers) buffer
 
 abbrev pub BuildRefuses : Type 0
 BuildRefuses = (t : Topology) (d : ℕ) (m : Mode) (buffer : List ℕ) → BuildRefused t d m buffer

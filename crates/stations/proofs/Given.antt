@@ -8,16 +8,16 @@ use native.Mathlib.Omega.{arith}
 use borrow.Author.Tests.{lt-ltb, le-ltb}
 use lib.ListN.{length, drop}
 use lib.Seq.{length-front, length-take-le, take-append-seam, drop-append-seam}
-use Rattle.stations.specs.Outcome.{turnedAway, given}
+use Rattle.stations.specs.Outcome.{answer, turnedAway, given}
 use Rattle.stations.specs.Theorems.{Given, GivenExact}
 
 module _ (bytes buffer : List ℕ) where
-  short : length buffer < length bytes → given bytes buffer ≡ record { answer = record { number = 24; at = length bytes }; buffer = buffer }
+  short : length buffer < length bytes → given bytes buffer ≡ record { answer = answer 24 (length bytes); buffer = buffer }
   unfolding given turnedAway
   short h = rw (lt-ltb _ _ h)
 
   fits : length bytes ≤ length buffer →
-      given bytes buffer ≡ record { answer = record { number = 0; at = length bytes }; buffer = bytes ++ drop (length bytes) buffer }
+      given bytes buffer ≡ record { answer = answer 0 (length bytes); buffer = bytes ++ drop (length bytes) buffer }
   unfolding given
   fits h = rw (le-ltb (length buffer) (length bytes) h)
 

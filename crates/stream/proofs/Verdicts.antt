@@ -20,6 +20,7 @@ use Rattle.network.proofs.SoundLinks.{pair-fact}
 use Rattle.stations.specs.declared.Answer.{Answer}
 use Rattle.stations.specs.declared.Link.{Link}
 use Rattle.stations.specs.Topology.{Contents, seen, networkIn}
+use Rattle.stations.specs.Outcome.{answer}
 use Rattle.soundness.specs.Apart.{apart}
 use Rattle.soundness.specs.Sound.{within}
 use Rattle.soundness.specs.Theorems.{plain, Lowest}
@@ -27,7 +28,7 @@ use Rattle.soundness.proofs.Sound.{none-apart}
 use Rattle.soundness.proofs.FirstApart.{lowest-apart}
 use Rattle.stream.specs.Reading.{refusal, accepted, routerFault, crowded, linkFault, fault, joined, ended}
 use Rattle.stream.specs.Theorems.{RouterFaults, linkedIn, neighbours, PairLinked, BothListed, Differing, Costing, Unlinked, WithRoom, LinkFaults}
-use Rattle.stream.specs.Theorems.{LimitFaults, answer, EndFaults, FaultsEach}
+use Rattle.stream.specs.Theorems.{LimitFaults, EndFaults, FaultsEach}
 use Rattle.stream.proofs.Faults.{from-6, from-7, from-8, from-9, from-10}
 
 -- what a test says where it holds, and where it fails

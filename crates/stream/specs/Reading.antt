@@ -9,6 +9,7 @@ use Rattle.network.specs.Lists.{any, member}
 use Rattle.network.specs.Network.{arcsOf, samePair}
 use Rattle.stations.specs.declared.Link.{Link}
 use Rattle.stations.specs.Limits.{mostRouters, mostLinks, mostNeighbours, mostNextHops}
+use Rattle.stations.specs.Outcome.{answer}
 use Rattle.stations.specs.Topology.{Contents, held, zeros, seen, networkIn}
 use Rattle.soundness.specs.Apart.{apart}
 use Rattle.soundness.specs.Sound.{within}
@@ -19,11 +20,11 @@ use Rattle.stream.specs.Stream.{records}
 
 -- 01, Refusals: a refused reading returns the topology of all zeros
 unfoldable pub refusal : ℕ → ℕ → Reading
-refusal number at = record { answer = record { number = number; at = at }; topology = zeros }
+refusal number at = record { answer = answer number at; topology = zeros }
 
 -- 01, Refusals: a success has number 0 and, since no buffer is written, at 0
 unfoldable pub accepted : Contents → Reading
-accepted c = record { answer = record { number = 0; at = 0 }; topology = held c }
+accepted c = record { answer = answer 0 0; topology = held c }
 
 -- 01, Refusals, 3 and 4: the number of the first test that a router's record fails, 0 if it fails none
 unfoldable pub routerFault : Contents → ℕ → ℕ

@@ -12,6 +12,7 @@ use Rattle.network.specs.Distance.{PathTo}
 use Rattle.stations.specs.declared.Answer.{Answer}
 use Rattle.stations.specs.declared.Link.{Link}
 use Rattle.stations.specs.declared.Topology.{Topology}
+use Rattle.stations.specs.Outcome.{answer}
 use Rattle.stations.specs.Topology.{Contents}
 use Rattle.soundness.specs.Sound.{sound}
 use Rattle.soundness.specs.Theorems.{plain, Lowest}
@@ -25,7 +26,7 @@ Bytes s = (b : ℕ) → List·Memᴰ b s → b < 256
 
 -- 01, Refusals: what a reading that is not refused returns
 abbrev pub success : Topology → Reading
-success t = record { answer = record { number = 0; at = 0 }; topology = t }
+success t = record { answer = answer 0 0; topology = t }
 
 -- A reading with number 0 has at 0 and a sound topology; any other has the topology of all zeros.
 pub record Read (r : Reading) : Type 0 where
@@ -94,10 +95,6 @@ pub record LinkFaults (c : Contents) (l : Link) : Type 0 where
 pub record LimitFaults (c : Contents) (k : ℕ) : Type 0 where
   pub says-16 : (fault c (record-of.Limit k) ≡ 16) ↔ ((k ≡ 0) ⊎ (16 < k))
   pub says-0 : (fault c (record-of.Limit k) ≡ 0) ↔ ((1 ≤ k) × (k ≤ 16))
-
--- 01, Refusals: an answer
-abbrev pub answer : ℕ → ℕ → Answer
-answer number at = record { number = number; at = at }
 
 -- 01, Refusals, 11 to 13: what each answer at the end record says, by whether a byte follows it and where it stands; the tests before it pass. 13
 -- and 0 are said of sound links; what bytes list without a fault is sound (`ListsSound`).

@@ -19,13 +19,14 @@ use Rattle.stations.specs.Inner.{firstOr}
 use Rattle.stations.specs.declared.Answer.{Answer}
 use Rattle.stations.specs.declared.Topology.{Topology}
 use Rattle.stations.specs.Topology.{networkOf}
+use Rattle.stations.specs.Outcome.{answer}
 use Rattle.soundness.specs.Sound.{sound}
 use Rattle.soundness.proofs.Sound.{sound-networks}
 use Rattle.arcs.specs.declared.Arcs.{Arcs}
 use Rattle.arcs.specs.Arcs.{Holds}
 use Rattle.order.specs.declared.Mode.{Mode}
 use Rattle.order.specs.declared.Mode.the-variants as mode
-use Rattle.order.specs.Calls.{modeOf, says, atFirst, judging, checking}
+use Rattle.order.specs.Calls.{modeOf, atFirst, judging, checking}
 use Rattle.order.specs.Proposed.{Settled}
 use Rattle.order.proofs.Answers.{is-0}
 use Rattle.order.proofs.Decided.{judged, none-there, ranks-below}
@@ -35,7 +36,6 @@ use Rattle.rows.specs.Bytes.{tableLength}
 use Rattle.rows.specs.Keys.{Fillable}
 use Rattle.table.specs.Listed.{destinationIn, rankIn, orderIn}
 use Rattle.table.specs.Calls.{soundRanks, differing, wrongBytes, tableJudging}
-use Rattle.table.specs.Theorems.{answer}
 use Rattle.table.proofs.Accepting.{starts?}
 
 built-either : (n : Network) → WellFormed n → (d : ℕ) → d < size n → (m : Mode) → T (accepted n d free (build n d (modeOf m)))
@@ -103,13 +103,13 @@ unfolding orderIn
 begins-with count xs table e = omega (arith, length-take count xs, ap length e, length-map-below (λ r. firstOr count (keep (λ u. eqb (rankIn table u) r) (below count))) count)
 
 -- a first number of a list, below the number that stands for none
-first-there : (xs : List ℕ) (n r number : ℕ) (next : Answer) → r ≡ firstOr n xs → r < n → says number r ≡ atFirst number xs next
+first-there : (xs : List ℕ) (n r number : ℕ) (next : Answer) → r ≡ firstOr n xs → r < n → answer number r ≡ atFirst number xs next
 unfolding firstOr atFirst
 first-there [] n r number next e h = absurd (omega arith)
 first-there (x ∷ xs) n r number next e h = rw e
 
 module _ (t : Topology) (table : List ℕ) where
-  pub wrong-length : (length table ≡ tableLength (t .routers) → ⊥) → says 21 (length table) ≡ tableJudging t table
+  pub wrong-length : (length table ≡ tableLength (t .routers) → ⊥) → answer 21 (length table) ≡ tableJudging t table
   unfolding tableJudging
   wrong-length other = rw (ne-eqb (length table) (tableLength (t .routers)) other)
 
@@ -118,18 +118,18 @@ module _ (t : Topology) (table : List ℕ) where
   offsets-below x m = ranks-below _ 0 (length table) (length table) (omega arith) x m
 
   module _ (long : length table ≡ tableLength (t .routers)) where
-    pub wrong-start : (T (starts? t table) → ⊥) → says 21 0 ≡ tableJudging t table
+    pub wrong-start : (T (starts? t table) → ⊥) → answer 21 0 ≡ tableJudging t table
     unfolding tableJudging
     wrong-start out = rw (eq-eqb (length table) (tableLength (t .routers)) long, as-false (starts? t table) out)
 
     module _ (start : T (starts? t table)) (r : ℕ) (found : r ≡ firstOr (length table) (wrongBytes (networkOf t) (t .routers) table)) where
-      pub wrong-byte : r < length table → says 21 r ≡ tableJudging t table
+      pub wrong-byte : r < length table → answer 21 r ≡ tableJudging t table
       unfolding tableJudging
       wrong-byte h =
           rw (eq-eqb (length table) (tableLength (t .routers)) long, as-true (starts? t table) start)
-          (first-there (wrongBytes (networkOf t) (t .routers) table) (length table) r 21 (says 0 0) found h)
+          (first-there (wrongBytes (networkOf t) (t .routers) table) (length table) r 21 (answer 0 0) found h)
 
-      pub none-wrong : length table ≤ r → says 0 0 ≡ tableJudging t table
+      pub none-wrong : length table ≤ r → answer 0 0 ≡ tableJudging t table
       unfolding tableJudging atFirst
       none-wrong h =
           rw (

@@ -12,7 +12,7 @@ use Rattle.stations.specs.Topology.{noLink, padded, contents, held, zeros, seen
 use Rattle.soundness.specs.Apart.{apart}
 use Rattle.soundness.specs.Sound.{within, inLimits, wellLinked, uncrowded, none?, connected, isNoLink, unusedZero, slotted, sound}
 use Rattle.topology.specs.Written.{joinedOver}
-use Rattle.order.specs.Calls.{modeOf, says, wrongRanks, unreadyRanks, atFirst, judging, checking}
+use Rattle.order.specs.Calls.{modeOf, wrongRanks, unreadyRanks, atFirst, judging, checking}
 use Rattle.order.specs.Table.{answers, link, T-topology}
 use Rattle.rows.specs.Bytes.{rowBytes, headerBytes, rowOf, rowsBytes, tableBytes, rowStart}
 use Rattle.table.specs.Listed.{kindIn, destinationIn, countIn, limitIn, rankIn, orderIn, inShortestPathMode}
@@ -27,7 +27,7 @@ unfolding numbersFrom below keep every any leastBy insert sort member distinct s
     reached leadsInto ready candidate rank sortsBefore rankedBefore fullRow row
     turnedAway given noLink padded contents held zeros seen networkIn networkOf apart
     within inLimits wellLinked uncrowded none? connected isNoLink unusedZero slotted sound
-    joinedOver modeOf says wrongRanks unreadyRanks atFirst judging checking answers link T-topology
+    joinedOver modeOf wrongRanks unreadyRanks atFirst judging checking answers link T-topology
     rowBytes headerBytes rowOf rowsBytes tableBytes rowStart unlessRefused filling
     holds lone F-links F-topology F-falling none one two room filled
     lone-table T-table-0 T-table-1 T-table-2 T-table-free F-table F-table-1 F-table-falling
@@ -40,7 +40,7 @@ unfolding numbersFrom below keep every any leastBy insert sort member distinct s
     reached leadsInto ready candidate candidatesInTurn holdsEachOnce firstIs othersInTurn accepted rank sortsBefore rankedBefore fullRow row
     firstOr noLink padded contents held zeros seen networkIn networkOf apart
     within inLimits wellLinked uncrowded none? connected isNoLink unusedZero slotted sound
-    joinedOver says atFirst answers link T-topology
+    joinedOver atFirst answers link T-topology
     rowBytes headerBytes rowOf rowsBytes tableBytes rowStart
     kindIn destinationIn countIn limitIn rankIn orderIn soundHeader soundRanks differing wrongBytes tableChecking tableJudging
     holds lone F-links F-topology F-falling none one two checked

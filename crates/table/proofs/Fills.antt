@@ -12,7 +12,7 @@ use lib.Seq.{drop-length}
 use Rattle.network.specs.Order.{free}
 use Rattle.network.specs.Theorems.Order.{Accepted}
 use Rattle.stations.specs.declared.Topology.{Topology}
-use Rattle.stations.specs.Outcome.{turnedAway, given}
+use Rattle.stations.specs.Outcome.{answer, turnedAway, given}
 use Rattle.stations.specs.Topology.{contents, networkIn, networkOf}
 use Rattle.stations.proofs.Given.{given-exact}
 use Rattle.soundness.specs.Sound.{sound}
@@ -23,7 +23,7 @@ use Rattle.order.proofs.Orders.{checks-exact}
 use Rattle.order.proofs.Verdicts.{checks-each}
 use Rattle.rows.specs.Bytes.{tableBytes}
 use Rattle.table.specs.Calls.{unlessRefused, filling}
-use Rattle.table.specs.Theorems.{answer, FillsWell, FillRefuses, TableIs, GivenBy, withLimit, GivenIsFilled}
+use Rattle.table.specs.Theorems.{FillsWell, FillRefuses, TableIs, GivenBy, withLimit, GivenIsFilled}
 use Rattle.table.proofs.Bytes.{bytes-exact}
 use Rattle.table.proofs.Verdicts.{table-long, tables-exact}
 

@@ -16,13 +16,14 @@ use Rattle.network.proofs.Tests.{truth, as-true, as-false}
 use Rattle.stations.specs.declared.Answer.{Answer}
 use Rattle.stations.specs.declared.Topology.{Topology}
 use Rattle.stations.specs.Topology.{networkOf}
+use Rattle.stations.specs.Outcome.{answer}
 use Rattle.soundness.specs.Sound.{sound}
 use Rattle.soundness.proofs.Sound.{sound-networks}
-use Rattle.order.specs.Calls.{says, atFirst}
+use Rattle.order.specs.Calls.{atFirst}
 use Rattle.rows.specs.Bytes.{tableBytes, rowStart}
 use Rattle.table.specs.Listed.{destinationIn, limitIn}
 use Rattle.table.specs.Calls.{wrongBytes, differing, tableJudging, tableChecking}
-use Rattle.table.specs.Theorems.{answer, TableIs, GivenBy, SomeGive, SoundStart, WrongAt, by-length, by-start, by-byte}
+use Rattle.table.specs.Theorems.{TableIs, GivenBy, SomeGive, SoundStart, WrongAt, by-length, by-start, by-byte}
 use Rattle.table.specs.Theorems.{TablesExact, OnlyOneGives, TableChecked, TablesEach, AcceptedGiven}
 use Rattle.table.proofs.Bytes.{bytes-exact}
 use Rattle.table.proofs.Accepting.{starts?, its-order, starts, start-passes, none-differs, agree, first-apart, apart-first}
@@ -38,7 +39,7 @@ one-answer k k′ at at′ e e′ = (ap (λ (y : Answer). y .number) (sym e ∙ 
 
 module _ (t : Topology) (table : List ℕ) where
   unsound : (T (sound t) → ⊥) → tableChecking t table ≡ answer 14 0
-  unfolding tableChecking tableJudging says
+  unfolding tableChecking tableJudging
   unsound out = rw (as-false (sound t) out)
 
   -- the table for the header's destination and K and this order
@@ -91,7 +92,7 @@ module _ (t : Topology) (table : List ℕ) where
 
     -- what is wrong is refused, and what is given is accepted
     refuses : (at : ℕ) → WrongAt t table at → tableChecking t table ≡ answer 21 at
-    unfolding tableChecking tableJudging says rowStart atFirst
+    unfolding tableChecking tableJudging rowStart atFirst
     refuses at (by-length out e) = rw (good, ne-eqb (length table) (4 + 19 * t .routers) out, e)
     refuses at (by-start long none e) =
         rw (good, eq-eqb (length table) (4 + 19 * t .routers) long, as-false (starts? t table) (λ p. none _ (starts t is-sound table p)), e)
@@ -106,7 +107,7 @@ module _ (t : Topology) (table : List ℕ) where
         )
 
     accepts : SomeGive t table → tableChecking t table ≡ answer 0 0
-    unfolding tableChecking tableJudging says rowStart atFirst
+    unfolding tableChecking tableJudging rowStart atFirst
     accepts (d, limit, order, g) =
         let s = start-of d limit order g in
         rw (

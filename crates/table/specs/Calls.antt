@@ -11,11 +11,11 @@ use Rattle.network.specs.Order.{free, accepted}
 use Rattle.stations.specs.declared.Answer.{Answer}
 use Rattle.stations.specs.declared.Topology.{Topology}
 use Rattle.stations.specs.Limits.{mostNextHops}
-use Rattle.stations.specs.Outcome.{Outcome, turnedAway, given}
+use Rattle.stations.specs.Outcome.{answer, Outcome, turnedAway, given}
 use Rattle.stations.specs.Topology.{networkOf}
 use Rattle.soundness.specs.Sound.{sound, within}
 use Rattle.order.specs.declared.Mode.the-variants as mode
-use Rattle.order.specs.Calls.{says, atFirst, checking}
+use Rattle.order.specs.Calls.{atFirst, checking}
 use Rattle.rows.specs.Bytes.{tableBytes, tableLength}
 use Rattle.table.specs.Listed.{kindIn, destinationIn, countIn, limitIn, orderIn}
 
@@ -49,10 +49,10 @@ wrongBytes n count table = differing table (tableBytes n (destinationIn table) (
 -- 21, at the length if that is wrong; else at 0 for the header or ranks; else at the first wrong byte
 unfoldable pub tableJudging : Topology → List ℕ → Answer
 tableJudging t table =
-    cond (not (eqb (length table) (tableLength (t .routers)))) (says 21 (length table))
-    (cond (not (soundHeader (t .routers) table && soundRanks (networkOf t) (t .routers) table)) (says 21 0)
-    (atFirst 21 (wrongBytes (networkOf t) (t .routers) table) (says 0 0)))
+    cond (not (eqb (length table) (tableLength (t .routers)))) (answer 21 (length table))
+    (cond (not (soundHeader (t .routers) table && soundRanks (networkOf t) (t .routers) table)) (answer 21 0)
+    (atFirst 21 (wrongBytes (networkOf t) (t .routers) table) (answer 0 0)))
 
 -- 14, then 21
 unfoldable pub tableChecking : Topology → List ℕ → Answer
-tableChecking t table = cond (not (sound t)) (says 14 0) (tableJudging t table)
+tableChecking t table = cond (not (sound t)) (answer 14 0) (tableJudging t table)

@@ -13,9 +13,8 @@ use Rattle.network.specs.Row.{rank, row}
 use Rattle.network.specs.Routing.{routers}
 use Rattle.network.specs.Theorems.Order.{Accepted}
 use Rattle.network.specs.Theorems.Routing.{OfTables}
-use Rattle.stations.specs.declared.Answer.{Answer}
 use Rattle.stations.specs.declared.Topology.{Topology}
-use Rattle.stations.specs.Outcome.{Outcome}
+use Rattle.stations.specs.Outcome.{answer, turnedAway}
 use Rattle.stations.specs.Topology.{networkOf}
 use Rattle.soundness.specs.Sound.{sound}
 use Rattle.order.specs.declared.Mode.the-variants as mode
@@ -23,14 +22,6 @@ use Rattle.order.specs.Calls.{checking}
 use Rattle.rows.specs.Bytes.{tableBytes}
 use Rattle.table.specs.Listed.{listed, forwardingBy, orderIn, inShortestPathMode}
 use Rattle.table.specs.Calls.{filling, tableChecking}
-
--- 01, Refusals: an answer
-abbrev pub answer : ℕ → ℕ → Answer
-answer number at = record { number = number; at = at }
-
--- 01, Refusals: a refused call, the buffer unchanged
-abbrev pub refused : ℕ → ℕ → List ℕ → Outcome
-refused number at buffer = record { answer = answer number at; buffer = buffer }
 
 -- 01, Rows and tables: the row of the place u, byte by byte: kind 17, its rank, its count, 16 bytes of places, unused ones 255
 pub record RowAt (n : Network) (d limit : ℕ) (order table : List ℕ) (u : ℕ) : Type 0 where
@@ -80,9 +71,9 @@ FillsWell =
 -- checking the order in free mode, which `order` spells out (`ChecksEach`); all else is `FillsWell`.
 pub record FillRefused (t : Topology) (d : ℕ) (order buffer : List ℕ) : Type 0 where
   pub not-accepted : (number at : ℕ) → number ≢ 0 → checking t d mode.Free order ≡ answer number at →
-      filling t d order buffer ≡ refused number at buffer
+      filling t d order buffer ≡ turnedAway number at buffer
   pub no-room : checking t d mode.Free order ≡ answer 0 0 → length buffer < 4 + 19 * t .routers →
-      filling t d order buffer ≡ refused 24 (4 + 19 * t .routers) buffer
+      filling t d order buffer ≡ turnedAway 24 (4 + 19 * t .routers) buffer
 
 abbrev pub FillRefuses : Type 0
 FillRefuses = (t : Topology) (d : ℕ) (order buffer : List ℕ) → FillRefused t d order buffer

@@ -8,7 +8,7 @@ use mathlib.Core.Path.{_≡_}
 use lib.Dec.{T, eqb}
 use lib.ListN.{length}
 use Rattle.stations.specs.declared.Topology.{Topology}
-use Rattle.stations.specs.Outcome.{given}
+use Rattle.stations.specs.Outcome.{turnedAway, given}
 use Rattle.soundness.specs.Sound.{sound}
 use Rattle.stream.specs.Reading.{reading}
 use Rattle.stream.specs.Theorems.{Bytes, success}
@@ -34,7 +34,7 @@ WrittenLong = (t : Topology) → T (sound t) → Written t
 -- 01, Refusals, 14 and 24: a topology that is not sound is refused with 14 at 0, and the buffer stays as it was; of any other the bytes of its stream
 -- are given, as `GivenExact` of stations says.
 pub record Writing (t : Topology) (buffer : List ℕ) : Type 0 where
-  pub unsound : sound t ≡ false → writing t buffer ≡ record { answer = record { number = 14; at = 0 }; buffer = buffer }
+  pub unsound : sound t ≡ false → writing t buffer ≡ turnedAway 14 0 buffer
   pub of-sound : T (sound t) → writing t buffer ≡ given (written t) buffer
 
 abbrev pub WritingExact : Type 0

@@ -23,7 +23,7 @@ use Rattle.stream.specs.Reading.{refusal, accepted, routerFault, crowded, linkF
 use Rattle.stream.specs.Reading.{nothingListed, reading}
 use Rattle.stream.specs.Table.{T-stream}
 use Rattle.topology.specs.Written.{joinedOver}
-use Rattle.order.specs.Calls.{modeOf, building, says, wrongRanks, unreadyRanks, atFirst, judging, checking}
+use Rattle.order.specs.Calls.{modeOf, building, wrongRanks, unreadyRanks, atFirst, judging, checking}
 use Rattle.order.specs.Table.{answers}
 use Rattle.rows.specs.Bytes.{rowBytes, headerBytes, rowOf, rowsBytes, tableBytes, rowStart}
 use Rattle.table.specs.Listed.{kindIn, destinationIn, countIn, limitIn, rankIn, placesIn, arcsTo, entriesIn, listed, orderIn}
@@ -48,7 +48,7 @@ unfolding numbersFrom below keep every any leastBy greatestBy ahead foremost ins
     within inLimits wellLinked uncrowded none? connected isNoLink unusedZero slotted sound
     bigEndianOn bigEndian bodyLength linkIn decoded recordIn records
     refusal accepted routerFault crowded linkFault fault added width isEnd joined ended unless some? inTurn nothingListed reading
-    T-stream joinedOver modeOf building says wrongRanks unreadyRanks atFirst judging checking answers
+    T-stream joinedOver modeOf building wrongRanks unreadyRanks atFirst judging checking answers
     rowBytes headerBytes rowOf rowsBytes tableBytes rowStart
     kindIn destinationIn countIn limitIn rankIn placesIn arcsTo entriesIn listed orderIn
     unlessRefused filling soundHeader soundRanks differing wrongBytes tableJudging tableChecking room

@@ -8,7 +8,6 @@ use borrow.Author.Needs.{needs}
 use borrow.Author.Tests.{not-true, not-false}
 use lib.Dec.{T}
 use Rattle.soundness.specs.Sound.{sound}
-use Rattle.order.specs.Calls.{says}
 use Rattle.order.proofs.Decided.{unsound, outside, judged}
 use Rattle.order.proofs.check.Statement.{statement}
 use Rattle.order.proofs.check.Tie as tie
@@ -17,7 +16,6 @@ is-sound-requires : tie.Need-is-sound-requires
 is-sound-requires c κs = search needs
 
 returns : tie.Need-returns
-unfolding says
 returns c = unsound _ _ _ _ (sym (c .before .is-sound .ensures) ∙ not-true _ (c .if1 .taken))
 
 index-requires : tie.Need-index-requires
@@ -31,7 +29,6 @@ passed : (c : tie.Else1) → T (sound (c .before .before .before .args .t))
 passed c = rw (good c) tt
 
 returns-2 : tie.Need-returns-2
-unfolding says
 returns-2 c =
     let i = c .before .before in rw (i .index .ensures) (outside _ _ _ _ (good (i .before)) (omega (arith, i .index .ensures, c .if2 .taken)))
 

@@ -9,12 +9,12 @@ use borrow.Author.Tests.{not-true, not-false, lt-ltb, le-ltb, ne-eqb}
 use denote.Ref.{now}
 use lib.Dec.{T}
 use lib.ListN.{length}
-use Rattle.stations.specs.Outcome.{given, turnedAway}
+use Rattle.stations.specs.Outcome.{answer, given, turnedAway}
 use Rattle.stations.specs.Topology.{networkOf}
 use Rattle.soundness.specs.Sound.{sound}
 use Rattle.soundness.proofs.Sound.{sound-exact}
 use Rattle.order.specs.declared.Mode.the-variants as mode
-use Rattle.order.specs.Calls.{says, judging, checking}
+use Rattle.order.specs.Calls.{judging, checking}
 use Rattle.order.proofs.Decided.{unsound, outside, judged}
 use Rattle.rows.specs.Bytes.{tableBytes, rowStart}
 use Rattle.table.specs.Calls.{unlessRefused, filling}
@@ -28,7 +28,7 @@ is-sound-requires : tie.Need-is-sound-requires
 is-sound-requires c κs = search needs
 
 returns : tie.Need-returns
-unfolding filling unlessRefused turnedAway says
+unfolding filling unlessRefused turnedAway
 returns c =
     let a = c .before .before .before .before .args in
     rw (← unsound (a .t) (a .destination .0) mode.Free (now (a .order)) (sym (c .before .is-sound .ensures) ∙ not-true _ (c .if1 .taken)))
@@ -44,7 +44,7 @@ passed : (c : tie.Else1) → T (sound (c .before .before .before .before .args .
 passed c = rw (good c) tt
 
 returns-2 : tie.Need-returns-2
-unfolding filling unlessRefused turnedAway says
+unfolding filling unlessRefused turnedAway
 returns-2 c =
     let a = c .before .before .before .before .before .before .args in
     rw (← outside (a .t) (a .destination .0) mode.Free (now (a .order)) (good (c .before .before)) (omega (arith, c .before .index .ensures)), c .before .index .ensures)
@@ -82,8 +82,7 @@ module _ (c : tie.Else3) where
   zero = rw (c .before .before .judge .ensures) at (c .if3 .left)
 
   whole : let a = c .before .before .before .before .before .before .before .before .before .before .args in
-      checking (a .t) (a .destination .0) mode.Free (now (a .order)) ≡ says 0 0
-  unfolding says
+      checking (a .t) (a .destination .0) mode.Free (now (a .order)) ≡ answer 0 0
   whole = let-through _ (passed (c .before .before .before .before .before .before)) _ (place (c .before .before .before .before)) _ zero
 
   long : let a = c .before .before .before .before .before .before .before .before .before .before .args in
@@ -94,7 +93,7 @@ module _ (c : tie.Else3) where
       table-long (a .t) s (bytes-exact (networkOf (a .t)) (a .destination .0) (a .t .limit) (sound-exact (a .t) .0 s .limit-most) (now (a .order)) _ .0 refl)
 
 returns-4 : tie.Need-returns-4
-unfolding filling unlessRefused given turnedAway says
+unfolding filling unlessRefused given turnedAway
 returns-4 c = rw (whole (c .before), long (c .before), lt-ltb _ _ (c .if4 .taken))
 
 distances-requires : tie.Need-distances-requires
@@ -114,7 +113,7 @@ same-length : tie.Need-same-length
 same-length c = search needs
 
 returns-5 : tie.Need-returns-5
-unfolding filling unlessRefused given turnedAway says rowStart
+unfolding filling unlessRefused given turnedAway rowStart
 returns-5 c =
     let b : tie.Else4 = c .before .before .before .before .before in
     rw (c .before .before .fill .ensures, whole (b .before), long (b .before), le-ltb _ _ (b .if4 .left))

@@ -7,14 +7,13 @@ use native.Mathlib.Omega.{arith}
 use denote.Ref.{now}
 use Rattle.stations.specs.Inner.{firstOr}
 use Rattle.soundness.proofs.Sound.{sound-exact}
-use Rattle.order.specs.Calls.{says, wrongRanks}
+use Rattle.order.specs.Calls.{wrongRanks}
 use Rattle.order.specs.Proposed.{Proposed}
 use Rattle.order.proofs.Decided.{other-length, wrong-entry, all-right, other-first, unready, none-unready, passes}
 use Rattle.order.proofs.unchecked.judge.Statement.{statement}
 use Rattle.order.proofs.unchecked.judge.Tie as tie
 
 returns : tie.Need-returns
-unfolding says
 returns c = other-length _ _ _ _ (c .if1 .taken)
 
 wrong-rank-requires : tie.Need-wrong-rank-requires
@@ -26,7 +25,6 @@ found : (c : tie.After-wrong-rank) → let args = c .before .before .before .arg
 found c = rw (c .before .if1 .left) at (c .wrong-rank .ensures)
 
 returns-2 : tie.Need-returns-2
-unfolding says
 returns-2 c = wrong-entry _ _ _ _ (c .before .before .if1 .left) _ (found (c .before)) (c .if2 .taken)
 
 shared-slice-read-if3 : tie.Need-shared-slice-read-if3
@@ -39,7 +37,6 @@ once c =
     all-right (args .t) (args .destination .0) (args .mode) (now (args .order)) (c .before .before .if1 .left) _ (found (c .before)) (c .if2 .left)
 
 returns-3 : tie.Need-returns-3
-unfolding says
 returns-3 c =
     let e : tie.Else2 = c .before .before .before in
     other-first _ _ _ _ (e .before .before .if1 .left) (once e) (c .if3 .taken)
@@ -60,13 +57,11 @@ unready-rank-requires c κs =
     rw (c .index .ensures) (e .before .before .before .before .pre, proposed (c .before))
 
 returns-4 : tie.Need-returns-4
-unfolding says
 returns-4 c =
     let i = c .before .before in
     unready _ _ _ _ (proposed (i .before)) _ (rw (i .index .ensures) at (c .before .unready-rank .ensures)) (c .if4 .taken)
 
 returns-5 : tie.Need-returns-5
-unfolding says
 returns-5 c =
     let i = c .before .before in
     let p = proposed (i .before) in

@@ -15,7 +15,7 @@ use Rattle.network.proofs.Tests.{both, and}
 use Rattle.soundness.proofs.Sound.{sound-exact}
 use Rattle.stations.specs.declared.Answer.{Answer}
 use Rattle.order.specs.declared.Mode.the-variants as mode
-use Rattle.order.specs.Calls.{says, judging}
+use Rattle.order.specs.Calls.{judging}
 use Rattle.rows.specs.Bytes.{rowStart}
 use Rattle.table.specs.Listed.{destinationIn, orderIn}
 use Rattle.table.specs.Calls.{soundHeader}
@@ -34,14 +34,14 @@ add-if1 : tie.Need-add-if1
 add-if1 c = omega (arith, few (c .before))
 
 returns : tie.Need-returns
-unfolding says rowStart
+unfolding rowStart
 returns c = wrong-length _ _ (c .if1 .taken)
 
 header-is-sound-requires : tie.Need-header-is-sound-requires
 header-is-sound-requires c κs = search needs
 
 returns-2 : tie.Need-returns-2
-unfolding says rowStart
+unfolding rowStart
 returns-2 c =
     let a = c .before .before .before .before .args in
     wrong-start _ _ (c .before .before .if1 .left)
@@ -79,7 +79,7 @@ verdict : (c : tie.After-judge) → let a = c .before .before .before .before .b
 verdict c = rw (c .before .before .before .order-of .ensures) at (c .judge .ensures)
 
 returns-3 : tie.Need-returns-3
-unfolding says rowStart destinationIn
+unfolding rowStart destinationIn
 returns-3 c =
     let j : tie.After-judge = c .before .before in
     let e : tie.Else2 = j .before .before .before .before in
@@ -116,13 +116,13 @@ first-wrong-requires c κs =
     }
 
 returns-4 : tie.Need-returns-4
-unfolding says rowStart
+unfolding rowStart
 returns-4 c =
     let e : tie.Else3 = c .before .before in
     wrong-byte _ _ (e .before .before .before .before .before .before .before .before .if1 .left) (start e) _ (c .before .first-wrong .ensures) (c .if4 .taken)
 
 returns-5 : tie.Need-returns-5
-unfolding says rowStart
+unfolding rowStart
 returns-5 c =
     let e : tie.Else3 = c .before .before in
     none-wrong _ _ (e .before .before .before .before .before .before .before .before .if1 .left) (start e) _ (c .before .first-wrong .ensures) (c .if4 .left)
