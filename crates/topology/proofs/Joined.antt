@@ -1,16 +1,18 @@
 -- Records of one width, one for each element of a list: how long they are, and one more put behind the others.
 -- Assumes nothing.
-use Prim.Native.Nat.{ℕ, _+_, _*_, _≤_}
+use Prim.Native.Nat.{ℕ, _+_, _*_, _≤_, _<_}
 use mathlib.Core.List.{List, [], _∷_, _++_, append-assoc, append-nil}
 use mathlib.Core.Path.{_≡_, refl, sym, ap, _∙_}
-use native.Mathlib.Nat.{mul-zero, mul-suc}
+use native.Mathlib.Nat.{mul-zero, mul-suc, mul-le-mul-left}
 use native.Mathlib.Omega.{arith}
-use lib.ListN.{length, length-append}
+use lib.ListN.{length, take, getD, length-append}
+use lib.Seq.{length-take-le}
 use Rattle.stations.specs.declared.Link.{Link}
+use Rattle.stations.proofs.Prefix.{take-more}
 use Rattle.stream.specs.Stream.{inBytes}
 use Rattle.topology.specs.Written.{joinedOver, routerBytes, linkBytes}
 use Rattle.topology.specs.Inner.{over}
-use Rattle.topology.proofs.Over.{over-length, over-over}
+use Rattle.topology.proofs.Over.{over-none, over-length, over-over}
 
 pub router-five : (id : ℕ) → length (routerBytes id) ≡ 5
 unfolding routerBytes inBytes
@@ -45,3 +47,36 @@ module _ {A : Type 0} (f : A → List ℕ) where
           over out (at + width * i) (f x) ≡ over buffer at (joinedOver f more)
       put-next x longer fits =
           rw (put, over-over buffer at (joinedOver f xs) (f x) (at + width * i) (rw (joined-many xs many)) (omega arith)) (sym (rw (longer, joined-last)))
+
+    -- a buffer, with room for the records of the first n elements of a list, into which those of the first i were put
+    pub record FirstPut (buffer : List ℕ) (at : ℕ) (xs : List A) (n : ℕ) (out : List ℕ) (i : ℕ) : Type 0 where
+      pub inside : n ≤ length xs
+      pub room : at + width * n ≤ length buffer
+      pub few : i ≤ n
+      pub so-far : out ≡ over buffer at (joinedOver f (take i xs))
+
+    module _ {buffer : List ℕ} {at : ℕ} {xs : List A} {n : ℕ} where
+      pub first-none : n ≤ length xs → at + width * n ≤ length buffer → FirstPut buffer at xs n buffer 0
+      unfolding joinedOver
+      first-none inside room = record { inside = inside; room = room; few = omega arith; so-far = sym (over-none buffer at) }
+
+      module _ {out : List ℕ} {i : ℕ} (p : FirstPut buffer at xs n out i) where
+        many : length (take i xs) ≡ i
+        many = length-take-le i xs (omega arith)
+
+        enough : at + width * i ≤ length buffer
+        enough = omega (arith, mul-le-mul-left width (p .few))
+
+        pub first-length : length out ≡ length buffer
+        first-length = put-length buffer at (take i xs) many (p .so-far) enough
+
+        pub first-next : (z : A) {more : List ℕ} → i < n → more ≡ over out (at + width * i) (f (getD xs i z)) → FirstPut buffer at xs n more (i + 1)
+        first-next z turn e = record {
+          inside = p .inside;
+          room = p .room;
+          few = omega arith;
+          so-far = e ∙ put-next buffer at (take i xs) many (p .so-far) (getD xs i z) (take-more xs i z (omega arith)) enough;
+        }
+
+        pub first-all : n ≤ i → out ≡ over buffer at (joinedOver f (take n xs))
+        first-all all = let e : i ≡ n = omega arith in rw e at (p .so-far)

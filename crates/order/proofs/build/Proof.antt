@@ -17,15 +17,9 @@ use Rattle.order.proofs.Reached.{built-long}
 use Rattle.order.proofs.build.Statement.{statement}
 use Rattle.order.proofs.build.Tie as tie
 
-is-sound-requires : tie.Need-is-sound-requires
-is-sound-requires c κs = search needs
-
 returns : tie.Need-returns
 unfolding building turnedAway
 returns c = rw (sym (c .before .is-sound .ensures) ∙ not-true _ (c .if1 .taken))
-
-index-requires : tie.Need-index-requires
-index-requires c κs = search needs
 
 -- the topology is sound
 good : (c : tie.Else1) → sound (c .before .before .before .args .t) ≡ true
@@ -66,9 +60,6 @@ build-requires c κs =
       e .if3 .left,
     )
 
-same-length : tie.Need-same-length
-same-length c = search needs
-
 returns-4 : tie.Need-returns-4
 unfolding building given turnedAway
 returns-4 c =
@@ -80,13 +71,13 @@ pub build-spec : {M : Type 1} → statement M
 build-spec =
     tie.close
     (tie.spec
-    is-sound-requires
+    (λ c κs. search needs)
     returns
-    index-requires
+    (λ c κs. search needs)
     returns-2
     returns-3
     of-requires
     distances-for-requires
     build-requires
-    same-length
+    (λ c. search needs)
     returns-4)

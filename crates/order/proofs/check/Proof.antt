@@ -12,14 +12,8 @@ use Rattle.order.proofs.Decided.{unsound, outside, judged}
 use Rattle.order.proofs.check.Statement.{statement}
 use Rattle.order.proofs.check.Tie as tie
 
-is-sound-requires : tie.Need-is-sound-requires
-is-sound-requires c κs = search needs
-
 returns : tie.Need-returns
 returns c = unsound _ _ _ _ (sym (c .before .is-sound .ensures) ∙ not-true _ (c .if1 .taken))
-
-index-requires : tie.Need-index-requires
-index-requires c κs = search needs
 
 -- the topology is sound
 good : (c : tie.Else1) → sound (c .before .before .before .args .t) ≡ true
@@ -60,9 +54,9 @@ pub check-spec : {M : Type 1} → statement M
 check-spec =
     tie.close
     (tie.spec
-    is-sound-requires
+    (λ c κs. search needs)
     returns
-    index-requires
+    (λ c κs. search needs)
     returns-2
     of-requires
     distances-for-requires

@@ -32,9 +32,6 @@ fit c = sym (c .before .links-fit .ensures) ∙ not-false _ (c .if3 .left)
 left-3 : (c : tie.Else3) → let t = c .before .before .before .before .before .before .args .t in sound t ≡ from-connected t
 left-3 c = let i = c .before .before in left-1 (i .before .before) ∙ rw (ids i, fit c)
 
-in-limits-requires : tie.Need-in-limits-requires
-in-limits-requires c κs = search needs
-
 returns : tie.Need-returns
 unfolding sound
 returns c = rw (sym (c .before .in-limits .ensures) ∙ not-true _ (c .if1 .taken))
@@ -90,7 +87,7 @@ pub is-sound-spec : {M : Type 1} → statement M
 is-sound-spec =
     tie.close
     (tie.spec
-    in-limits-requires
+    (λ c κs. search needs)
     returns
     ids-differ-requires
     returns-2

@@ -10,9 +10,6 @@ use Rattle.table.specs.Calls.{tableChecking}
 use Rattle.table.proofs.check.Statement.{statement}
 use Rattle.table.proofs.check.Tie as tie
 
-is-sound-requires : tie.Need-is-sound-requires
-is-sound-requires c κs = search needs
-
 returns : tie.Need-returns
 unfolding tableChecking
 returns c = rw (sym (c .before .is-sound .ensures) ∙ not-true _ (c .if1 .taken))
@@ -35,4 +32,4 @@ unfolding tableChecking
 returns-2 c = rw (good (c .before .before)) (c .check .ensures)
 
 pub check-spec : {M : Type 1} → statement M
-check-spec = tie.close (tie.spec is-sound-requires returns of-requires check-requires returns-2)
+check-spec = tie.close (tie.spec (λ c κs. search needs) returns of-requires check-requires returns-2)

@@ -24,17 +24,11 @@ use Rattle.table.proofs.Verdicts.{table-long}
 use Rattle.table.proofs.fill.Statement.{statement}
 use Rattle.table.proofs.fill.Tie as tie
 
-is-sound-requires : tie.Need-is-sound-requires
-is-sound-requires c κs = search needs
-
 returns : tie.Need-returns
 unfolding filling unlessRefused turnedAway
 returns c =
     let a = c .before .before .before .before .args in
     rw (← unsound (a .t) (a .destination .0) mode.Free (now (a .order)) (sym (c .before .is-sound .ensures) ∙ not-true _ (c .if1 .taken)))
-
-index-requires : tie.Need-index-requires
-index-requires c κs = search needs
 
 -- the topology is sound
 good : (c : tie.Else1) → sound (c .before .before .before .before .args .t) ≡ true
@@ -109,9 +103,6 @@ fill-requires c κs =
       c .before .before .if4 .left,
     )
 
-same-length : tie.Need-same-length
-same-length c = search needs
-
 returns-5 : tie.Need-returns-5
 unfolding filling unlessRefused given turnedAway rowStart
 returns-5 c =
@@ -122,9 +113,9 @@ pub fill-spec : {M : Type 1} → statement M
 fill-spec =
     tie.close
     (tie.spec
-    is-sound-requires
+    (λ c κs. search needs)
     returns
-    index-requires
+    (λ c κs. search needs)
     returns-2
     of-requires
     judge-requires
@@ -134,5 +125,5 @@ fill-spec =
     returns-4
     distances-requires
     fill-requires
-    same-length
+    (λ c. search needs)
     returns-5)

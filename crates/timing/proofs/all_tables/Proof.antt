@@ -19,24 +19,12 @@ Inv-loop t mode sum a next₀ d₀ next d = (d ≤ t .routers) × (next < 65521)
 abbrev μ-loop : tie.MeasureT-loop
 μ-loop t mode sum a next₀ d₀ next d = t .routers - d
 
-is-sound-requires : tie.Need-is-sound-requires Inv-loop μ-loop
-is-sound-requires c κs = search needs
-
-returns : tie.Need-returns Inv-loop μ-loop
-returns c = search needs
-
 -- the topology is sound
 passed : (c : tie.Else1 Inv-loop μ-loop) → T (sound (c .before .before .args .t))
 passed c = rw (sym (c .before .is-sound .ensures) ∙ not-false _ (c .if1 .left)) tt
 
 of-requires : tie.Need-of-requires Inv-loop μ-loop
 of-requires c κs = passed c
-
-loop-holds : tie.Need-loop-holds Inv-loop μ-loop
-loop-holds c = search needs
-
-room-requires : tie.Need-room-requires Inv-loop μ-loop
-room-requires c κs = search needs
 
 cast-t13 : tie.Need-cast-t13 Inv-loop μ-loop
 cast-t13 c = omega (arith, sound-exact _ .0 (passed (c .before .before .before .before .before)) .routers-most)
@@ -65,35 +53,23 @@ with-bytes-requires : tie.Need-with-bytes-requires Inv-loop μ-loop
 with-bytes-requires c κs =
     (c .before .before .before .before .before .before .before .loop .inv .1, omega (arith, long (c .before .before)), omega arith, omega arith)
 
-add-d : tie.Need-add-d Inv-loop μ-loop
-add-d c = search needs
-
-loop-less : tie.Need-loop-less Inv-loop μ-loop
-loop-less c = search needs
-
-loop-again : tie.Need-loop-again Inv-loop μ-loop
-loop-again c = search needs
-
-returns-2 : tie.Need-returns-2 Inv-loop μ-loop
-returns-2 c = search needs
-
 pub all-tables-spec : {M : Type 1} → statement M
 all-tables-spec =
     tie.close
     (tie.spec
     Inv-loop
     μ-loop
-    is-sound-requires
-    returns
+    (λ c κs. search needs)
+    (λ c. search needs)
     of-requires
-    loop-holds
-    room-requires
+    (λ c. search needs)
+    (λ c κs. search needs)
     cast-t13
     slice-aggregate-build
     build-requires
     slice-aggregate-with-bytes
     with-bytes-requires
-    add-d
-    loop-less
-    loop-again
-    returns-2)
+    (λ c. search needs)
+    (λ c. search needs)
+    (λ c. search needs)
+    (λ c. search needs))

@@ -7,9 +7,6 @@ use Rattle.rows.specs.Bytes.{rowStart}
 use Rattle.timing.proofs.put_table.Statement.{statement}
 use Rattle.timing.proofs.put_table.Tie as tie
 
-of-requires : tie.Need-of-requires
-of-requires c κs = search needs
-
 build-requires : tie.Need-build-requires
 unfolding rowStart
 build-requires c κs =
@@ -21,11 +18,5 @@ build-requires c κs =
       omega (arith, c .before .before .before .pre .1, good .routers-most),
     )
 
-same-length : tie.Need-same-length
-same-length c = search needs
-
-returns : tie.Need-returns
-returns c = search needs
-
 pub put-table-spec : {M : Type 1} → statement M
-put-table-spec = tie.close (tie.spec of-requires build-requires same-length returns)
+put-table-spec = tie.close (tie.spec (λ c κs. search needs) build-requires (λ c. search needs) (λ c. search needs))

@@ -19,18 +19,9 @@ Inv-loop t times bytes length sum₀ i₀ sum i = (i ≤ times) × (sum < 65521)
 abbrev μ-loop : tie.MeasureT-loop
 μ-loop t times bytes length sum₀ i₀ sum i = times - i
 
-is-sound-requires : tie.Need-is-sound-requires Inv-loop μ-loop
-is-sound-requires c κs = search needs
-
-returns : tie.Need-returns Inv-loop μ-loop
-returns c = search needs
-
 -- the topology is sound
 passed : (c : tie.Else1 Inv-loop μ-loop) → T (sound (c .before .before .args .t))
 passed c = rw (sym (c .before .is-sound .ensures) ∙ not-false _ (c .if1 .left)) tt
-
-room-requires : tie.Need-room-requires Inv-loop μ-loop
-room-requires c κs = search needs
 
 slice-aggregate-put-table : tie.Need-slice-aggregate-put-table Inv-loop μ-loop
 slice-aggregate-put-table c = c .before .room .ensures
@@ -48,9 +39,6 @@ mul-length c = omega (arith, sound-exact _ .0 (passed (c .before .before .before
 add-length : tie.Need-add-length Inv-loop μ-loop
 add-length c = omega (arith, sound-exact _ .0 (passed (c .before .before .before .before .before)) .routers-most)
 
-loop-holds : tie.Need-loop-holds Inv-loop μ-loop
-loop-holds c = search needs
-
 array-share-prefix-bytes : tie.Need-array-share-prefix-bytes Inv-loop μ-loop
 array-share-prefix-bytes c =
     let put = c .before .before .before .before in
@@ -59,39 +47,24 @@ array-share-prefix-bytes c =
 slice-aggregate-all-counts : tie.Need-slice-aggregate-all-counts Inv-loop μ-loop
 slice-aggregate-all-counts c = sym (length-take-le _ _ (array-share-prefix-bytes (c .before)))
 
-all-counts-requires : tie.Need-all-counts-requires Inv-loop μ-loop
-all-counts-requires c κs = search needs
-
-add-i : tie.Need-add-i Inv-loop μ-loop
-add-i c = search needs
-
-loop-less : tie.Need-loop-less Inv-loop μ-loop
-loop-less c = search needs
-
-loop-again : tie.Need-loop-again Inv-loop μ-loop
-loop-again c = search needs
-
-returns-2 : tie.Need-returns-2 Inv-loop μ-loop
-returns-2 c = search needs
-
 pub repeated-counts-spec : {M : Type 1} → statement M
 repeated-counts-spec =
     tie.close
     (tie.spec
     Inv-loop
     μ-loop
-    is-sound-requires
-    returns
-    room-requires
+    (λ c κs. search needs)
+    (λ c. search needs)
+    (λ c κs. search needs)
     slice-aggregate-put-table
     put-table-requires
     mul-length
     add-length
-    loop-holds
+    (λ c. search needs)
     array-share-prefix-bytes
     slice-aggregate-all-counts
-    all-counts-requires
-    add-i
-    loop-less
-    loop-again
-    returns-2)
+    (λ c κs. search needs)
+    (λ c. search needs)
+    (λ c. search needs)
+    (λ c. search needs)
+    (λ c. search needs))

@@ -20,18 +20,9 @@ Inv-loop t long times bytes length most rows schedule end sum₀ i₀ sum i = (i
 abbrev μ-loop : tie.MeasureT-loop
 μ-loop t long times bytes length most rows schedule end sum₀ i₀ sum i = times - i
 
-is-sound-requires : tie.Need-is-sound-requires Inv-loop μ-loop
-is-sound-requires c κs = search needs
-
-returns : tie.Need-returns Inv-loop μ-loop
-returns c = search needs
-
 -- the topology is sound
 passed : (c : tie.Else1 Inv-loop μ-loop) → T (sound (c .before .before .args .t))
 passed c = rw (sym (c .before .is-sound .ensures) ∙ not-false _ (c .if1 .left)) tt
-
-room-requires : tie.Need-room-requires Inv-loop μ-loop
-room-requires c κs = search needs
 
 slice-aggregate-put-table : tie.Need-slice-aggregate-put-table Inv-loop μ-loop
 slice-aggregate-put-table c = c .before .room .ensures
@@ -55,9 +46,6 @@ sub-most c = omega (arith, sound-exact _ .0 (passed (c .before .before .before .
 mul-rows : tie.Need-mul-rows Inv-loop μ-loop
 mul-rows c = omega (arith, sound-exact _ .0 (passed (c .before .before .before .before .before .before .before)) .routers-most)
 
-room-for-schedule-requires : tie.Need-room-for-schedule-requires Inv-loop μ-loop
-room-for-schedule-requires c κs = search needs
-
 slice-aggregate-put-schedule : tie.Need-slice-aggregate-put-schedule Inv-loop μ-loop
 slice-aggregate-put-schedule c = c .before .room-for-schedule .ensures
 
@@ -74,9 +62,6 @@ put-schedule-requires c κs =
 -- the schedule's room is as long as it was
 long-schedule : (c : tie.After-put-schedule Inv-loop μ-loop) → length (c .put-schedule .last .1 .1 .0) ≡ 161280
 long-schedule c = c .put-schedule .kept .1 .1 .0 ∙ sym (c .before .before .room-for-schedule .ensures)
-
-loop-holds : tie.Need-loop-holds Inv-loop μ-loop
-loop-holds c = search needs
 
 array-share-prefix-bytes : tie.Need-array-share-prefix-bytes Inv-loop μ-loop
 array-share-prefix-bytes c =
@@ -97,43 +82,31 @@ all-walks-requires : tie.Need-all-walks-requires Inv-loop μ-loop
 all-walks-requires c κs =
     (sound-exact _ .0 (passed (c .before .before .before .before .before .before .before .before .before .before .before .before .before .before .before)) .routers-most, c .before .before .before .loop .inv .1)
 
-add-i : tie.Need-add-i Inv-loop μ-loop
-add-i c = search needs
-
-loop-less : tie.Need-loop-less Inv-loop μ-loop
-loop-less c = search needs
-
-loop-again : tie.Need-loop-again Inv-loop μ-loop
-loop-again c = search needs
-
-returns-2 : tie.Need-returns-2 Inv-loop μ-loop
-returns-2 c = search needs
-
 pub repeated-walks-spec : {M : Type 1} → statement M
 repeated-walks-spec =
     tie.close
     (tie.spec
     Inv-loop
     μ-loop
-    is-sound-requires
-    returns
-    room-requires
+    (λ c κs. search needs)
+    (λ c. search needs)
+    (λ c κs. search needs)
     slice-aggregate-put-table
     put-table-requires
     mul-length
     add-length
     sub-most
     mul-rows
-    room-for-schedule-requires
+    (λ c κs. search needs)
     slice-aggregate-put-schedule
     put-schedule-requires
-    loop-holds
+    (λ c. search needs)
     array-share-prefix-bytes
     slice-aggregate-all-walks
     array-share-prefix-schedule
     slice-aggregate-all-walks-2
     all-walks-requires
-    add-i
-    loop-less
-    loop-again
-    returns-2)
+    (λ c. search needs)
+    (λ c. search needs)
+    (λ c. search needs)
+    (λ c. search needs))

@@ -20,9 +20,6 @@ use Rattle.topology.proofs.WrittenParts.{parts-written}
 use Rattle.topology.proofs.write.Statement.{statement}
 use Rattle.topology.proofs.write.Tie as tie
 
-is-sound-requires : tie.Need-is-sound-requires
-is-sound-requires c κs = search needs
-
 returns : tie.Need-returns
 unfolding writing turnedAway
 returns c = rw (sym (c .before .is-sound .ensures) ∙ not-true _ (c .if1 .taken))
@@ -107,7 +104,7 @@ pub write-spec : {M : Type 1} → statement M
 write-spec =
     tie.close
     (tie.spec
-    is-sound-requires
+    (λ c κs. search needs)
     returns
     length-of-requires
     returns-2

@@ -35,12 +35,6 @@ module _ (c : tie.In-loop Inv-loop μ-loop) where
   cheap : getD (c .before .before .before .args .cost .now) (c .before .before .before .args .u * 16 + (c .before .loop .j - 1)) 0 ≤ 65535
   cheap = c .before .before .before .pre .cheap (c .before .loop .j - 1) (omega arith)
 
-mul-first : tie.Need-mul-first Inv-loop μ-loop
-mul-first c = omega arith
-
-mul-best : tie.Need-mul-best Inv-loop μ-loop
-mul-best c = omega arith
-
 element-copy-out-best : tie.Need-element-copy-out-best Inv-loop μ-loop
 element-copy-out-best c = c .pre .place
 
@@ -48,26 +42,8 @@ loop-holds : tie.Need-loop-holds Inv-loop μ-loop
 unfolding leastBy
 loop-holds c = (omega arith, rw down-none refl)
 
-sub-j : tie.Need-sub-j Inv-loop μ-loop
-sub-j c = omega arith
-
-add-v : tie.Need-add-v Inv-loop μ-loop
-add-v c = omega arith
-
-element-copy-out-v : tie.Need-element-copy-out-v Inv-loop μ-loop
-element-copy-out-v c = omega arith
-
 cast-v : tie.Need-cast-v Inv-loop μ-loop
 cast-v c = omega (arith, leads (c .before))
-
-add-through : tie.Need-add-through Inv-loop μ-loop
-add-through c = omega arith
-
-mul-through : tie.Need-mul-through Inv-loop μ-loop
-mul-through c = omega arith
-
-element-copy-out-through : tie.Need-element-copy-out-through Inv-loop μ-loop
-element-copy-out-through c = omega arith
 
 cast-through : tie.Need-cast-through Inv-loop μ-loop
 cast-through c = omega (arith, cheap (c .before .before))
@@ -83,16 +59,10 @@ add-through-2 c =
     let turn = c .before .before .before in
     omega (arith, cheap turn, turn .before .before .before .pre .near _ (leads turn))
 
-loop-less : tie.Need-loop-less Inv-loop μ-loop
-loop-less c = omega arith
-
 loop-again : tie.Need-loop-again Inv-loop μ-loop
 loop-again c =
     let head = c .before .before .before .before .before in
     (omega arith, omega (arith, turned _ _ _ _ _ (head .loop .j) (head .loop .best) (omega arith) (omega arith) (head .loop .inv .1)))
-
-loop-less-2 : tie.Need-loop-less-2 Inv-loop μ-loop
-loop-less-2 c = omega arith
 
 loop-again-2 : tie.Need-loop-again-2 Inv-loop μ-loop
 loop-again-2 c =
@@ -108,23 +78,23 @@ least-spec =
     (tie.spec
     Inv-loop
     μ-loop
-    mul-first
-    mul-best
+    (λ c. omega arith)
+    (λ c. omega arith)
     element-copy-out-best
     loop-holds
-    sub-j
-    add-v
-    element-copy-out-v
+    (λ c. omega arith)
+    (λ c. omega arith)
+    (λ c. omega arith)
     cast-v
-    add-through
-    mul-through
-    element-copy-out-through
+    (λ c. omega arith)
+    (λ c. omega arith)
+    (λ c. omega arith)
     cast-through
     mul-through-2
     element-copy-out-through-2
     add-through-2
-    loop-less
+    (λ c. omega arith)
     loop-again
-    loop-less-2
+    (λ c. omega arith)
     loop-again-2
     returns)

@@ -29,26 +29,11 @@ loop-holds : tie.Need-loop-holds Inv-loop μ-loop
 unfolding roundIn below numbersFrom
 loop-holds c = (omega arith, refl)
 
-element-copy-out-count : tie.Need-element-copy-out-count Inv-loop μ-loop
-element-copy-out-count c = omega arith
-
 cast-count : tie.Need-cast-count Inv-loop μ-loop
 cast-count c = omega (arith, c .before .before .before .before .pre .each (c .before .before .loop .u) (omega arith) .few)
 
 least-requires : tie.Need-least-requires Inv-loop μ-loop
 least-requires c κs = let head = c .before .before in head .before .before .pre .each (head .loop .u) (omega arith)
-
-mul-next : tie.Need-mul-next Inv-loop μ-loop
-mul-next c = omega arith
-
-array-write-next : tie.Need-array-write-next Inv-loop μ-loop
-array-write-next c = omega arith
-
-add-u : tie.Need-add-u Inv-loop μ-loop
-add-u c = omega arith
-
-loop-less : tie.Need-loop-less Inv-loop μ-loop
-loop-less c = omega arith
 
 loop-again : tie.Need-loop-again Inv-loop μ-loop
 loop-again c =
@@ -67,12 +52,12 @@ next-round-spec =
     Inv-loop
     μ-loop
     loop-holds
-    element-copy-out-count
+    (λ c. omega arith)
     cast-count
     least-requires
-    mul-next
-    array-write-next
-    add-u
-    loop-less
+    (λ c. omega arith)
+    (λ c. omega arith)
+    (λ c. omega arith)
+    (λ c. omega arith)
     loop-again
     returns)

@@ -37,9 +37,6 @@ loop-holds : tie.Need-loop-holds Inv-loop μ-loop
 unfolding member any
 loop-holds c = (omega arith, refl, λ r h. absurd (omega arith), λ v h. getD-replicate {A = Bool} 64 v false false h)
 
-shared-slice-read-u : tie.Need-shared-slice-read-u Inv-loop μ-loop
-shared-slice-read-u c = search needs
-
 cast-u : tie.Need-cast-u Inv-loop μ-loop
 cast-u c = omega (arith, c .shared-slice-known .given (c .before .before .loop .rank))
 
@@ -52,9 +49,6 @@ returns c =
     let large = le-ltb (getD (args .order .now) (at .rank) 0) (args .n) (c .if1 .taken) in
     sym (first-below (wrong (args .n) (args .order .now)) (length (args .order .now)) (at .rank) _ (turn .loop-test .taken) (at .inv .2) (rw large))
 
-array-read-if2 : tie.Need-array-read-if2 Inv-loop μ-loop
-array-read-if2 c = search needs
-
 returns-2 : tie.Need-returns-2 Inv-loop μ-loop
 unfolding wrongRanks firstOr
 returns-2 c =
@@ -65,15 +59,6 @@ returns-2 c =
     let stands = sym (at .inv .3 _ (omega arith)) ∙ c .if2 .taken in
     sym (first-below (wrong (args .n) (args .order .now)) (length (args .order .now)) (at .rank) _ (turn .loop-test .taken) (at .inv .2)
     (rw small stands))
-
-array-write-held : tie.Need-array-write-held Inv-loop μ-loop
-array-write-held c = search needs
-
-add-rank : tie.Need-add-rank Inv-loop μ-loop
-add-rank c = search needs
-
-loop-less : tie.Need-loop-less Inv-loop μ-loop
-loop-less c = search needs
 
 loop-again : tie.Need-loop-again Inv-loop μ-loop
 loop-again c =
@@ -105,13 +90,13 @@ wrong-rank-spec =
     Inv-loop
     μ-loop
     loop-holds
-    shared-slice-read-u
+    (λ c. search needs)
     cast-u
     returns
-    array-read-if2
+    (λ c. search needs)
     returns-2
-    array-write-held
-    add-rank
-    loop-less
+    (λ c. search needs)
+    (λ c. search needs)
+    (λ c. search needs)
     loop-again
     returns-3)

@@ -20,9 +20,6 @@ Inv-loop mode out₀ t a ds n d placed₀ near₀ left₀ count rank₀ out plac
 abbrev μ-loop : tie.MeasureT-loop
 μ-loop mode out₀ t a ds n d placed₀ near₀ left₀ count rank₀ out placed near left rank = n - rank
 
-index-requires : tie.Need-index-requires Inv-loop μ-loop
-index-requires c κs = tt
-
 -- what is given, for the index of the destination
 given : (c : tie.After-index Inv-loop μ-loop) →
     let args = c .before .before .args in LaidOut (args .t1) (args .t2) (c .index .result) (args .mode) (args .t3)
@@ -126,7 +123,7 @@ build-spec =
     (tie.spec
     Inv-loop
     μ-loop
-    index-requires
+    (λ c κs. tt)
     waits-requires
     element-copy-out-count
     cast-count

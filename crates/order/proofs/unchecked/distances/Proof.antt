@@ -21,9 +21,6 @@ abbrev μ-loop : tie.MeasureT-loop
 held : (c : tie.Start Inv-loop μ-loop) → Held (networkOf (c .args .t)) (c .args .t2) (c .args .t .routers)
 held c = sound-held (c .args .t) (c .args .t2) (c .pre .0) (c .pre .1)
 
-index-requires : tie.Need-index-requires Inv-loop μ-loop
-index-requires c κs = tt
-
 -- the index of the destination is a place
 place : (c : tie.After-index Inv-loop μ-loop) → c .index .result < c .before .args .t .routers
 place c = rw (c .index .ensures) (c .before .pre .2)
@@ -67,9 +64,6 @@ returns c =
 add-k : tie.Need-add-k Inv-loop μ-loop
 add-k c = omega (arith, held (start (turn (c .before .before .before))) .most)
 
-loop-less : tie.Need-loop-less Inv-loop μ-loop
-loop-less c = omega arith
-
 loop-again : tie.Need-loop-again Inv-loop μ-loop
 loop-again c = (omega arith, omega arith, λ m h. as-many (omega arith) (next (c .before .before) m h))
 
@@ -85,13 +79,13 @@ distances-spec =
     (tie.spec
     Inv-loop
     μ-loop
-    index-requires
+    (λ c κs. tt)
     first-round-requires
     loop-holds
     next-round-requires
     same-requires
     returns
     add-k
-    loop-less
+    (λ c. omega arith)
     loop-again
     returns-2)

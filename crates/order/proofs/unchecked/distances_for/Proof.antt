@@ -5,15 +5,6 @@ use Rattle.order.proofs.Turn.{settled-serve, zeros-serve}
 use Rattle.order.proofs.unchecked.distances_for.Statement.{statement}
 use Rattle.order.proofs.unchecked.distances_for.Tie as tie
 
-enum-told : tie.Need-enum-told
-enum-told c = search needs
-
-distances-requires : tie.Need-distances-requires
-distances-requires c κs = search needs
-
-enum-told-2 : tie.Need-enum-told-2
-enum-told-2 c = search needs
-
 returns : tie.Need-returns
 returns c = settled-serve _ (c .distances .ensures)
 
@@ -21,4 +12,4 @@ returns-2 : tie.Need-returns-2
 returns-2 c = rw (c .enum-told2 .given .1) (zeros-serve _ _)
 
 pub distances-for-spec : {M : Type 1} → statement M
-distances-for-spec = tie.close (tie.spec enum-told distances-requires enum-told-2 returns returns-2)
+distances-for-spec = tie.close (tie.spec (λ c. search needs) (λ c κs. search needs) (λ c. search needs) returns returns-2)

@@ -41,9 +41,6 @@ returns-3 c =
     let e : tie.Else2 = c .before .before .before in
     other-first _ _ _ _ (e .before .before .if1 .left) (once e) (c .if3 .taken)
 
-index-requires : tie.Need-index-requires
-index-requires c κs = tt
-
 proposed : (c : tie.Else3) → let args = c .before .before .before .before .before .before .before .args in
     Proposed (args .t) (args .destination .0) (now (args .order))
 proposed c =
@@ -76,7 +73,7 @@ judge-spec =
     returns-2
     shared-slice-read-if3
     returns-3
-    index-requires
+    (λ c κs. tt)
     unready-rank-requires
     returns-4
     returns-5)

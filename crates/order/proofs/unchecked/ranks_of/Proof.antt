@@ -36,9 +36,6 @@ abbrev μ-loop : tie.MeasureT-loop
 loop-holds : tie.Need-loop-holds Inv-loop μ-loop
 loop-holds c = (omega arith, refl, λ v m. absurd (List·Memᴰ·not-nil m), λ v h out. ap (λ (x : Rank). x .0) (getD-replicate 64 v zeroth zeroth h))
 
-shared-slice-read-u : tie.Need-shared-slice-read-u Inv-loop μ-loop
-shared-slice-read-u c = search needs
-
 -- the place at rank r
 module _ (order : List ℕ) (ranked : Ranked order) (r : ℕ) (h : r < length order) where
   whole : order ≡ take r order ++ (getD order r 0 ∷ drop (suc r) order)
@@ -84,12 +81,6 @@ cast-t9 c = let ranked = c .before .before .before .pre in omega (arith, at-most
 array-set-from-by : tie.Need-array-set-from-by Inv-loop μ-loop
 array-set-from-by c = place _ (c .before .before .before .pre) _ (c .before .loop-test .taken)
 
-add-rank : tie.Need-add-rank Inv-loop μ-loop
-add-rank c = search needs
-
-loop-less : tie.Need-loop-less Inv-loop μ-loop
-loop-less c = search needs
-
 loop-again : tie.Need-loop-again Inv-loop μ-loop
 loop-again c =
     let at = c .before .before .loop in
@@ -115,11 +106,11 @@ ranks-of-spec =
     Inv-loop
     μ-loop
     loop-holds
-    shared-slice-read-u
+    (λ c. search needs)
     cast-u
     cast-t9
     array-set-from-by
-    add-rank
-    loop-less
+    (λ c. search needs)
+    (λ c. search needs)
     loop-again
     returns)

@@ -142,9 +142,6 @@ put-row-requires c κs =
 add-u : tie.Need-add-u Inv-loop μ-loop
 add-u c = omega (arith, turn (c .before .before .before .before .before .before .before .before .before .before .before .before .before .before), most (c .before .before .before .before .before .before .before .before .before .before .before .before .before .before .before))
 
-loop-less : tie.Need-loop-less Inv-loop μ-loop
-loop-less c = search needs
-
 loop-again : tie.Need-loop-again Inv-loop μ-loop
 unfolding rankOf rowStart
 loop-again c =
@@ -192,7 +189,7 @@ fill-spec =
     add-put-row
     put-row-requires
     add-u
-    loop-less
+    (λ c. search needs)
     loop-again
     same-length
     returns)

@@ -10,20 +10,11 @@ use Rattle.rows.specs.Bytes.{headerBytes}
 use Rattle.rows.proofs.writing.put_header.Statement.{statement}
 use Rattle.rows.proofs.writing.put_header.Tie as tie
 
-slice-write-out : tie.Need-slice-write-out
-slice-write-out c = search needs
-
 slice-write-out-2 : tie.Need-slice-write-out-2
 slice-write-out-2 c = simp length-set (omega arith)
 
 slice-write-out-3 : tie.Need-slice-write-out-3
 slice-write-out-3 c = simp length-set (omega arith)
-
-slice-write-out-4 : tie.Need-slice-write-out-4
-slice-write-out-4 c = search needs
-
-same-length : tie.Need-same-length
-same-length c = search needs
 
 returns : tie.Need-returns
 unfolding headerBytes
@@ -35,9 +26,9 @@ pub put-header-spec : {M : Type 1} → statement M
 put-header-spec =
     tie.close
     (tie.spec
-    slice-write-out
+    (λ c. search needs)
     slice-write-out-2
     slice-write-out-3
-    slice-write-out-4
-    same-length
+    (λ c. search needs)
+    (λ c. search needs)
     returns)

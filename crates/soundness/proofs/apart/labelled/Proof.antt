@@ -18,23 +18,8 @@ abbrev μ-loop : tie.MeasureT-loop
 asked : (c : tie.Start Inv-loop μ-loop) → Asked (c .args .t1)
 asked c = record { counted = c .pre .0; well = c .pre .1; slots = links-length (c .args .t1) _ (c .good .0) }
 
-separate-requires : tie.Need-separate-requires Inv-loop μ-loop
-separate-requires c κs = tt
-
 loop-holds : tie.Need-loop-holds Inv-loop μ-loop
 loop-holds c = (omega arith, rw (c .separate .ensures) (after-none (asked (c .before))))
-
-mul-l : tie.Need-mul-l Inv-loop μ-loop
-mul-l c = omega arith
-
-element-copy-out-l : tie.Need-element-copy-out-l Inv-loop μ-loop
-element-copy-out-l c = omega arith
-
-index-requires : tie.Need-index-requires Inv-loop μ-loop
-index-requires c κs = tt
-
-index-requires-2 : tie.Need-index-requires-2 Inv-loop μ-loop
-index-requires-2 c κs = tt
 
 turn : (c : tie.After-index2 Inv-loop μ-loop) →
     Turn (c .before .before .before .before .before .before .args .t1) (c .before .before .before .before .loop .i) (c .before .index .result)
@@ -54,15 +39,6 @@ array-read-from c = ends-listed (turn c) .0
 array-read-to : tie.Need-array-read-to Inv-loop μ-loop
 array-read-to c = ends-listed (turn c) .1
 
-merged-requires : tie.Need-merged-requires Inv-loop μ-loop
-merged-requires c κs = tt
-
-add-i : tie.Need-add-i Inv-loop μ-loop
-add-i c = omega arith
-
-loop-less : tie.Need-loop-less Inv-loop μ-loop
-loop-less c = omega arith
-
 loop-again : tie.Need-loop-again Inv-loop μ-loop
 loop-again c =
     let h = c .before .before .before .before .before .loop .inv .1 in
@@ -78,16 +54,16 @@ labelled-spec =
     (tie.spec
     Inv-loop
     μ-loop
-    separate-requires
+    (λ c κs. tt)
     loop-holds
-    mul-l
-    element-copy-out-l
-    index-requires
-    index-requires-2
+    (λ c. omega arith)
+    (λ c. omega arith)
+    (λ c κs. tt)
+    (λ c κs. tt)
     array-read-from
     array-read-to
-    merged-requires
-    add-i
-    loop-less
+    (λ c κs. tt)
+    (λ c. omega arith)
+    (λ c. omega arith)
     loop-again
     returns)

@@ -18,18 +18,6 @@ abbrev μ-loop : tie.MeasureT-loop
 loop-holds : tie.Need-loop-holds Inv-loop μ-loop
 loop-holds c = stored-none (below 64) _ (length-below 64)
 
-cast-labels : tie.Need-cast-labels Inv-loop μ-loop
-cast-labels c = omega arith
-
-array-write-labels : tie.Need-array-write-labels Inv-loop μ-loop
-array-write-labels c = omega arith
-
-add-i : tie.Need-add-i Inv-loop μ-loop
-add-i c = omega arith
-
-loop-less : tie.Need-loop-less Inv-loop μ-loop
-loop-less c = omega arith
-
 loop-again : tie.Need-loop-again Inv-loop μ-loop
 loop-again c =
     let h : c .before .loop .i < 64 = omega arith in
@@ -45,9 +33,9 @@ separate-spec =
     Inv-loop
     μ-loop
     loop-holds
-    cast-labels
-    array-write-labels
-    add-i
-    loop-less
+    (λ c. omega arith)
+    (λ c. omega arith)
+    (λ c. omega arith)
+    (λ c. omega arith)
     loop-again
     returns)

@@ -23,12 +23,6 @@ abbrev μ-loop : tie.MeasureT-loop
 loop-holds : tie.Need-loop-holds Inv-loop μ-loop
 loop-holds c = record { within = c .pre .links-fit; long = links-length (c .args .t1) _ (c .good .0); is = refl }
 
-mul-l : tie.Need-mul-l Inv-loop μ-loop
-mul-l c = search needs
-
-element-copy-out-l : tie.Need-element-copy-out-l Inv-loop μ-loop
-element-copy-out-l c = search needs
-
 returns : tie.Need-returns Inv-loop μ-loop
 unfolding noLink isNoLink
 returns c = rest-fails (c .before .before .before .before .loop .inv) (omega arith) noLink (rw (ne-eqb _ 0 (c .if1 .taken)))
@@ -46,12 +40,6 @@ returns-3 c =
     let w = v .before .before in
     rest-fails (w .before .before .before .before .loop .inv) (omega arith) noLink
     (rw (eq-eqb _ 0 (w .if1 .left), eq-eqb _ 0 (v .if2 .left), ne-eqb _ 0 (c .if3 .taken)))
-
-add-i : tie.Need-add-i Inv-loop μ-loop
-add-i c = search needs
-
-loop-less : tie.Need-loop-less Inv-loop μ-loop
-loop-less c = omega arith
 
 loop-again : tie.Need-loop-again Inv-loop μ-loop
 unfolding noLink isNoLink
@@ -71,12 +59,12 @@ links-end-spec =
     Inv-loop
     μ-loop
     loop-holds
-    mul-l
-    element-copy-out-l
+    (λ c. search needs)
+    (λ c. search needs)
     returns
     returns-2
     returns-3
-    add-i
-    loop-less
+    (λ c. search needs)
+    (λ c. omega arith)
     loop-again
     returns-4)

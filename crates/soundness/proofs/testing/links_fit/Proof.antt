@@ -44,18 +44,6 @@ loop-holds c =
       ids-length (c .args .t1) _ (c .good .0),
     )
 
-mul-l : tie.Need-mul-l Inv-loop μ-loop
-mul-l c = search needs
-
-element-copy-out-l : tie.Need-element-copy-out-l Inv-loop μ-loop
-element-copy-out-l c = search needs
-
-index-requires : tie.Need-index-requires Inv-loop μ-loop
-index-requires c κs = search needs
-
-index-requires-2 : tie.Need-index-requires-2 Inv-loop μ-loop
-index-requires-2 c κs = search needs
-
 -- the topology, and the link of a turn
 abbrev topology : tie.In-loop Inv-loop μ-loop → Topology
 topology w = w .before .before .args .t1
@@ -180,9 +168,6 @@ returns-4 c =
     ⊎-elim (λ w. refuse l _ (inl (sym (ends-are l .0))) (w .taken)) (λ w. refuse l _ (inr (sym (ends-are l .1))) (leb-true _ _ (w .1 .taken)))
     (c .if6 .came)
 
-add-count : tie.Need-add-count Inv-loop μ-loop
-add-count c = omega arith
-
 mul-count : tie.Need-mul-count Inv-loop μ-loop
 mul-count c = omega (arith, ends (c .before .before .before))
 
@@ -197,12 +182,6 @@ mul-count-2 c = omega (arith, ends (c .before .before .before))
 
 array-write-count-2 : tie.Need-array-write-count-2 Inv-loop μ-loop
 array-write-count-2 c = ends (c .before .before .before) .1
-
-add-i : tie.Need-add-i Inv-loop μ-loop
-add-i c = search needs
-
-loop-less : tie.Need-loop-less Inv-loop μ-loop
-loop-less c = omega arith
 
 loop-again : tie.Need-loop-again Inv-loop μ-loop
 unfolding noLink
@@ -239,10 +218,10 @@ links-fit-spec =
     Inv-loop
     μ-loop
     loop-holds
-    mul-l
-    element-copy-out-l
-    index-requires
-    index-requires-2
+    (λ c. search needs)
+    (λ c. search needs)
+    (λ c κs. search needs)
+    (λ c κs. search needs)
     returns
     returns-2
     mul-if5
@@ -260,13 +239,13 @@ links-fit-spec =
     mul-at-second
     array-read-at-second
     returns-4
-    add-count
+    (λ c. omega arith)
     mul-count
     array-write-count
     add-count-2
     mul-count-2
     array-write-count-2
-    add-i
-    loop-less
+    (λ c. search needs)
+    (λ c. omega arith)
     loop-again
     returns-5)

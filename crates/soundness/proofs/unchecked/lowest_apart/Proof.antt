@@ -32,9 +32,6 @@ found c =
 labelled-requires : tie.Need-labelled-requires Inv-loop μ-loop
 labelled-requires c κs = (c .pre .0, c .pre .1)
 
-array-read-joined : tie.Need-array-read-joined Inv-loop μ-loop
-array-read-joined c = omega arith
-
 loop-holds : tie.Need-loop-holds Inv-loop μ-loop
 loop-holds c = (omega arith, below-none _)
 
@@ -45,12 +42,6 @@ returns : tie.Need-returns Inv-loop μ-loop
 returns c =
     found (c .before .before .before) (c .before .before .loop .u) (c .before .before .loop .inv .0) (c .before .before .loop .inv .1)
     (λ l. c .if1 .taken)
-
-add-u : tie.Need-add-u Inv-loop μ-loop
-add-u c = omega arith
-
-loop-less : tie.Need-loop-less Inv-loop μ-loop
-loop-less c = omega arith
 
 loop-again : tie.Need-loop-again Inv-loop μ-loop
 loop-again c = (omega arith, below-more _ _ (c .before .before .loop .inv .1) (c .if1 .left))
@@ -66,11 +57,11 @@ lowest-apart-spec =
     Inv-loop
     μ-loop
     labelled-requires
-    array-read-joined
+    (λ c. omega arith)
     loop-holds
     array-read-if1
     returns
-    add-u
-    loop-less
+    (λ c. omega arith)
+    (λ c. omega arith)
     loop-again
     returns-2)

@@ -18,21 +18,9 @@ returns : tie.Need-returns
 unfolding recordIn
 returns c = let a = c .before .before .args in sym (ap recordIn (drop-of-length-le (now (a .s)) (c .if1 .taken)))
 
-shared-slice-read-kind : tie.Need-shared-slice-read-kind
-shared-slice-read-kind c = search needs
-
-add-body : tie.Need-add-body
-add-body c = search needs
-
-sub-left : tie.Need-sub-left
-sub-left c = search needs
-
 returns-2 : tie.Need-returns-2
 unfolding bodyLength
 returns-2 c = let a = c .before .before .before .before .before .args in sym (cut-at (now (a .s)) (a .at) 1 (omega arith))
-
-be32-requires : tie.Need-be32-requires
-be32-requires c κs = search needs
 
 returns-3 : tie.Need-returns-3
 unfolding bodyLength decoded
@@ -44,21 +32,6 @@ returns-4 : tie.Need-returns-4
 unfolding bodyLength
 returns-4 c = let a = c .before .before .before .before .before .before .args in sym (cut-at (now (a .s)) (a .at) 2 (omega arith))
 
-shared-slice-read-t15 : tie.Need-shared-slice-read-t15
-shared-slice-read-t15 c = search needs
-
-add-t17 : tie.Need-add-t17
-add-t17 c = search needs
-
-shared-slice-read-t19 : tie.Need-shared-slice-read-t19
-shared-slice-read-t19 c = search needs
-
-add-be16 : tie.Need-add-be16
-add-be16 c = search needs
-
-be16-requires : tie.Need-be16-requires
-be16-requires c κs = search needs
-
 returns-5 : tie.Need-returns-5
 unfolding bodyLength decoded linkIn
 returns-5 c =
@@ -68,9 +41,6 @@ returns-5 c =
 returns-6 : tie.Need-returns-6
 unfolding bodyLength
 returns-6 c = let a = c .before .before .before .before .before .before .before .args in sym (cut-at (now (a .s)) (a .at) 8 (omega arith))
-
-shared-slice-read-t25 : tie.Need-shared-slice-read-t25
-shared-slice-read-t25 c = search needs
 
 returns-7 : tie.Need-returns-7
 unfolding bodyLength decoded
@@ -92,21 +62,21 @@ record-at-spec =
     tie.close
     (tie.spec
     returns
-    shared-slice-read-kind
-    add-body
-    sub-left
+    (λ c. search needs)
+    (λ c. search needs)
+    (λ c. search needs)
     returns-2
-    be32-requires
+    (λ c κs. search needs)
     returns-3
     returns-4
-    shared-slice-read-t15
-    add-t17
-    shared-slice-read-t19
-    add-be16
-    be16-requires
+    (λ c. search needs)
+    (λ c. search needs)
+    (λ c. search needs)
+    (λ c. search needs)
+    (λ c κs. search needs)
     returns-5
     returns-6
-    shared-slice-read-t25
+    (λ c. search needs)
     returns-7
     returns-8
     returns-9)

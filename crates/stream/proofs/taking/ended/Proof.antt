@@ -12,21 +12,9 @@ use Rattle.stream.proofs.Held.{routers-held}
 use Rattle.stream.proofs.taking.ended.Statement.{statement}
 use Rattle.stream.proofs.taking.ended.Tie as tie
 
-add-if1 : tie.Need-add-if1
-add-if1 c = search needs
-
-add-refused : tie.Need-add-refused
-add-refused c = search needs
-
-refused-requires : tie.Need-refused-requires
-refused-requires c κs = search needs
-
 returns : tie.Need-returns
 unfolding said.ended
 returns c = rw (lt-ltb _ _ (c .before .if1 .taken)) (c .refused .ensures)
-
-refused-requires-2 : tie.Need-refused-requires-2
-refused-requires-2 c κs = search needs
 
 returns-2 : tie.Need-returns-2
 unfolding said.ended
@@ -34,12 +22,6 @@ returns-2 c =
     let s = c .before .before .before .before in
     let count = routers-held (s .args .t) (s .pre .0) in
     rw (le-ltb _ _ (c .before .before .before .if1 .left), ← count, eq-eqb _ 0 (c .before .if2 .taken)) (c .refused2 .ensures)
-
-lowest-apart-requires : tie.Need-lowest-apart-requires
-lowest-apart-requires c κs = search needs
-
-refused-requires-3 : tie.Need-refused-requires-3
-refused-requires-3 c κs = search needs
 
 returns-3 : tie.Need-returns-3
 unfolding said.ended
@@ -52,9 +34,6 @@ returns-3 c =
       ne-eqb _ 0 (c .before .before .before .before .if2 .left),
       joined-not (contents (s .args .t)) _ _ count (c .before .before .before .lowest-apart .ensures) (c .before .if3 .taken),
     ) (c .refused3 .ensures)
-
-taken-requires : tie.Need-taken-requires
-taken-requires c κs = search needs
 
 returns-4 : tie.Need-returns-4
 unfolding accepted said.ended
@@ -73,14 +52,14 @@ pub ended-spec : {M : Type 1} → statement M
 ended-spec =
     tie.close
     (tie.spec
-    add-if1
-    add-refused
-    refused-requires
+    (λ c. search needs)
+    (λ c. search needs)
+    (λ c κs. search needs)
     returns
-    refused-requires-2
+    (λ c κs. search needs)
     returns-2
-    lowest-apart-requires
-    refused-requires-3
+    (λ c κs. search needs)
+    (λ c κs. search needs)
     returns-3
-    taken-requires
+    (λ c κs. search needs)
     returns-4)

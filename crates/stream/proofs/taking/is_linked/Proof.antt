@@ -28,12 +28,6 @@ loop-holds : tie.Need-loop-holds Inv-loop μ-loop
 unfolding any
 loop-holds c = search needs
 
-mul-k : tie.Need-mul-k Inv-loop μ-loop
-mul-k c = omega arith
-
-element-copy-out-k : tie.Need-element-copy-out-k Inv-loop μ-loop
-element-copy-out-k c = omega arith
-
 in-range : (c : tie.In-loop Inv-loop μ-loop) → c .before .loop .i < length (c .before .before .args .t1 .link)
 in-range c = omega (arith, links-length (c .before .before .args .t1) _ (c .before .before .good .0))
 
@@ -54,12 +48,6 @@ returns-2 c =
     (sym
     (any-here _ _ (turn .before .loop .i) _ noLink (turn .loop-test .taken) (in-range turn)
     (rw (same-both _ _ (c .before .before .if3 .taken) (c .if4 .taken), or-true))))
-
-add-i : tie.Need-add-i Inv-loop μ-loop
-add-i c = omega arith
-
-loop-less : tie.Need-loop-less Inv-loop μ-loop
-loop-less c = omega arith
 
 loop-again : tie.Need-loop-again Inv-loop μ-loop
 unfolding noLink seen samePair
@@ -82,11 +70,11 @@ is-linked-spec =
     Inv-loop
     μ-loop
     loop-holds
-    mul-k
-    element-copy-out-k
+    (λ c. omega arith)
+    (λ c. omega arith)
     returns
     returns-2
-    add-i
-    loop-less
+    (λ c. omega arith)
+    (λ c. omega arith)
     loop-again
     returns-3)

@@ -14,12 +14,6 @@ use Rattle.stream.proofs.Held.{routers-held, links-held}
 use Rattle.stream.proofs.taking.link_fault.Statement.{statement}
 use Rattle.stream.proofs.taking.link_fault.Tie as tie
 
-index-requires : tie.Need-index-requires
-index-requires c κs = search needs
-
-index-requires-2 : tie.Need-index-requires-2
-index-requires-2 c κs = search needs
-
 returns : tie.Need-returns
 unfolding linkFault
 returns c =
@@ -66,9 +60,6 @@ returns-4 c = rw (left-7 (c .before .before), eq-eqb _ _ (c .if4 .taken))
 left-8 : (c : tie.Else4) → Left (c .before .before .before .before .before .before .before) from-8
 left-8 c = rw (left-7 (c .before .before), ne-eqb _ _ (c .if4 .left))
 
-is-linked-requires : tie.Need-is-linked-requires
-is-linked-requires c κs = search needs
-
 returns-5 : tie.Need-returns-5
 returns-5 c = rw (left-8 (c .before .before), ← c .before .is-linked .ensures, c .if5 .taken)
 
@@ -88,14 +79,8 @@ left-10 c =
     rw (left-9 (c .before .before), ← links-held (s .args .t) (s .pre), lt-leb mostLinks _ (c .if6 .left))
     (last-test (contents (s .args .t)) (s .args .l) (omega (arith, passed)) (omega (arith, passed)))
 
-neighbours-requires : tie.Need-neighbours-requires
-neighbours-requires c κs = search needs
-
 returns-7 : tie.Need-returns-7
 returns-7 c = rw (left-10 (c .before .before), ← c .before .neighbours .ensures, le-leb mostNeighbours _ (c .if7 .taken))
-
-neighbours-requires-2 : tie.Need-neighbours-requires-2
-neighbours-requires-2 c κs = search needs
 
 returns-8 : tie.Need-returns-8
 returns-8 c =
@@ -121,17 +106,17 @@ pub link-fault-spec : {M : Type 1} → statement M
 link-fault-spec =
     tie.close
     (tie.spec
-    index-requires
-    index-requires-2
+    (λ c κs. search needs)
+    (λ c κs. search needs)
     returns
     returns-2
     returns-3
     returns-4
-    is-linked-requires
+    (λ c κs. search needs)
     returns-5
     returns-6
-    neighbours-requires
+    (λ c κs. search needs)
     returns-7
-    neighbours-requires-2
+    (λ c κs. search needs)
     returns-8
     returns-9)

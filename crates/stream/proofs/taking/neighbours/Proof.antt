@@ -27,24 +27,6 @@ loop-holds : tie.Need-loop-holds Inv-loop μ-loop
 unfolding arcsAmong
 loop-holds c = search needs
 
-mul-k : tie.Need-mul-k Inv-loop μ-loop
-mul-k c = omega arith
-
-element-copy-out-k : tie.Need-element-copy-out-k Inv-loop μ-loop
-element-copy-out-k c = omega arith
-
-add-count : tie.Need-add-count Inv-loop μ-loop
-add-count c = omega arith
-
-add-count-2 : tie.Need-add-count-2 Inv-loop μ-loop
-add-count-2 c = omega arith
-
-add-i : tie.Need-add-i Inv-loop μ-loop
-add-i c = omega arith
-
-loop-less : tie.Need-loop-less Inv-loop μ-loop
-loop-less c = omega arith
-
 in-range : (c : tie.In-loop Inv-loop μ-loop) → c .before .loop .i < length (c .before .before .args .t1 .link)
 in-range c = omega (arith, links-length (c .before .before .args .t1) _ (c .before .before .good .0))
 
@@ -74,11 +56,11 @@ neighbours-spec =
     Inv-loop
     μ-loop
     loop-holds
-    mul-k
-    element-copy-out-k
-    add-count
-    add-count-2
-    add-i
-    loop-less
+    (λ c. omega arith)
+    (λ c. omega arith)
+    (λ c. omega arith)
+    (λ c. omega arith)
+    (λ c. omega arith)
+    (λ c. omega arith)
     loop-again
     returns)

@@ -6,12 +6,9 @@ use Rattle.stream.specs.Reading.{refusal}
 use Rattle.stream.proofs.taking.refused.Statement.{statement}
 use Rattle.stream.proofs.taking.refused.Tie as tie
 
-blank-requires : tie.Need-blank-requires
-blank-requires c κs = search needs
-
 returns : tie.Need-returns
 unfolding zeros refusal
 returns c = rw (c .blank .ensures)
 
 pub refused-spec : {M : Type 1} → statement M
-refused-spec = tie.close (tie.spec blank-requires returns)
+refused-spec = tie.close (tie.spec (λ c κs. search needs) returns)

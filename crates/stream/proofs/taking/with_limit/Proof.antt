@@ -11,22 +11,13 @@ use Rattle.stream.proofs.Held.{limit-added}
 use Rattle.stream.proofs.taking.with_limit.Statement.{statement}
 use Rattle.stream.proofs.taking.with_limit.Tie as tie
 
-refused-requires : tie.Need-refused-requires
-refused-requires c κs = search needs
-
 returns : tie.Need-returns
 unfolding within fault unless
 returns c = rw (lt-leb 1 _ (c .before .if1 .taken)) (c .refused .ensures)
 
-refused-requires-2 : tie.Need-refused-requires-2
-refused-requires-2 c κs = search needs
-
 returns-2 : tie.Need-returns-2
 unfolding within fault unless
 returns-2 c = rw (le-leb 1 _ (c .before .before .if1 .left), lt-leb _ mostNextHops (c .before .if2 .taken)) (c .refused2 .ensures)
-
-taken-requires : tie.Need-taken-requires
-taken-requires c κs = search needs
 
 returns-3 : tie.Need-returns-3
 unfolding accepted within fault unless
@@ -38,4 +29,4 @@ returns-3 c =
 pub with-limit-spec : {M : Type 1} → statement M
 with-limit-spec =
     tie.close
-    (tie.spec refused-requires returns refused-requires-2 returns-2 taken-requires returns-3)
+    (tie.spec (λ c κs. search needs) returns (λ c κs. search needs) returns-2 (λ c κs. search needs) returns-3)

@@ -13,17 +13,8 @@ use Rattle.stream.proofs.Held.{links-held, link-added}
 use Rattle.stream.proofs.taking.with_link.Statement.{statement}
 use Rattle.stream.proofs.taking.with_link.Tie as tie
 
-link-fault-requires : tie.Need-link-fault-requires
-link-fault-requires c κs = search needs
-
-refused-requires : tie.Need-refused-requires
-refused-requires c κs = search needs
-
 returns : tie.Need-returns
 returns c = rw (← c .before .before .link-fault .ensures, unless-fault _ _ _ (c .before .if1 .taken)) (c .refused .ensures)
-
-mul-l : tie.Need-mul-l
-mul-l c = search needs
 
 room : (c : tie.Else1) → c .before .before .args .t .links < mostLinks
 room c =
@@ -33,12 +24,6 @@ room c =
 
 element-set-from-l : tie.Need-element-set-from-l
 element-set-from-l = room
-
-add-next : tie.Need-add-next
-add-next c = search needs
-
-taken-requires : tie.Need-taken-requires
-taken-requires c κs = search needs
 
 returns-2 : tie.Need-returns-2
 unfolding accepted unless
@@ -51,11 +36,11 @@ pub with-link-spec : {M : Type 1} → statement M
 with-link-spec =
     tie.close
     (tie.spec
-    link-fault-requires
-    refused-requires
+    (λ c κs. search needs)
+    (λ c κs. search needs)
     returns
-    mul-l
+    (λ c. search needs)
     element-set-from-l
-    add-next
-    taken-requires
+    (λ c. search needs)
+    (λ c κs. search needs)
     returns-2)

@@ -8,39 +8,6 @@ use Rattle.stream.proofs.Faults.{unless-fault}
 use Rattle.stream.proofs.taking.with_record.Statement.{statement}
 use Rattle.stream.proofs.taking.with_record.Tie as tie
 
-enum-known-record : tie.Need-enum-known-record
-enum-known-record c = search needs
-
-with-router-requires : tie.Need-with-router-requires
-with-router-requires c κs = search needs
-
-enum-known-record-2 : tie.Need-enum-known-record-2
-enum-known-record-2 c = search needs
-
-with-link-requires : tie.Need-with-link-requires
-with-link-requires c κs = search needs
-
-enum-known-record-3 : tie.Need-enum-known-record-3
-enum-known-record-3 c = search needs
-
-with-limit-requires : tie.Need-with-limit-requires
-with-limit-requires c κs = search needs
-
-enum-told : tie.Need-enum-told
-enum-told c = search needs
-
-taken-requires : tie.Need-taken-requires
-taken-requires c κs = search needs
-
-enum-known-record-4 : tie.Need-enum-known-record-4
-enum-known-record-4 c = search needs
-
-taken-requires-2 : tie.Need-taken-requires-2
-taken-requires-2 c κs = search needs
-
-refused-requires : tie.Need-refused-requires
-refused-requires c κs = search needs
-
 returns : tie.Need-returns
 unfolding fault
 returns c = rw (c .before .before .«record» .given .1) (c .with-router .ensures)
@@ -70,17 +37,17 @@ pub with-record-spec : {M : Type 1} → statement M
 with-record-spec =
     tie.close
     (tie.spec
-    enum-known-record
-    with-router-requires
-    enum-known-record-2
-    with-link-requires
-    enum-known-record-3
-    with-limit-requires
-    enum-told
-    taken-requires
-    enum-known-record-4
-    taken-requires-2
-    refused-requires
+    (λ c. search needs)
+    (λ c κs. search needs)
+    (λ c. search needs)
+    (λ c κs. search needs)
+    (λ c. search needs)
+    (λ c κs. search needs)
+    (λ c. search needs)
+    (λ c κs. search needs)
+    (λ c. search needs)
+    (λ c κs. search needs)
+    (λ c κs. search needs)
     returns
     returns-2
     returns-3

@@ -17,15 +17,9 @@ is-listed-requires c κs =
     let s = c .before .before in
     (s .pre .counted .routers-fit, ids-length (s .args .t1) _ (s .good .0))
 
-refused-requires : tie.Need-refused-requires
-refused-requires c κs = search needs
-
 returns : tie.Need-returns
 unfolding contents unless routerFault
 returns c = rw (← c .before .before .is-listed .ensures, c .before .if1 .taken) (c .refused .ensures)
-
-refused-requires-2 : tie.Need-refused-requires-2
-refused-requires-2 c κs = search needs
 
 returns-2 : tie.Need-returns-2
 unfolding contents unless routerFault
@@ -37,18 +31,6 @@ returns-2 c =
       ← routers-held (s .args .t1) (s .pre),
       le-leb mostRouters _ (c .before .if2 .taken),
     ) (c .refused2 .ensures)
-
-mul-next : tie.Need-mul-next
-mul-next c = search needs
-
-element-write-next : tie.Need-element-write-next
-element-write-next c = search needs
-
-add-next : tie.Need-add-next
-add-next c = search needs
-
-taken-requires : tie.Need-taken-requires
-taken-requires c κs = search needs
 
 returns-3 : tie.Need-returns-3
 unfolding contents accepted unless routerFault
@@ -67,12 +49,12 @@ with-router-spec =
     tie.close
     (tie.spec
     is-listed-requires
-    refused-requires
+    (λ c κs. search needs)
     returns
-    refused-requires-2
+    (λ c κs. search needs)
     returns-2
-    mul-next
-    element-write-next
-    add-next
-    taken-requires
+    (λ c. search needs)
+    (λ c. search needs)
+    (λ c. search needs)
+    (λ c κs. search needs)
     returns-3)

@@ -13,15 +13,9 @@ use Rattle.table.specs.Calls.{soundHeader}
 use Rattle.table.proofs.reading.header_is_sound.Statement.{statement}
 use Rattle.table.proofs.reading.header_is_sound.Tie as tie
 
-shared-slice-read-if1 : tie.Need-shared-slice-read-if1
-shared-slice-read-if1 c = search needs
-
 returns : tie.Need-returns
 unfolding soundHeader kindIn
 returns c = rw (ne-eqb _ _ (c .if1 .taken))
-
-shared-slice-read-destination : tie.Need-shared-slice-read-destination
-shared-slice-read-destination c = search needs
 
 cast-destination : tie.Need-cast-destination
 cast-destination c = omega (arith, c .shared-slice-known2 .given 1)
@@ -37,18 +31,12 @@ returns-2 : tie.Need-returns-2
 unfolding soundHeader kindIn destinationIn
 returns-2 c = rw (kind (c .before .before), le-ltb _ _ (c .if2 .taken))
 
-shared-slice-read-count : tie.Need-shared-slice-read-count
-shared-slice-read-count c = search needs
-
 cast-count : tie.Need-cast-count
 cast-count c = omega (arith, c .shared-slice-known3 .given 2)
 
 returns-3 : tie.Need-returns-3
 unfolding soundHeader kindIn destinationIn countIn
 returns-3 c = rw (kind (c .before .before .before .before), place (c .before .before), ne-eqb _ _ (c .if3 .taken))
-
-shared-slice-read-limit : tie.Need-shared-slice-read-limit
-shared-slice-read-limit c = search needs
 
 returns-4 : tie.Need-returns-4
 unfolding soundHeader kindIn destinationIn countIn limitIn within
@@ -66,15 +54,15 @@ pub header-is-sound-spec : {M : Type 1} → statement M
 header-is-sound-spec =
     tie.close
     (tie.spec
-    shared-slice-read-if1
+    (λ c. search needs)
     returns
-    shared-slice-read-destination
+    (λ c. search needs)
     cast-destination
     returns-2
-    shared-slice-read-count
+    (λ c. search needs)
     cast-count
     returns-3
-    shared-slice-read-limit
+    (λ c. search needs)
     returns-4
     returns-5
     returns-6)

@@ -11,18 +11,6 @@ use Rattle.topology.proofs.WrittenLength.{limit-none, limit-some, writt
 use Rattle.topology.proofs.writing.length_of.Statement.{statement}
 use Rattle.topology.proofs.writing.length_of.Tie as tie
 
-mul-rest : tie.Need-mul-rest
-mul-rest c = search needs
-
-mul-rest-2 : tie.Need-mul-rest-2
-mul-rest-2 c = search needs
-
-add-rest : tie.Need-add-rest
-add-rest c = search needs
-
-add-rest-2 : tie.Need-add-rest-2
-add-rest-2 c = search needs
-
 long : (c : tie.Start) → let t = c .args .t in length (written t) ≡ length (limitBytes (t .limit)) + (5 * t .routers + (5 * t .links + 1))
 long c =
     written-length (c .args .t) (omega (arith, ids-length (c .args .t) _ (c .good .0))) (omega (arith, links-length (c .args .t) _ (c .good .0)))
@@ -30,11 +18,8 @@ long c =
 returns : tie.Need-returns
 returns c = omega (arith, long (c .before .before .before .before), ap length (limit-none _ (c .if1 .taken)))
 
-add-result : tie.Need-add-result
-add-result c = search needs
-
 returns-2 : tie.Need-returns-2
 returns-2 c = omega (arith, long (c .before .before .before .before), ap length (limit-some _ (c .if1 .left)))
 
 pub length-of-spec : {M : Type 1} → statement M
-length-of-spec = tie.close (tie.spec mul-rest mul-rest-2 add-rest add-rest-2 returns add-result returns-2)
+length-of-spec = tie.close (tie.spec (λ c. search needs) (λ c. search needs) (λ c. search needs) (λ c. search needs) returns (λ c. search needs) returns-2)

@@ -22,11 +22,8 @@ slice-write-out c = omega (arith, room c)
 slice-write-out-2 : tie.Need-slice-write-out-2
 slice-write-out-2 c = simp length-set (omega (arith, room c))
 
-same-length : tie.Need-same-length
-same-length c = search needs
-
 returns-2 : tie.Need-returns-2
 returns-2 c = rw (limit-some _ (c .if1 .left)) (refl, over-two _ 0 _ _ (room c))
 
 pub put-limit-spec : {M : Type 1} → statement M
-put-limit-spec = tie.close (tie.spec returns slice-write-out slice-write-out-2 same-length returns-2)
+put-limit-spec = tie.close (tie.spec returns slice-write-out slice-write-out-2 (λ c. search needs) returns-2)

@@ -1,83 +1,42 @@
 -- What was put is the records of the first i, and a turn puts one more behind them, by `Joined`'s laws. The measure is how many are left.
 -- Assumes nothing.
-use Prim.Native.Nat.{_-_, _≤_}
-use mathlib.Core.Path.{_≡_, refl, sym, _∙_}
+use Prim.Native.Nat.{_-_}
+use mathlib.Core.Path.{_≡_, refl}
 use native.Mathlib.Omega.{arith}
-use lib.ListN.{length, take}
-use lib.Seq.{length-take-le}
+use lib.ListN.{length}
 use Rattle.stations.specs.Topology.{contents, noLink}
 use Rattle.stations.proofs.Machine.{links-length}
-use Rattle.stations.proofs.Prefix.{take-more}
-use Rattle.topology.specs.Written.{joinedOver, linkBytes}
-use Rattle.topology.specs.Inner.{over}
-use Rattle.topology.proofs.Over.{over-none}
-use Rattle.topology.proofs.Joined.{link-five, put-length, put-next}
+use Rattle.topology.specs.Written.{linkBytes}
+use Rattle.topology.proofs.Joined.{link-five, FirstPut, first-none, first-length, first-next, first-all}
 use Rattle.topology.proofs.writing.put_links.Statement.{statement}
 use Rattle.topology.proofs.writing.put_links.Tie as tie
 
 abbrev Inv-loop : tie.InvT-loop
-Inv-loop out₀ at t m i₀ out i = (i ≤ m) × (out ≡ over out₀ at (joinedOver linkBytes (take i (t .link))))
+Inv-loop out₀ at t m i₀ out i = FirstPut linkBytes link-five out₀ at (t .link) m out i
 
 abbrev μ-loop : tie.MeasureT-loop
 μ-loop out₀ at t m i₀ out i = m - i
 
 loop-holds : tie.Need-loop-holds Inv-loop μ-loop
-unfolding joinedOver
-loop-holds c = (omega arith, sym (over-none _ _))
-
-inside : (c : tie.At-loop Inv-loop μ-loop) → c .before .before .args .t1 .links ≤ length (c .before .before .args .t1 .link)
-inside c = omega (arith, links-length (c .before .before .args .t1) _ (c .before .before .good .0))
-
-many : (c : tie.At-loop Inv-loop μ-loop) → length (take (c .loop .i) (c .before .before .args .t1 .link)) ≡ c .loop .i
-many c = length-take-le (c .loop .i) (c .before .before .args .t1 .link) (omega (arith, inside c))
+loop-holds c = first-none linkBytes link-five (omega (arith, links-length (c .before .args .t1) _ (c .before .good .0))) (c .before .pre .1)
 
 same : (c : tie.At-loop Inv-loop μ-loop) → length (c .loop .out) ≡ length (c .before .before .args .out .now)
-same c = put-length linkBytes link-five _ _ _ (many c) (c .loop .inv .1) (omega arith)
-
-mul-put-link : tie.Need-mul-put-link Inv-loop μ-loop
-mul-put-link c = omega arith
-
-add-put-link : tie.Need-add-put-link Inv-loop μ-loop
-add-put-link c = omega arith
-
-mul-put-link-2 : tie.Need-mul-put-link-2 Inv-loop μ-loop
-mul-put-link-2 c = omega arith
-
-element-copy-out-put-link : tie.Need-element-copy-out-put-link Inv-loop μ-loop
-element-copy-out-put-link c = omega arith
+same c = first-length linkBytes link-five (c .loop .inv)
 
 put-link-requires : tie.Need-put-link-requires Inv-loop μ-loop
 put-link-requires c κs = omega (arith, same (c .before .before .before))
 
-add-i : tie.Need-add-i Inv-loop μ-loop
-add-i c = omega arith
-
-loop-less : tie.Need-loop-less Inv-loop μ-loop
-loop-less c = omega arith
-
 loop-again : tie.Need-loop-again Inv-loop μ-loop
 unfolding noLink
 loop-again c =
-    let l : tie.At-loop Inv-loop μ-loop = c .before .before .before .before .before .before
-    in (
-      omega arith,
-      c .before .before .put-link .ensures
-          ∙ put-next linkBytes link-five _ _ _ (many l) (l .loop .inv .1) _
-          (take-more (l .before .before .args .t1 .link) (l .loop .i) noLink (omega (arith, inside l))) (omega arith),
-    )
-
-mul-result : tie.Need-mul-result Inv-loop μ-loop
-mul-result c = omega arith
-
-add-result : tie.Need-add-result Inv-loop μ-loop
-add-result c = omega arith
+    first-next linkBytes link-five (c .before .before .before .before .before .before .loop .inv) noLink (omega arith) (c .before .before .put-link .ensures)
 
 same-length : tie.Need-same-length Inv-loop μ-loop
 same-length c = same (c .before)
 
 returns : tie.Need-returns Inv-loop μ-loop
 unfolding contents
-returns c = let e : c .before .loop .i ≡ c .before .before .before .args .t1 .links = omega arith in (refl, rw e at (c .before .loop .inv .1))
+returns c = (refl, first-all linkBytes link-five (c .before .loop .inv) (omega arith))
 
 pub put-links-spec : {M : Type 1} → statement M
 put-links-spec =
@@ -86,15 +45,15 @@ put-links-spec =
     Inv-loop
     μ-loop
     loop-holds
-    mul-put-link
-    add-put-link
-    mul-put-link-2
-    element-copy-out-put-link
+    (λ c. omega arith)
+    (λ c. omega arith)
+    (λ c. omega arith)
+    (λ c. omega arith)
     put-link-requires
-    add-i
-    loop-less
+    (λ c. omega arith)
+    (λ c. omega arith)
     loop-again
-    mul-result
-    add-result
+    (λ c. omega arith)
+    (λ c. omega arith)
     same-length
     returns)

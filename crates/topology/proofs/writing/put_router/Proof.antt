@@ -10,47 +10,17 @@ use Rattle.topology.proofs.Over.{over-five}
 use Rattle.topology.proofs.writing.put_router.Statement.{statement}
 use Rattle.topology.proofs.writing.put_router.Tie as tie
 
-slice-write-out : tie.Need-slice-write-out
-slice-write-out c = search needs
-
-cast-out : tie.Need-cast-out
-cast-out c = search needs
-
-add-out : tie.Need-add-out
-add-out c = search needs
-
 slice-write-out-2 : tie.Need-slice-write-out-2
 slice-write-out-2 c = simp length-set (omega arith)
-
-cast-out-2 : tie.Need-cast-out-2
-cast-out-2 c = search needs
-
-add-out-2 : tie.Need-add-out-2
-add-out-2 c = search needs
 
 slice-write-out-3 : tie.Need-slice-write-out-3
 slice-write-out-3 c = simp length-set (omega arith)
 
-cast-out-3 : tie.Need-cast-out-3
-cast-out-3 c = search needs
-
-add-out-3 : tie.Need-add-out-3
-add-out-3 c = search needs
-
 slice-write-out-4 : tie.Need-slice-write-out-4
 slice-write-out-4 c = simp length-set (omega arith)
 
-cast-out-4 : tie.Need-cast-out-4
-cast-out-4 c = search needs
-
-add-out-4 : tie.Need-add-out-4
-add-out-4 c = search needs
-
 slice-write-out-5 : tie.Need-slice-write-out-5
 slice-write-out-5 c = simp length-set (omega arith)
-
-same-length : tie.Need-same-length
-same-length c = search needs
 
 returns : tie.Need-returns
 unfolding routerBytes inBytes
@@ -60,18 +30,18 @@ pub put-router-spec : {M : Type 1} → statement M
 put-router-spec =
     tie.close
     (tie.spec
-    slice-write-out
-    cast-out
-    add-out
+    (λ c. search needs)
+    (λ c. search needs)
+    (λ c. search needs)
     slice-write-out-2
-    cast-out-2
-    add-out-2
+    (λ c. search needs)
+    (λ c. search needs)
     slice-write-out-3
-    cast-out-3
-    add-out-3
+    (λ c. search needs)
+    (λ c. search needs)
     slice-write-out-4
-    cast-out-4
-    add-out-4
+    (λ c. search needs)
+    (λ c. search needs)
     slice-write-out-5
-    same-length
+    (λ c. search needs)
     returns)

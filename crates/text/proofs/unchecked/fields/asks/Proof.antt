@@ -11,21 +11,12 @@ use borrow.Author.Needs.{needs}
 use Rattle.text.proofs.unchecked.fields.asks.Statement.{statement}
 use Rattle.text.proofs.unchecked.fields.asks.Tie as tie
 
-field-requires : tie.Need-field-requires
-field-requires c κs = search needs
-
-same-requires : tie.Need-same-requires
-same-requires c κs = search needs
-
 returns : tie.Need-returns
 unfolding asks
 returns c =
     let line = c .before .before .before .before .before .args .line .now in
     let word = c .before .before .before .before .before .args .word .now in
     sym (and-no (sameNumbers (field 0 line) word) _ (cc (not-true (c .before .same .result) (c .if1 .taken))))
-
-spaces-requires : tie.Need-spaces-requires
-spaces-requires c κs = search needs
 
 returns-2 : tie.Need-returns-2
 unfolding asks
@@ -37,4 +28,4 @@ returns-2 c =
     cc (and-yes (sameNumbers (field 0 line) word) (eqb (spaces line) fields) first)
 
 pub asks-spec : {M : Type 1} → statement M
-asks-spec = tie.close (tie.spec field-requires same-requires returns spaces-requires returns-2)
+asks-spec = tie.close (tie.spec (λ c κs. search needs) (λ c κs. search needs) returns (λ c κs. search needs) returns-2)

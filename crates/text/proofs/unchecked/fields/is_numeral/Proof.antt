@@ -11,14 +11,8 @@ use Rattle.text.proofs.unchecked.fields.is_numeral.Tie as tie
 returns : tie.Need-returns
 returns c = sym (not-plain _ (plain-empty _ (c .if1 .taken)))
 
-shared-slice-read-if3 : tie.Need-shared-slice-read-if3
-shared-slice-read-if3 c = search needs
-
 returns-2 : tie.Need-returns-2
 returns-2 c = sym (not-plain _ (plain-zero _ (omega arith) (c .if3 .taken)))
-
-all-decimal-requires : tie.Need-all-decimal-requires
-all-decimal-requires c κs = search needs
 
 returns-3 : tie.Need-returns-3
 returns-3 c =
@@ -29,4 +23,4 @@ returns-3 c =
 
 pub is-numeral-spec : {M : Type 1} → statement M
 is-numeral-spec =
-    tie.close (tie.spec returns shared-slice-read-if3 returns-2 all-decimal-requires returns-3)
+    tie.close (tie.spec returns (λ c. search needs) returns-2 (λ c κs. search needs) returns-3)

@@ -18,9 +18,6 @@ Inv-loop s most value₀ i₀ value i = (i ≤ length s) × (value ≤ most) × 
 abbrev μ-loop : tie.MeasureT-loop
 μ-loop s most value₀ i₀ value i = length s - i
 
-is-numeral-requires : tie.Need-is-numeral-requires Inv-loop μ-loop
-is-numeral-requires c κs = tt
-
 returns : tie.Need-returns Inv-loop μ-loop
 returns c =
     let s = c .before .before .before .args .s .now in
@@ -29,12 +26,6 @@ returns c =
 loop-holds : tie.Need-loop-holds Inv-loop μ-loop
 loop-holds c =
     (omega arith, omega arith, refl, sym (c .before .is-numeral .ensures) ∙ not-false (c .before .is-numeral .result) (c .if1 .left))
-
-mul-value : tie.Need-mul-value Inv-loop μ-loop
-mul-value c = omega arith
-
-shared-slice-read-value : tie.Need-shared-slice-read-value Inv-loop μ-loop
-shared-slice-read-value c = omega arith
 
 sub-value : tie.Need-sub-value Inv-loop μ-loop
 sub-value c =
@@ -62,12 +53,6 @@ returns-2 c =
     let inv = c .before .before .before .loop .inv in
     sym (too-large _ s (inv .3) (omega (arith, onto-next s i value (omega arith), onto-grows (value * 10 + (getD s i 0 - 48)) (drop (i + 1) s))))
 
-add-i : tie.Need-add-i Inv-loop μ-loop
-add-i c = omega arith
-
-loop-less : tie.Need-loop-less Inv-loop μ-loop
-loop-less c = omega arith
-
 loop-again : tie.Need-loop-again Inv-loop μ-loop
 loop-again c =
     let s = c .before .before .before .before .before .before .before .args .s .now in
@@ -91,16 +76,16 @@ number-spec =
     (tie.spec
     Inv-loop
     μ-loop
-    is-numeral-requires
+    (λ c κs. tt)
     returns
     loop-holds
-    mul-value
-    shared-slice-read-value
+    (λ c. omega arith)
+    (λ c. omega arith)
     sub-value
     cast-value
     add-value
     returns-2
-    add-i
-    loop-less
+    (λ c. omega arith)
+    (λ c. omega arith)
     loop-again
     returns-3)

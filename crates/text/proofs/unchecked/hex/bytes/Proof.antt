@@ -13,21 +13,12 @@ use borrow.Author.Needs.{needs}
 use Rattle.text.proofs.unchecked.hex.bytes.Statement.{statement}
 use Rattle.text.proofs.unchecked.hex.bytes.Tie as tie
 
-slice-aggregate-same : tie.Need-slice-aggregate-same
-slice-aggregate-same c = search needs
-
-same-requires : tie.Need-same-requires
-same-requires c κs = search needs
-
 returns : tie.Need-returns
 unfolding none
 returns c =
     let s = c .before .before .before .before .before .args .s .now in
     let dash : sameNumbers s none ≡ true = sym (c .before .same .ensures) ∙ c .if1 .taken in
     (sym (none-count s dash), sym (sets-none _ 0 _ (none-bytes s dash)))
-
-is-hex-requires : tie.Need-is-hex-requires
-is-hex-requires c κs = search needs
 
 returns-2 : tie.Need-returns-2
 unfolding none
@@ -43,9 +34,6 @@ decode-requires c κs =
     let digits : inHex s ≡ true = sym (c .before .before .is-hex .ensures) ∙ not-false (c .before .before .is-hex .result) (c .before .if2 .left) in
     (subst T (sym digits) tt, omega arith)
 
-same-length : tie.Need-same-length
-same-length c = search needs
-
 returns-3 : tie.Need-returns-3
 unfolding none
 returns-3 c =
@@ -59,11 +47,11 @@ pub bytes-spec : {M : Type 1} → statement M
 bytes-spec =
     tie.close
     (tie.spec
-    slice-aggregate-same
-    same-requires
+    (λ c. search needs)
+    (λ c κs. search needs)
     returns
-    is-hex-requires
+    (λ c κs. search needs)
     returns-2
     decode-requires
-    same-length
+    (λ c. search needs)
     returns-3)

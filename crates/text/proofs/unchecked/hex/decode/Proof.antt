@@ -21,12 +21,6 @@ abbrev μ-loop : tie.MeasureT-loop
 loop-holds : tie.Need-loop-holds Inv-loop μ-loop
 loop-holds c = (omega arith, refl, refl)
 
-mul-worth : tie.Need-mul-worth Inv-loop μ-loop
-mul-worth c = omega arith
-
-shared-slice-read-worth : tie.Need-shared-slice-read-worth Inv-loop μ-loop
-shared-slice-read-worth c = omega arith
-
 worth-requires : tie.Need-worth-requires Inv-loop μ-loop
 worth-requires c κs =
     let s = c .before .before .before .before .before .args .s .now in
@@ -34,15 +28,6 @@ worth-requires c κs =
 
 mul-out : tie.Need-mul-out Inv-loop μ-loop
 mul-out c = omega (arith, c .worth .ensures .1)
-
-mul-worth-2 : tie.Need-mul-worth-2 Inv-loop μ-loop
-mul-worth-2 c = omega arith
-
-add-worth : tie.Need-add-worth Inv-loop μ-loop
-add-worth c = omega arith
-
-shared-slice-read-worth-2 : tie.Need-shared-slice-read-worth-2 Inv-loop μ-loop
-shared-slice-read-worth-2 c = omega arith
 
 worth-requires-2 : tie.Need-worth-requires-2 Inv-loop μ-loop
 worth-requires-2 c κs =
@@ -56,12 +41,6 @@ add-out c = omega (arith, c .before .before .worth .ensures .1, c .worth2 .ensur
 slice-write-out : tie.Need-slice-write-out Inv-loop μ-loop
 slice-write-out c =
     omega (arith, c .before .before .before .before .before .before .before .before .pre .1)
-
-add-i : tie.Need-add-i Inv-loop μ-loop
-add-i c = omega arith
-
-loop-less : tie.Need-loop-less Inv-loop μ-loop
-loop-less c = omega arith
 
 loop-again : tie.Need-loop-again Inv-loop μ-loop
 loop-again c =
@@ -88,18 +67,18 @@ decode-spec =
     Inv-loop
     μ-loop
     loop-holds
-    mul-worth
-    shared-slice-read-worth
+    (λ c. omega arith)
+    (λ c. omega arith)
     worth-requires
     mul-out
-    mul-worth-2
-    add-worth
-    shared-slice-read-worth-2
+    (λ c. omega arith)
+    (λ c. omega arith)
+    (λ c. omega arith)
     worth-requires-2
     add-out
     slice-write-out
-    add-i
-    loop-less
+    (λ c. omega arith)
+    (λ c. omega arith)
     loop-again
     same-length
     returns)

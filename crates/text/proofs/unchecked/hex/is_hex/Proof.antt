@@ -13,11 +13,8 @@ returns c = sym (too-short _ (c .if1 .taken))
 returns-2 : tie.Need-returns-2
 returns-2 c = sym (odd _ (omega arith) (c .if2 .taken))
 
-all-digits-requires : tie.Need-all-digits-requires
-all-digits-requires c κs = search needs
-
 returns-3 : tie.Need-returns-3
 returns-3 c = c .all-digits .ensures ∙ sym (if-even _ (omega arith) (c .before .if2 .left))
 
 pub is-hex-spec : {M : Type 1} → statement M
-is-hex-spec = tie.close (tie.spec returns returns-2 all-digits-requires returns-3)
+is-hex-spec = tie.close (tie.spec returns returns-2 (λ c κs. search needs) returns-3)

@@ -8,12 +8,6 @@ use borrow.Author.Needs.{needs}
 use Rattle.text.proofs.unchecked.lines.put_answer.Statement.{statement}
 use Rattle.text.proofs.unchecked.lines.put_answer.Tie as tie
 
-put-number-requires : tie.Need-put-number-requires
-put-number-requires c κs = search needs
-
-slice-aggregate-put : tie.Need-slice-aggregate-put
-slice-aggregate-put c = search needs
-
 put-requires : tie.Need-put-requires
 put-requires c κs =
     omega (arith, number-length (c .before .before .before .before .before .before .before .args .number))
@@ -21,9 +15,6 @@ put-requires c κs =
 put-number-requires-2 : tie.Need-put-number-requires-2
 put-number-requires-2 c κs =
     omega (arith, number-length (c .before .before .before .before .before .before .before .before .before .before .before .args .number))
-
-same-length : tie.Need-same-length
-same-length c = search needs
 
 returns : tie.Need-returns
 unfolding answerText
@@ -35,9 +26,9 @@ pub put-answer-spec : {M : Type 1} → statement M
 put-answer-spec =
     tie.close
     (tie.spec
-    put-number-requires
-    slice-aggregate-put
+    (λ c κs. search needs)
+    (λ c. search needs)
     put-requires
     put-number-requires-2
-    same-length
+    (λ c. search needs)
     returns)

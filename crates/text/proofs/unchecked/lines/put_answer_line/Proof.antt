@@ -8,19 +8,10 @@ use borrow.Author.Needs.{needs}
 use Rattle.text.proofs.unchecked.lines.put_answer_line.Statement.{statement}
 use Rattle.text.proofs.unchecked.lines.put_answer_line.Tie as tie
 
-put-answer-requires : tie.Need-put-answer-requires
-put-answer-requires c κs = search needs
-
-slice-aggregate-put : tie.Need-slice-aggregate-put
-slice-aggregate-put c = search needs
-
 put-requires : tie.Need-put-requires
 put-requires c κs =
     let a = c .before .before .before .before .before .before .before .args in
     omega (arith, answer-length (a .number) (a .at))
-
-same-length : tie.Need-same-length
-same-length c = search needs
 
 returns : tie.Need-returns
 unfolding answerLine
@@ -28,4 +19,4 @@ returns c = behind (c .before .before .before .before .before .before .before .p
 
 pub put-answer-line-spec : {M : Type 1} → statement M
 put-answer-line-spec =
-    tie.close (tie.spec put-answer-requires slice-aggregate-put put-requires same-length returns)
+    tie.close (tie.spec (λ c κs. search needs) (λ c. search needs) put-requires (λ c. search needs) returns)

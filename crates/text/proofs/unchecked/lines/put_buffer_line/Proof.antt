@@ -8,12 +8,6 @@ use borrow.Author.Needs.{needs}
 use Rattle.text.proofs.unchecked.lines.put_buffer_line.Statement.{statement}
 use Rattle.text.proofs.unchecked.lines.put_buffer_line.Tie as tie
 
-put-answer-requires : tie.Need-put-answer-requires
-put-answer-requires c κs = search needs
-
-slice-aggregate-put : tie.Need-slice-aggregate-put
-slice-aggregate-put c = search needs
-
 put-requires : tie.Need-put-requires
 put-requires c κs =
     let a = c .before .before .before .before .before .before .before .before .args in
@@ -24,17 +18,11 @@ put-bytes-requires c κs =
     let a = c .before .before .before .before .before .before .before .before .before .before .before .before .args in
     omega (arith, answer-length (a .number) (a .at))
 
-slice-aggregate-put-2 : tie.Need-slice-aggregate-put-2
-slice-aggregate-put-2 c = search needs
-
 put-requires-2 : tie.Need-put-requires-2
 put-requires-2 c κs =
     let bytes = c .before .before .before .before in
     let a = bytes .before .before .before .before .before .before .before .before .before .before .before .before .before .args in
     omega (arith, answer-length (a .number) (a .at), text-length (a .buffer .now))
-
-same-length : tie.Need-same-length
-same-length c = search needs
 
 returns : tie.Need-returns
 unfolding bufferLine
@@ -48,11 +36,11 @@ pub put-buffer-line-spec : {M : Type 1} → statement M
 put-buffer-line-spec =
     tie.close
     (tie.spec
-    put-answer-requires
-    slice-aggregate-put
+    (λ c κs. search needs)
+    (λ c. search needs)
     put-requires
     put-bytes-requires
-    slice-aggregate-put-2
+    (λ c. search needs)
     put-requires-2
-    same-length
+    (λ c. search needs)
     returns)
