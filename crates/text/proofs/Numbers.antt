@@ -8,11 +8,11 @@ use mathlib.Core.Path.{_≡_, refl}
 use native.Mathlib.Omega.{arith}
 use borrow.Author.Tests.{eq-eqb, ne-eqb, le-leb, lt-leb, leb-true}
 use lib.Dec.{leb}
-use lib.ListN.{length, getD, drop}
+use lib.ListN.{length, getD}
 use Rattle.network.specs.Lists.{every}
 use Rattle.text.specs.declared.unchecked.fields.Value.the-variants.{Is, Wrong}
 use Rattle.text.specs.Numbers.{decimal, onto, plain, numeral, number}
-use Rattle.text.proofs.Scan.{rest, no-rest, every-at, and-left, and-right}
+use Rattle.text.proofs.Scan.{every-at, and-left, and-right}
 
 module _ (c : ℕ) where
   pub below-digits : c < 48 → decimal c ≡ false
@@ -75,15 +75,6 @@ pub onto-grows : (n : ℕ) (s : List ℕ) → n ≤ onto n s
 unfolding onto
 onto-grows n [] = omega arith
 onto-grows n (c ∷ s) = omega (arith, onto-grows (n * 10 + (c - 48)) s)
-
-module _ (s : List ℕ) (i : ℕ) where
-  pub onto-next : (n : ℕ) → i < length s → onto n (drop i s) ≡ onto (n * 10 + (getD s i 0 - 48)) (drop (i + 1) s)
-  unfolding onto
-  onto-next n h = rw (rest s i h)
-
-  pub onto-end : (n : ℕ) → length s ≤ i → onto n (drop i s) ≡ n
-  unfolding onto
-  onto-end n h = rw (no-rest s i h)
 
 module _ (most : ℕ) (s : List ℕ) where
   pub number-is : numeral s ≡ true → onto 0 s ≤ most → number most s ≡ Is (onto 0 s)

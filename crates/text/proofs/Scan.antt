@@ -7,17 +7,16 @@ use mathlib.Core.Logic.{_≢_}
 use mathlib.Core.Path.{_≡_, refl, ap, sym, subst}
 use native.Mathlib.Numerals.{add-one}
 use native.Mathlib.Omega.{arith}
-use borrow.Author.Tests.{eq-eqb, ne-eqb}
 use lib.Dec.{T, eqb}
 use lib.ListN.{length, getD, drop, take, drop-of-length-le, length-drop}
 use lib.Seq.{drop-cons, take-all}
 use Rattle.network.specs.Lists.{every, sameNumbers}
-use Rattle.text.specs.Fields.{space, before, after, field, spaces}
+use Rattle.text.specs.Fields.{space, before, after, field}
 
-zero-after : (s : List ℕ) → after 0 s ≡ s
+pub after-none : (s : List ℕ) → after 0 s ≡ s
 unfolding after
-zero-after [] = refl
-zero-after (c ∷ s) = refl
+after-none [] = refl
+after-none (c ∷ s) = refl
 
 module _ (s : List ℕ) (i : ℕ) where
   pub rest : i < length s → drop i s ≡ getD s i 0 ∷ drop (i + 1) s
@@ -30,75 +29,19 @@ module _ (s : List ℕ) (i : ℕ) where
   pub to-end : take (length s - i) (drop i s) ≡ drop i s
   to-end = take-all (length s - i) (drop i s) (omega (arith, length-drop i s))
 
-  pub at-stop : (stop : ℕ) → i < length s → getD s i 0 ≡ stop → length (before stop (drop i s)) ≡ 0
-  unfolding before
-  at-stop stop h e = rw (rest h, eq-eqb (getD s i 0) stop e)
+-- a loop that is at i of a text: what it has, with the rest behind it, makes what the whole makes
+pub record Left {A : Type 0} (make : List ℕ → A) (s : List ℕ) (i : ℕ) (whole : A) : Type 0 where
+  pub inside : i ≤ length s
+  pub makes : make (drop i s) ≡ whole
 
-  pub past-byte : (stop : ℕ) → i < length s → getD s i 0 ≢ stop → length (before stop (drop i s)) ≡ suc (length (before stop (drop (i + 1) s)))
-  unfolding before
-  past-byte stop h e = rw (rest h, ne-eqb (getD s i 0) stop e)
+module _ {A : Type 0} {make : List ℕ → A} {s : List ℕ} {i : ℕ} {whole : A} (l : Left make s i whole) where
+  -- by the byte that comes next
+  pub next : i < length s → make (getD s i 0 ∷ drop (i + 1) s) ≡ whole
+  next h = rw (rest s i h) at (l .makes)
 
-  pub after-none : after 0 (drop i s) ≡ drop i s
-  after-none = zero-after (drop i s)
-
-  pub after-space : (n : ℕ) → 1 ≤ n → i < length s → getD s i 0 ≡ space → after n (drop i s) ≡ after (n - 1) (drop (i + 1) s)
-  unfolding after
-  after-space zero l h e = absurd (omega arith)
-  after-space (suc n) l h e =
-      let q : suc n - 1 ≡ n = omega arith in
-      rw (q, rest h, eq-eqb (getD s i 0) space e)
-
-  pub after-byte : (n : ℕ) → 1 ≤ n → i < length s → getD s i 0 ≢ space → after n (drop i s) ≡ after n (drop (i + 1) s)
-  unfolding after
-  after-byte zero l h e = absurd (omega arith)
-  after-byte (suc n) l h e = rw (rest h, ne-eqb (getD s i 0) space e)
-
-  pub spaces-space : i < length s → getD s i 0 ≡ space → spaces (drop i s) ≡ suc (spaces (drop (i + 1) s))
-  unfolding spaces
-  spaces-space h e = rw (rest h, eq-eqb (getD s i 0) space e)
-
-  pub spaces-byte : i < length s → getD s i 0 ≢ space → spaces (drop i s) ≡ spaces (drop (i + 1) s)
-  unfolding spaces
-  spaces-byte h e = rw (rest h, ne-eqb (getD s i 0) space e)
-
-  pub before-end : (stop : ℕ) → length s ≤ i → length (before stop (drop i s)) ≡ 0
-  unfolding before
-  before-end stop h = rw (no-rest h)
-
-  pub after-end : (n : ℕ) → length s ≤ i → after n (drop i s) ≡ drop i s
-  unfolding after
-  after-end n h = rw (no-rest h)
-
-  pub spaces-end : length s ≤ i → spaces (drop i s) ≡ 0
-  unfolding spaces
-  spaces-end h = rw (no-rest h)
-
-module _ (f : ℕ → Bool) (s : List ℕ) (i : ℕ) where
-  pub every-not : i < length s → f (getD s i 0) ≡ false → every f (drop i s) ≡ false
-  unfolding every
-  every-not h e = rw (rest s i h, e)
-
-  pub every-on : i < length s → f (getD s i 0) ≡ true → every f (drop i s) ≡ every f (drop (i + 1) s)
-  unfolding every
-  every-on h e = rw (rest s i h, e)
-
-  pub every-end : length s ≤ i → every f (drop i s) ≡ true
-  unfolding every
-  every-end h = rw (no-rest s i h)
-
--- two texts side by side
-module _ (s t : List ℕ) (i : ℕ) where
-  pub same-not : i < length s → i < length t → getD s i 0 ≢ getD t i 0 → sameNumbers (drop i s) (drop i t) ≡ false
-  unfolding sameNumbers
-  same-not h k e = rw (rest s i h, rest t i k, ne-eqb (getD s i 0) (getD t i 0) e)
-
-  pub same-on : i < length s → i < length t → getD s i 0 ≡ getD t i 0 → sameNumbers (drop i s) (drop i t) ≡ sameNumbers (drop (i + 1) s) (drop (i + 1) t)
-  unfolding sameNumbers
-  same-on h k e = rw (rest s i h, rest t i k, eq-eqb (getD s i 0) (getD t i 0) e)
-
-  pub same-end : length s ≤ i → length t ≤ i → sameNumbers (drop i s) (drop i t) ≡ true
-  unfolding sameNumbers
-  same-end h k = rw (no-rest s i h, no-rest t i k)
+  -- past the last byte
+  pub end : length s ≤ i → make [] ≡ whole
+  end h = rw (no-rest s i h) at (l .makes)
 
 pub and-no : (a b : Bool) → a ≡ false → (a && b) ≡ false
 and-no a b e = rw (e)

@@ -10,12 +10,11 @@ use native.Mathlib.Nat.{pow-suc, one-le-pow, pow-le-pow-right}
 use native.Mathlib.Omega.{arith}
 use borrow.Author.Tests.{lt-ltb, le-ltb, le-leb, lt-leb}
 use lib.Dec.{ltb}
-use lib.ListN.{length, getD, drop, length-append}
+use lib.ListN.{length, length-append}
 use Rattle.io.specs.Digits.{glyph, digits}
 use Rattle.text.specs.Numbers.{lastDigits, numberText}
 use Rattle.text.specs.Hex.{none, digit, hexOf, bytesText}
 use Rattle.text.specs.Lines.{Put, Gathered, fits, countWith, bufferWith, answerText, answerLine, wordLine, bufferLine, newline}
-use Rattle.text.proofs.Scan.{rest, no-rest}
 
 module _ (buffer : List ℕ) (count : ℕ) (part : List ℕ) where
   pub too-long : length buffer < count + length part → Gathered buffer count part (length buffer + 1) buffer
@@ -38,15 +37,6 @@ module _ (n : ℕ) where
   pub digit-high : 10 ≤ n → digit n ≡ 87 + n
   unfolding digit
   digit-high h = rw (le-ltb n 10 h)
-
-module _ (s : List ℕ) (i : ℕ) where
-  pub hex-next : i < length s → hexOf (drop i s) ≡ digit (getD s i 0 / 16) ∷ digit (getD s i 0 % 16) ∷ hexOf (drop (i + 1) s)
-  unfolding hexOf
-  hex-next h = rw (rest s i h)
-
-  pub hex-end : length s ≤ i → hexOf (drop i s) ≡ []
-  unfolding hexOf
-  hex-end h = rw (no-rest s i h)
 
 pub hex-length : (s : List ℕ) → length (hexOf s) ≡ 2 * length s
 unfolding hexOf

@@ -6,12 +6,9 @@ use borrow.Author.Needs.{needs}
 use Rattle.text.proofs.unchecked.fields.field.Statement.{statement}
 use Rattle.text.proofs.unchecked.fields.field.Tie as tie
 
-slice-aggregate-result : tie.Need-slice-aggregate-result
-slice-aggregate-result c = cc (take-before space (c .before .before .after .result .now))
-
 returns : tie.Need-returns
 unfolding field
 returns c = cc (take-before space (c .before .before .after .result .now))
 
 pub field-spec : {M : Type 1} → statement M
-field-spec = tie.close (tie.spec (λ c κs. search needs) (λ c κs. search needs) slice-aggregate-result returns)
+field-spec = tie.close (tie.spec (λ c κs. search needs) (λ c κs. search needs) (λ c. cc (take-before space (c .before .before .after .result .now))) returns)

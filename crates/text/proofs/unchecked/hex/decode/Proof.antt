@@ -26,21 +26,11 @@ worth-requires c κs =
     let s = c .before .before .before .before .before .args .s .now in
     hex-at s (2 * c .before .before .loop .i) (as-true (inHex s) (c .before .before .before .before .before .pre .0)) (omega arith)
 
-mul-out : tie.Need-mul-out Inv-loop μ-loop
-mul-out c = omega (arith, c .worth .ensures .1)
-
 worth-requires-2 : tie.Need-worth-requires-2 Inv-loop μ-loop
 worth-requires-2 c κs =
     let s = c .before .before .before .before .before .before .before .args .s .now in
     hex-at s (2 * c .before .before .before .before .loop .i + 1)
     (as-true (inHex s) (c .before .before .before .before .before .before .before .pre .0)) (omega arith)
-
-add-out : tie.Need-add-out Inv-loop μ-loop
-add-out c = omega (arith, c .before .before .worth .ensures .1, c .worth2 .ensures .1)
-
-slice-write-out : tie.Need-slice-write-out Inv-loop μ-loop
-slice-write-out c =
-    omega (arith, c .before .before .before .before .before .before .before .before .pre .1)
 
 loop-again : tie.Need-loop-again Inv-loop μ-loop
 loop-again c =
@@ -70,13 +60,13 @@ decode-spec =
     (λ c. omega arith)
     (λ c. omega arith)
     worth-requires
-    mul-out
+    (λ c. omega (arith, c .worth .ensures .1))
     (λ c. omega arith)
     (λ c. omega arith)
     (λ c. omega arith)
     worth-requires-2
-    add-out
-    slice-write-out
+    (λ c. omega (arith, c .before .before .worth .ensures .1, c .worth2 .ensures .1))
+    (λ c. omega (arith, c .before .before .before .before .before .before .before .before .pre .1))
     (λ c. omega arith)
     (λ c. omega arith)
     loop-again
