@@ -1,6 +1,6 @@
 -- The arcs of a router among links, a part of the links after the other: a link adds one arc for each of its ends, at the end.
 -- Assumes nothing.
-use Prim.Native.Nat.{ℕ, suc, _+_, _≤_}
+use Prim.Native.Nat.{ℕ, suc, _+_}
 use mathlib.Core.Bool.{Bool, true, false, cond}
 use mathlib.Core.List.{List, [], _∷_, _++_, append-nil}
 use mathlib.Core.Logic.{_≢_}
@@ -9,7 +9,7 @@ use native.Mathlib.Nat.{zero-add}
 use native.Mathlib.Omega.{arith}
 use borrow.Author.Tests.{eq-eqb, ne-eqb}
 use lib.Dec.{eqb}
-use lib.ListN.{length, length-append}
+use lib.ListN.{length}
 use Rattle.network.specs.Network.{Arc, Link, arcsAmong}
 
 -- the link seen from its first end, and from its second
@@ -31,10 +31,6 @@ among-append u number [] ms = ap (λ (k : ℕ). arcsAmong u k ms) (omega arith)
 among-append u number (l ∷ ls) ms =
     part (eqb (l .first) u) (eqb (l .second) u) _ _ _ _ _
     (among-append u (suc number) ls ms ∙ ap (λ (k : ℕ). arcsAmong u (suc number) ls ++ arcsAmong u k ms) (omega arith))
-
--- the links before others have no more arcs than all of them
-pub among-fewer : (u : ℕ) (ls ms : List Link) → length (arcsAmong u 0 ls) ≤ length (arcsAmong u 0 (ls ++ ms))
-among-fewer u ls ms = rw (among-append u 0 ls ms, length-append) (omega arith)
 
 module _ (ls : List Link) (l : Link) (number : ℕ) (long : length ls ≡ number) where
   one-more : (u : ℕ) → arcsAmong u 0 (ls ++ (l ∷ [])) ≡ arcsAmong u 0 ls ++ arcsAmong u number (l ∷ [])

@@ -9,10 +9,11 @@ use native.Mathlib.Omega.{arith}
 use lib.ListN.{length, getD, length-append}
 use Rattle.network.specs.Lists.{below, numbersFrom}
 use Rattle.network.specs.Network.{Arc, Link, arcsAmong}
+use Rattle.stations.proofs.Arcs.{arcs-stay}
 use Rattle.arcs.specs.declared.Arcs.{Arcs}
 use Rattle.arcs.specs.Arcs.{slotArcs, withArc, Slotted}
 use Rattle.arcs.proofs.Slots.{length-arcs, still-slotted, count-elsewhere, arc-there, arcs-elsewhere}
-use Rattle.arcs.proofs.Among.{there, back, among-fewer, among-first, among-second, among-neither}
+use Rattle.arcs.proofs.Among.{there, back, among-first, among-second, among-neither}
 
 -- the arcs of each of so many routers among the links
 pub record Filled (routers : ℕ) (ls : List Link) (a : Arcs) : Type 0 where
@@ -40,7 +41,7 @@ filled-none routers a s none = record { slots = s; each = λ u h. rw (none u h) 
 module _ {routers : ℕ} {ls : List Link} {l : Link} {number : ℕ} {a : Arcs} (w : Next routers ls l number) (f : Filled routers ls a) where
   -- no router has too many arcs yet, and an end of the link has room for one
   crowd : (u : ℕ) → u < routers → getD (a .count) u 0 ≤ 16
-  crowd u h = omega (arith, count-filled f u h, among-fewer u ls (l ∷ []), w .few u h)
+  crowd u h = omega (arith, count-filled f u h, arcs-stay u ls (l ∷ []), w .few u h)
 
   room : (u : ℕ) (arc : Arc) → u < routers → arcsAmong u 0 (ls ++ (l ∷ [])) ≡ arcsAmong u 0 ls ++ (arc ∷ []) → getD (a .count) u 0 < 16
   room u arc h e = omega (arith, count-filled f u h, simp length-append at (ap length e), w .few u h)
@@ -91,7 +92,7 @@ module _ {routers : ℕ} {ls : List Link} {l : Link} {number : ℕ} {a : Arcs} (
   each-more u h (no e) (yes d) = rw d twice-second
   each-more u h (no e) (no d) =
       let same = once-other u h e in
-      twice-other u d (omega (arith, ap length same, among-fewer u ls (l ∷ []), w .few u h)) ∙ same
+      twice-other u d (omega (arith, ap length same, arcs-stay u ls (l ∷ []), w .few u h)) ∙ same
       ∙ sym (among-neither ls l number (w .long) u (λ k. e (sym k)) (λ k. d (sym k)))
 
   pub one-link : Filled routers (ls ++ (l ∷ [])) (withArc (withArc a (l .first) (there l number)) (l .second) (back l number))

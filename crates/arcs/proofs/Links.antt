@@ -14,10 +14,10 @@ use Rattle.network.proofs.Below.{getD-below}
 use Rattle.stations.specs.declared.Link as topology
 use Rattle.stations.specs.declared.Topology.{Topology}
 use Rattle.stations.specs.Topology.{contents, seen, networkIn, networkOf}
+use Rattle.stations.proofs.Arcs.{arcs-stay}
 use Rattle.soundness.specs.Sound.{sound}
 use Rattle.soundness.proofs.Sound.{sound-exact, sound-networks}
 use Rattle.arcs.proofs.Filled.{Next}
-use Rattle.arcs.proofs.Among.{among-fewer}
 
 -- the first i links
 unfoldable pub firstLinks : Topology → ℕ → List Link
@@ -80,7 +80,7 @@ module _ (t : Topology) (w : Links t) (i : ℕ) (h : i < t .links) (z : topology
         few = λ u k.
             omega (
               arith,
-              among-fewer u (firstLinks t i ++ (seen (getD (t .link) i z) ∷ [])) after,
+              arcs-stay u (firstLinks t i ++ (seen (getD (t .link) i z) ∷ [])) after,
               ap (λ (ls : List Link). length (arcsAmong u 0 ls)) all-links,
               ap length (w .arcs-are u k),
               w .few u k,

@@ -21,11 +21,12 @@ pub length-arcs : (a : Arcs) (u : ℕ) → length (slotArcs a u) ≡ getD (a .co
 unfolding slotArcs
 length-arcs a u = length-map-below (slotArc a u) (getD (a .count) u 0)
 
-map-same : {A B : Type 0} (f g : A → B) (xs : List A) → ((x : A) → List·Memᴰ x xs → f x ≡ g x) → map f xs ≡ map g xs
+-- two functions that agree on a list make the same list of it
+pub map-same : {A B : Type 0} (f g : A → B) (xs : List A) → ((x : A) → List·Memᴰ x xs → f x ≡ g x) → map f xs ≡ map g xs
 map-same f g [] h = refl
 map-same f g (x ∷ xs) h = λ k. h x (List·Memᴰ·head refl) k ∷ map-same f g xs (λ y m. h y (List·Memᴰ·tail m)) k
 
-pub from-more : (s n : ℕ) → numbersFrom s (suc n) ≡ numbersFrom s n ++ ((s + n) ∷ [])
+from-more : (s n : ℕ) → numbersFrom s (suc n) ≡ numbersFrom s n ++ ((s + n) ∷ [])
 unfolding numbersFrom
 from-more s zero = rw add-zero
 from-more s (suc n) = ap (λ (l : List ℕ). s ∷ l) (from-more (suc s) n ∙ ap (λ (k : ℕ). numbersFrom (suc s) n ++ (k ∷ [])) (omega arith))

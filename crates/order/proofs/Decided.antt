@@ -21,7 +21,7 @@ use Rattle.order.specs.Calls.{atFirst, wrongRanks, unreadyRanks, modeOf,
 use Rattle.order.specs.Proposed.{Proposed}
 
 -- a first number below n is there
-first-there : (xs : List ℕ) (n r number : ℕ) (next : Answer) → r ≡ firstOr n xs → r < n → answer number r ≡ atFirst number xs next
+pub first-there : (xs : List ℕ) (n r number : ℕ) (next : Answer) → r ≡ firstOr n xs → r < n → answer number r ≡ atFirst number xs next
 unfolding firstOr atFirst
 first-there [] n r number next e h = absurd (omega (arith, e))
 first-there (x ∷ xs) n r number next e h = ap (answer number) e

@@ -20,9 +20,10 @@ use Rattle.network.proofs.Least.{least-start}
 use Rattle.network.proofs.Distance.{rounds-settle}
 use Rattle.arcs.specs.declared.Arcs.{Arcs}
 use Rattle.arcs.specs.Arcs.{slotArc, slotArcs}
+use Rattle.arcs.proofs.Slots.{map-same}
 use Rattle.order.specs.Proposed.{Settled}
 use Rattle.order.specs.Inner.{slotTo, slotCost, AllSlots, roundIn}
-use Rattle.order.proofs.Runs.{map-same, least-same}
+use Rattle.order.proofs.Runs.{least-same}
 use Rattle.order.proofs.Slots.{Held, slot-place, all-slots}
 
 -- the row of distances after k rounds
@@ -35,10 +36,10 @@ pub as-many : {n : Network} {d j k count : ℕ} {ds : List ℕ} → j ≡ k → 
 as-many {n} {d} {count = count} {ds = ds} e row = subst (λ (i : ℕ). Row n d i count ds) e row
 
 -- what stands in a list does not hang on what stands past its end
-stands : (l : List ℕ) (v y z : ℕ) → v < length l → getD l v y ≡ getD l v z
-stands [] v y z h = absurd (not-suc-le-zero h)
-stands (x ∷ l) zero y z h = refl
-stands (x ∷ l) (suc v) y z h = stands l v y z (le-of-suc-le-suc h)
+pub getD-within : (l : List ℕ) (v y z : ℕ) → v < length l → getD l v y ≡ getD l v z
+getD-within [] v y z h = absurd (not-suc-le-zero h)
+getD-within (x ∷ l) zero y z h = refl
+getD-within (x ∷ l) (suc v) y z h = getD-within l v y z (le-of-suc-le-suc h)
 
 module _ (n : Network) (a : Arcs) (count : ℕ) (held : Held n a count) where
   module _ (ds : List ℕ) (long : length ds ≡ 64) where
@@ -46,7 +47,7 @@ module _ (n : Network) (a : Arcs) (count : ℕ) (held : Held n a count) where
     unfolding distanceIn
     distance-slot v h =
         let most = held .most in
-        stands ds v 0 (absent n) (omega arith) ∙ sym (getD-take count ds v (absent n) h)
+        getD-within ds v 0 (absent n) (omega arith) ∙ sym (getD-take count ds v (absent n) h)
 
     slot-through : (u j : ℕ) → u < count → j < getD (a .count) u 0 →
         slotCost (a .to) (a .cost) ds u j ≡ through n (take count ds) (slotArc a u j)

@@ -1,16 +1,18 @@
 -- Numbers one after the other, as a loop goes through them: counting down, a turn adds the number before those that it has passed, and counting up
--- the number after them. And what functions that agree make of a list.
+-- the slot after them. And what functions that agree make of a list.
 -- Assumes nothing.
-use Prim.Native.Nat.{ℕ, zero, suc, _+_, _-_, _≤_, _<_}
+use Prim.Native.Nat.{ℕ, suc, _+_, _-_, _≤_, _<_}
 use mathlib.Core.List.{List, [], _∷_, _++_, List·Memᴰ, List·Memᴰ·head, List·Memᴰ·tail, map, map-append}
-use mathlib.Core.Path.{_≡_, refl, _∙_, ap}
-use native.Mathlib.Nat.{add-zero, zero-add, sub-self, sub-zero}
+use mathlib.Core.Path.{_≡_, refl, ap}
+use native.Mathlib.Nat.{sub-self, sub-zero}
 use native.Mathlib.Numerals.{add-one}
 use native.Mathlib.Omega.{arith}
 use lib.ListN.{length, getD, drop, set}
 use lib.Seq.{append-snoc, drop-cons, set-at}
 use Rattle.network.specs.Lists.{numbersFrom, below, leastBy}
 use Rattle.network.proofs.Below.{length-map-below}
+use Rattle.arcs.proofs.Slots.{below-more}
+pub use Rattle.arcs.proofs.Slots.{map-same}
 
 -- counting down from n: none at first, and in the end all below n
 pub down-none : (n : ℕ) → numbersFrom n (n - n) ≡ []
@@ -28,30 +30,14 @@ pub down-all : (j n : ℕ) → j ≤ 0 → numbersFrom j (n - j) ≡ below n
 unfolding below
 down-all j n h = let none : j ≡ 0 = omega arith in rw (none, sub-zero)
 
--- counting up
-from-more : (s n : ℕ) → numbersFrom s (suc n) ≡ numbersFrom s n ++ ((s + n) ∷ [])
-unfolding numbersFrom
-from-more s zero = rw add-zero
-from-more s (suc n) =
-    let last : suc s + n ≡ s + suc n = omega arith in
-    ap (λ (l : List ℕ). s ∷ l) (from-more (suc s) n ∙ ap (λ (i : ℕ). numbersFrom (suc s) n ++ (i ∷ [])) last)
-
-pub up-more : (n : ℕ) → below (n + 1) ≡ below n ++ (n ∷ [])
-unfolding below
-up-more n = rw add-one (from-more 0 n ∙ ap (λ (i : ℕ). numbersFrom 0 n ++ (i ∷ [])) (zero-add n))
-
 -- slots that take what g gives, one after the other
 pub fill-more : {A : Type 0} (g : ℕ → A) (z : A) (old : List A) (u : ℕ) → u < length old →
     set (map g (below u) ++ drop u old) u (g u) ≡ map g (below (u + 1)) ++ drop (u + 1) old
 fill-more g z old u h =
-    rw (up-more, map-append, append-snoc, add-one, drop-cons old u z)
+    rw (below-more, map-append, append-snoc, add-one, drop-cons old u z)
     (set-at (map g (below u)) (getD old u z) (drop (suc u) old) (g u) u (length-map-below g u))
 
--- two functions that agree on a list make the same list of it, and have the same least number over it
-pub map-same : {A B : Type 0} (f g : A → B) (xs : List A) → ((x : A) → List·Memᴰ x xs → f x ≡ g x) → map f xs ≡ map g xs
-map-same f g [] h = refl
-map-same f g (x ∷ xs) h = let here = h x (List·Memᴰ·head refl) in let rest = map-same f g xs (λ y m. h y (List·Memᴰ·tail m)) in cc
-
+-- two functions that agree on a list have the same least number over it
 pub least-same : {A B : Type 0} (f : A → ℕ) (g : B → ℕ) (h : A → B) (s t : ℕ) (xs : List A) → s ≡ t →
     ((x : A) → List·Memᴰ x xs → f x ≡ g (h x)) → leastBy f s xs ≡ leastBy g t (map h xs)
 unfolding leastBy

@@ -1,10 +1,9 @@
 -- What the counters go by, and that a sound topology has it: a network within the limits with its arcs in slots, its IDs, and a distance of every
 -- router.
 -- Assumes nothing.
-use Prim.Native.Nat.{ℕ, zero, suc, _≤_, _<_}
-use mathlib.Core.List.{List, [], _∷_}
-use mathlib.Core.Path.{_≡_, refl, _∙_}
-use native.Mathlib.Nat.{not-suc-le-zero, le-of-suc-le-suc}
+use Prim.Native.Nat.{ℕ, _≤_, _<_}
+use mathlib.Core.List.{List}
+use mathlib.Core.Path.{_≡_, _∙_}
 use native.Mathlib.Omega.{arith}
 use lib.Dec.{T}
 use lib.ListN.{length, getD}
@@ -21,6 +20,7 @@ use Rattle.arcs.specs.Arcs.{Holds}
 use Rattle.order.specs.declared.Mode.{Mode}
 use Rattle.order.specs.declared.Mode.the-variants as mode
 use Rattle.order.specs.Proposed.{Settled}
+use Rattle.order.proofs.Rounds.{getD-within}
 use Rattle.order.proofs.Symmetry.{BothWays, topology-back}
 
 -- a network, well formed and within the limits, and its arcs in slots
@@ -34,12 +34,6 @@ pub record Setting (n : Network) (a : Arcs) : Type 0 where
 -- the distances by place that the code has in its slots
 abbrev pub Agrees : Network → List ℕ → List ℕ → Type 0
 Agrees n ds slots = (u : ℕ) → u < size n → distanceIn n ds u ≡ getD slots u 0
-
--- below the length it does not matter what stands past the end
-getD-within : (xs : List ℕ) (i y z : ℕ) → i < length xs → getD xs i y ≡ getD xs i z
-getD-within [] i y z h = absurd (not-suc-le-zero h)
-getD-within (x ∷ xs) zero y z h = refl
-getD-within (x ∷ xs) (suc i) y z h = getD-within xs i y z (le-of-suc-le-suc h)
 
 pub settled-agrees : {n : Network} {d : ℕ} {slots : List ℕ} → size n ≤ 64 → Settled n d slots → Agrees n (distances n d) slots
 unfolding distanceIn

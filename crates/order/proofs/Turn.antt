@@ -2,7 +2,7 @@
 -- Assumes nothing.
 use Prim.Native.Nat.{ℕ, _<_}
 use mathlib.Core.Bool.{false}
-use mathlib.Core.List.{List, [], _∷_, _++_, List·Memᴰ}
+use mathlib.Core.List.{List, [], _∷_, _++_, List·Memᴰ, List·Memᴰ·not-nil}
 use mathlib.Core.Path.{_≡_}
 use native.Mathlib.Omega.{arith}
 use lib.ListN.{getD, replicate, length-replicate, getD-replicate}
@@ -17,7 +17,7 @@ use Rattle.order.specs.declared.Mode.{Mode}
 use Rattle.order.specs.declared.Mode.the-variants as mode
 use Rattle.order.specs.Calls.{modeOf}
 use Rattle.order.specs.Proposed.{Settled, DistancesFor, LaidOut}
-use Rattle.order.specs.Inner.{AllSlots, Waits, State, state, readyIn, chosen, placeOr, Room, Stepped}
+use Rattle.order.specs.Inner.{Slots, AllSlots, Waits, State, state, readyIn, chosen, placeOr, Room, Stepped}
 use Rattle.soundness.proofs.Sound.{sound-exact, sound-networks}
 use Rattle.order.proofs.Slots.{sound-held, all-slots}
 use Rattle.order.proofs.Setting.{Setting, GoneBy, settled-agrees, topology-setting, topology-reached, topology-ids}
@@ -42,6 +42,9 @@ module _ {t : Topology} {a : Arcs} {d : ℕ} {m : Mode} {ds : List ℕ} (g : Lai
   pub every-slot : AllSlots (a .count) (a .to) (a .cost) (t .routers) ds
   every-slot =
       all-slots (networkOf t) a (t .routers) (sound-held t a (g .is-sound) (g .holds)) ds (g .for-mode .long) (g .for-mode .near)
+
+  pub slots : {u : ℕ} → u < t .routers → Slots (a .to) (a .cost) ds u (getD (a .count) u 0)
+  slots h = every-slot .each _ h
 
   inside : {u : ℕ} → u < t .routers → u < size (networkOf t)
   inside h = omega (arith, facts .routers)
@@ -75,3 +78,11 @@ module _ {t : Topology} {a : Arcs} {d : ℕ} {m : Mode} {ds : List ℕ} (g : Lai
 
         pub placed-too : {r : State} → Stepped s (a .to) (a .cost) ds m u (getD (a .count) u 0) r → Right (placed ++ (u ∷ [])) r
         placed-too step = kept-step setting by kept u (inside h) out step
+
+  -- where d is counted in, the first of all
+  pub first-slots : Slots (a .to) (a .cost) ds d (getD (a .count) d 0)
+  first-slots = slots (g .place)
+
+  pub first-room : {left : List ℕ} → Waits (a .count) (a .to) (a .cost) (t .routers) ds m left →
+      Room (replicate 64 0) left (a .to) (a .cost) ds m d (getD (a .count) d 0)
+  first-room w = room (begun w) (g .place) List·Memᴰ·not-nil

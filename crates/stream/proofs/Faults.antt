@@ -51,9 +51,12 @@ module _ (c : Contents) (l : Link) where
   abbrev pub from-6 : ℕ
   from-6 = cond (eqb (l .first .0) (l .second .0)) 6 from-7
 
-  -- the last test, where both places are listed
+  -- the last test, where both places are listed, and what is left of it where the first is not crowded
   abbrev pub by-arcs : ℕ
   by-arcs = cond (leb mostNeighbours (arcs-at c (l .first .0)) || leb mostNeighbours (arcs-at c (l .second .0))) 10 0
+
+  abbrev pub in-second : ℕ
+  in-second = cond (leb mostNeighbours (arcs-at c (l .second .0))) 10 0
 
   pub last-test : l .first .0 < length (c .ids) → l .second .0 < length (c .ids) → from-10 ≡ by-arcs
   last-test f s = rw (crowded-by c (l .first .0) f, crowded-by c (l .second .0) s)

@@ -1,7 +1,7 @@
 -- Bytes that list contents leave the reading at their end with those contents, record by record; what comes next is then one step of it.
 -- Assumes nothing.
-use Prim.Native.Nat.{ℕ, suc, _+_, _*_, _≤_, _<_}
-use mathlib.Core.Bool.{true, false, cond}
+use Prim.Native.Nat.{ℕ, suc, _+_, _<_}
+use mathlib.Core.Bool.{false}
 use mathlib.Core.List.{List, [], _∷_, _++_, append-nil, append-assoc}
 use mathlib.Core.List.{List·Memᴰ, List·Memᴰ·head, List·Memᴰ·tail, Memᴰ·append-left, Memᴰ·append-right}
 use mathlib.Core.Logic.{_≢_}
@@ -9,14 +9,13 @@ use mathlib.Core.Path.{_≡_, refl, sym, ap, _∙_}
 use native.Mathlib.Nat.{zero-add}
 use native.Mathlib.Omega.{arith}
 use borrow.Author.Tests.{lt-ltb, le-ltb, ne-eqb}
-use lib.Dec.{eqb, ltb}
-use lib.ListN.{length, take, getD, drop, length-append}
+use lib.ListN.{length, length-append}
 use Rattle.stations.specs.Topology.{Contents, noLink, padded, held, zeros, seen}
 use Rattle.stream.specs.declared.Record.{Record}
 use Rattle.stream.specs.declared.Record.the-variants as record-of
 use Rattle.stream.specs.Stream.{bigEndianOn, bigEndian, bodyLength, linkIn, decoded, recordIn, records}
 use Rattle.stream.specs.Reading.{refusal, fault, added, width, isEnd, ended, unless, some?, inTurn, nothingListed, reading}
-use Rattle.stream.specs.Theorems.{Bytes, fourBytes, linkOf, Lists, refused, NextRecord, ReadsInTurn, ListsSound}
+use Rattle.stream.specs.Theorems.{Bytes, fourBytes, linkOf, Lists, refused, ReadsInTurn, ListsSound}
 use Rattle.stream.proofs.Kept.{Good, good-nothing, kept}
 
 -- the next record, by its bytes
@@ -32,7 +31,7 @@ next-link u v e f rest =
     rw (le-ltb (length (u ∷ v ∷ e ∷ f ∷ rest)) 4 (omega arith))
     (ap (λ (x : ℕ). record-of.Link (linkOf u v x f) ∷ records 0 rest) (zero-add e))
 
-next-limit : (k : ℕ) (rest : List ℕ) → records 0 (8 ∷ k ∷ rest) ≡ record-of.Limit k ∷ records 0 rest
+pub next-limit : (k : ℕ) (rest : List ℕ) → records 0 (8 ∷ k ∷ rest) ≡ record-of.Limit k ∷ records 0 rest
 unfolding records recordIn decoded bodyLength
 next-limit k rest = rw (le-ltb (length (k ∷ rest)) 1 (omega arith)) refl
 
@@ -46,12 +45,12 @@ next-cut : (kind : ℕ) (body : List ℕ) → length body < bodyLength kind → 
 unfolding records recordIn
 next-cut kind body h = rw (lt-ltb (length body) (bodyLength kind) h)
 
-next-end : (rest : List ℕ) → records 0 (3 ∷ rest) ≡ record-of.End ∷ records 0 rest
+pub next-end : (rest : List ℕ) → records 0 (3 ∷ rest) ≡ record-of.End ∷ records 0 rest
 unfolding records recordIn decoded bodyLength
 next-end rest = rw (le-ltb (length rest) 0 (omega arith))
 
 -- it is taken, or it ends the reading
-goes-on : (at : ℕ) (c : Contents) (r : Record) (rs : List Record) → fault c r ≡ 0 → isEnd r ≡ false →
+pub goes-on : (at : ℕ) (c : Contents) (r : Record) (rs : List Record) → fault c r ≡ 0 → isEnd r ≡ false →
     inTurn at c (r ∷ rs) ≡ inTurn (at + width r) (added c r) rs
 unfolding inTurn unless
 goes-on at c r rs e f = rw (e, f)

@@ -2,7 +2,7 @@
 -- is what `tableJudging` answers.
 -- Assumes nothing.
 use Prim.Native.Nat.{ℕ, _≤_, _<_}
-use mathlib.Core.List.{List, [], _∷_, List·Memᴰ}
+use mathlib.Core.List.{List, List·Memᴰ}
 use mathlib.Core.Path.{_≡_, sym, ap, _∙_}
 use native.Mathlib.Omega.{arith}
 use borrow.Author.Tests.{eq-eqb, ne-eqb}
@@ -29,7 +29,7 @@ use Rattle.order.specs.declared.Mode.the-variants as mode
 use Rattle.order.specs.Calls.{modeOf, atFirst, judging, checking}
 use Rattle.order.specs.Proposed.{Settled}
 use Rattle.order.proofs.Answers.{is-0}
-use Rattle.order.proofs.Decided.{judged, none-there, ranks-below}
+use Rattle.order.proofs.Decided.{judged, first-there, none-there, ranks-below}
 use Rattle.order.proofs.Orders.{proposes, checks-exact}
 use Rattle.order.proofs.Proposals.{proposed-ranked}
 use Rattle.rows.specs.Bytes.{tableLength}
@@ -101,12 +101,6 @@ module _ (t : Topology) (is-sound : T (sound t)) (d : ℕ) (place : d < t .route
 pub begins-with : (count : ℕ) (xs table : List ℕ) → take count xs ≡ orderIn count table → count ≤ length xs
 unfolding orderIn
 begins-with count xs table e = omega (arith, length-take count xs, ap length e, length-map-below (λ r. firstOr count (keep (λ u. eqb (rankIn table u) r) (below count))) count)
-
--- a first number of a list, below the number that stands for none
-first-there : (xs : List ℕ) (n r number : ℕ) (next : Answer) → r ≡ firstOr n xs → r < n → answer number r ≡ atFirst number xs next
-unfolding firstOr atFirst
-first-there [] n r number next e h = absurd (omega arith)
-first-there (x ∷ xs) n r number next e h = rw e
 
 module _ (t : Topology) (table : List ℕ) where
   pub wrong-length : (length table ≡ tableLength (t .routers) → ⊥) → answer 21 (length table) ≡ tableJudging t table

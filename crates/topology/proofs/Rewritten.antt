@@ -17,6 +17,7 @@ use Rattle.stream.specs.declared.Record.{Record}
 use Rattle.stream.specs.declared.Record.the-variants as record-of
 use Rattle.stream.specs.Stream.{bodyLength, decoded, linkIn, records}
 use Rattle.stream.proofs.Digits.{digits, length-bytes}
+use Rattle.stream.proofs.InTurn.{next-limit, next-end}
 use Rattle.stream.proofs.Stream.{whole, records-drop, no-bytes}
 use Rattle.topology.specs.Written.{joinedOver, routerBytes, linkBytes, limitBytes, written}
 
@@ -35,14 +36,6 @@ router-record id rest h = rw (body-record 1 _ rest (length-bytes 4 id), digits 4
 pub link-record : (l : Link) (rest : List ℕ) → l .cost < 2 ^ 16 → records 0 (linkBytes l ++ rest) ≡ record-of.Link l ∷ records 0 rest
 unfolding linkBytes bodyLength decoded linkIn
 link-record l rest h = rw (body-record 2 _ rest (ap (λ (n : ℕ). suc (suc n)) (length-bytes 2 (l .cost))), digits 2 (l .cost) h)
-
-pub limit-record : (k : ℕ) (rest : List ℕ) → records 0 (8 ∷ k ∷ rest) ≡ record-of.Limit k ∷ records 0 rest
-unfolding bodyLength decoded
-limit-record k rest = body-record 8 (k ∷ []) rest refl
-
-pub end-record : (rest : List ℕ) → records 0 (3 ∷ rest) ≡ record-of.End ∷ records 0 rest
-unfolding bodyLength decoded
-end-record rest = body-record 3 [] rest refl
 
 -- bytes that are each read as a record, one after the other
 pub each-record : {A : Type 0} (f : A → List ℕ) (g : A → Record) (xs : List A) (rest : List ℕ) →
@@ -67,7 +60,7 @@ limit-records k rest = cases (eqb k mostNextHops)
   where
     cases : (b : Bool) → records 0 (cond b [] (8 ∷ k ∷ []) ++ rest) ≡ cond b [] (record-of.Limit k ∷ []) ++ records 0 rest
     cases true = refl
-    cases false = limit-record k rest
+    cases false = next-limit k rest
 
 pub written-records : (t : Topology) → ((id : ℕ) → List·Memᴰ id (contents t .ids) → id < 2 ^ 32) →
     ((l : Link) → List·Memᴰ l (contents t .links) → l .cost < 2 ^ 16) → records 0 (written t) ≡ recordsOf (contents t)
@@ -77,6 +70,6 @@ written-records t ids links =
       limit-records,
       each-record routerBytes record-of.Router _ _ (λ id m after. router-record id after (ids id m)),
       each-record linkBytes record-of.Link _ _ (λ l m after. link-record l after (links l m)),
-      end-record,
+      next-end,
       no-bytes,
     )

@@ -28,7 +28,7 @@ use Rattle.stream.specs.declared.Record.{Record}
 use Rattle.stream.specs.declared.Record.the-variants as record-of
 use Rattle.stream.specs.Reading.{accepted, fault, added, width, isEnd, joined, ended, unless, some?, inTurn, nothingListed}
 use Rattle.stream.proofs.NoFault.{NewRouter, NewLink, router-passes, link-passes}
-use Rattle.stream.proofs.AtTurn.{unless-none}
+use Rattle.stream.proofs.InTurn.{goes-on}
 use Rattle.topology.proofs.Rewritten.{limitRecords, recordsOf}
 
 -- the reading goes on so, from somewhere
@@ -38,12 +38,6 @@ record Goes (r : Reading) (c : Contents) (rs : List Record) : Type 0 where
 
 first : {r q : Reading} {c : Contents} {rs : List Record} → r ≡ q → Goes q c rs → Goes r c rs
 first e g = record { at = g .at; on = e ∙ g .on }
-
--- a record that has no fault and is no end
-one : (at : ℕ) (c : Contents) (r : Record) (rs : List Record) → fault c r ≡ 0 → isEnd r ≡ false →
-    inTurn at c (r ∷ rs) ≡ inTurn (at + width r) (added c r) rs
-unfolding inTurn
-one at c r rs none other = unless-none _ at _ none ∙ rw other
 
 module _ (k : ℕ) (rest : List Record) where
   abbrev routed : List ℕ → Contents
@@ -63,7 +57,7 @@ module _ (k : ℕ) (rest : List Record) where
   routers-taken [] before at differ few = record { at = at; on = rw append-nil }
   routers-taken (id ∷ after) before at differ few =
       let e = append-snoc before id after in
-      first (one at (routed before) (record-of.Router id) _ (router-passes (routed before) id .1 (new-router before id after differ few)) refl)
+      first (goes-on at (routed before) (record-of.Router id) _ (router-passes (routed before) id .1 (new-router before id after differ few)) refl)
       (rw e at (routers-taken after (before ++ (id ∷ [])) (at + width (record-of.Router id)) (rw e differ) (rw e few)))
 
 -- what is told of a whole list of links
@@ -111,7 +105,7 @@ module _ (k : ℕ) (ids : List ℕ) (rest : List Record) where
   links-taken [] before at s = record { at = at; on = rw append-nil }
   links-taken (l ∷ after) before at s =
       let e = append-snoc before l after in
-      first (one at (linked before) (record-of.Link l) _ (link-passes (linked before) l .1 (new-link before l after s)) refl)
+      first (goes-on at (linked before) (record-of.Link l) _ (link-passes (linked before) l .1 (new-link before l after s)) refl)
       (rw e at (links-taken after (before ++ (l ∷ [])) (at + width (record-of.Link l)) (rw e s)))
 
 -- K, if it is not the one that stands before the first record
@@ -123,7 +117,7 @@ limit-taken k rest t = cases (eqb k 16) refl
     cases : (b : Bool) → eqb k 16 ≡ b →
         Goes (inTurn 0 nothingListed (cond b [] (record-of.Limit k ∷ []) ++ rest)) (record { ids = []; links = []; limit = k }) rest
     cases true e = record { at = 0; on = rw (eqb-true k 16 e) }
-    cases false e = record { at = _; on = one 0 nothingListed (record-of.Limit k) rest (passes (within 16 k) t 0 16) refl }
+    cases false e = record { at = _; on = goes-on 0 nothingListed (record-of.Limit k) rest (passes (within 16 k) t 0 16) refl }
 
 end-taken : (at : ℕ) (c : Contents) → 0 < length (c .ids) → apart c ≡ [] → inTurn at c (record-of.End ∷ []) ≡ accepted c
 unfolding inTurn unless fault isEnd some? ended joined

@@ -29,9 +29,6 @@ of-requires c κs = passed c
 cast-t13 : tie.Need-cast-t13 Inv-loop μ-loop
 cast-t13 c = omega (arith, sound-exact _ .0 (passed (c .before .before .before .before .before)) .routers-most)
 
-slice-aggregate-build : tie.Need-slice-aggregate-build Inv-loop μ-loop
-slice-aggregate-build c = c .before .room .ensures
-
 build-requires : tie.Need-build-requires Inv-loop μ-loop
 unfolding rowStart
 build-requires c κs =
@@ -45,9 +42,6 @@ build-requires c κs =
 -- the room is as long as it was
 long : (c : tie.After-build Inv-loop μ-loop) → length (c .build .last .1 .1 .1 .1 .0) ≡ 1220
 long c = c .build .kept .1 .1 .1 .1 .0 ∙ sym (c .before .before .room .ensures)
-
-slice-aggregate-with-bytes : tie.Need-slice-aggregate-with-bytes Inv-loop μ-loop
-slice-aggregate-with-bytes c = sym (long (c .before .before))
 
 with-bytes-requires : tie.Need-with-bytes-requires Inv-loop μ-loop
 with-bytes-requires c κs =
@@ -65,9 +59,9 @@ all-tables-spec =
     (λ c. search needs)
     (λ c κs. search needs)
     cast-t13
-    slice-aggregate-build
+    (λ c. c .before .room .ensures)
     build-requires
-    slice-aggregate-with-bytes
+    (λ c. sym (long (c .before .before)))
     with-bytes-requires
     (λ c. search needs)
     (λ c. search needs)

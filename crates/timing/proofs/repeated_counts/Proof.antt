@@ -23,9 +23,6 @@ abbrev μ-loop : tie.MeasureT-loop
 passed : (c : tie.Else1 Inv-loop μ-loop) → T (sound (c .before .before .args .t))
 passed c = rw (sym (c .before .is-sound .ensures) ∙ not-false _ (c .if1 .left)) tt
 
-slice-aggregate-put-table : tie.Need-slice-aggregate-put-table Inv-loop μ-loop
-slice-aggregate-put-table c = c .before .room .ensures
-
 put-table-requires : tie.Need-put-table-requires Inv-loop μ-loop
 put-table-requires c κs = (passed (c .before .before), c .before .room .ensures)
 
@@ -44,9 +41,6 @@ array-share-prefix-bytes c =
     let put = c .before .before .before .before in
     omega (arith, long put, sound-exact _ .0 (passed (put .before .before .before)) .routers-most)
 
-slice-aggregate-all-counts : tie.Need-slice-aggregate-all-counts Inv-loop μ-loop
-slice-aggregate-all-counts c = sym (length-take-le _ _ (array-share-prefix-bytes (c .before)))
-
 pub repeated-counts-spec : {M : Type 1} → statement M
 repeated-counts-spec =
     tie.close
@@ -56,13 +50,13 @@ repeated-counts-spec =
     (λ c κs. search needs)
     (λ c. search needs)
     (λ c κs. search needs)
-    slice-aggregate-put-table
+    (λ c. c .before .room .ensures)
     put-table-requires
     mul-length
     add-length
     (λ c. search needs)
     array-share-prefix-bytes
-    slice-aggregate-all-counts
+    (λ c. sym (length-take-le _ _ (array-share-prefix-bytes (c .before))))
     (λ c κs. search needs)
     (λ c. search needs)
     (λ c. search needs)

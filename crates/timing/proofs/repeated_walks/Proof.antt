@@ -24,9 +24,6 @@ abbrev μ-loop : tie.MeasureT-loop
 passed : (c : tie.Else1 Inv-loop μ-loop) → T (sound (c .before .before .args .t))
 passed c = rw (sym (c .before .is-sound .ensures) ∙ not-false _ (c .if1 .left)) tt
 
-slice-aggregate-put-table : tie.Need-slice-aggregate-put-table Inv-loop μ-loop
-slice-aggregate-put-table c = c .before .room .ensures
-
 put-table-requires : tie.Need-put-table-requires Inv-loop μ-loop
 put-table-requires c κs = (passed (c .before .before), c .before .room .ensures)
 
@@ -45,9 +42,6 @@ sub-most c = omega (arith, sound-exact _ .0 (passed (c .before .before .before .
 
 mul-rows : tie.Need-mul-rows Inv-loop μ-loop
 mul-rows c = omega (arith, sound-exact _ .0 (passed (c .before .before .before .before .before .before .before)) .routers-most)
-
-slice-aggregate-put-schedule : tie.Need-slice-aggregate-put-schedule Inv-loop μ-loop
-slice-aggregate-put-schedule c = c .before .room-for-schedule .ensures
 
 -- ten times 63 rows at most
 few : (c : tie.Joined2 Inv-loop μ-loop) → c .if2 .rows ≤ 630
@@ -68,15 +62,9 @@ array-share-prefix-bytes c =
     let put = c .before .before .before .before .before .before .before .before .before .before in
     omega (arith, long put, sound-exact _ .0 (passed (put .before .before .before)) .routers-most)
 
-slice-aggregate-all-walks : tie.Need-slice-aggregate-all-walks Inv-loop μ-loop
-slice-aggregate-all-walks c = sym (length-take-le _ _ (array-share-prefix-bytes (c .before)))
-
 array-share-prefix-schedule : tie.Need-array-share-prefix-schedule Inv-loop μ-loop
 array-share-prefix-schedule c =
     let put = c .before .before .before .before in omega (arith, long-schedule put, put .put-schedule .ensures)
-
-slice-aggregate-all-walks-2 : tie.Need-slice-aggregate-all-walks-2 Inv-loop μ-loop
-slice-aggregate-all-walks-2 c = sym (length-take-le _ _ (array-share-prefix-schedule (c .before)))
 
 all-walks-requires : tie.Need-all-walks-requires Inv-loop μ-loop
 all-walks-requires c κs =
@@ -91,20 +79,20 @@ repeated-walks-spec =
     (λ c κs. search needs)
     (λ c. search needs)
     (λ c κs. search needs)
-    slice-aggregate-put-table
+    (λ c. c .before .room .ensures)
     put-table-requires
     mul-length
     add-length
     sub-most
     mul-rows
     (λ c κs. search needs)
-    slice-aggregate-put-schedule
+    (λ c. c .before .room-for-schedule .ensures)
     put-schedule-requires
     (λ c. search needs)
     array-share-prefix-bytes
-    slice-aggregate-all-walks
+    (λ c. sym (length-take-le _ _ (array-share-prefix-bytes (c .before))))
     array-share-prefix-schedule
-    slice-aggregate-all-walks-2
+    (λ c. sym (length-take-le _ _ (array-share-prefix-schedule (c .before))))
     all-walks-requires
     (λ c. search needs)
     (λ c. search needs)

@@ -13,12 +13,6 @@ Inv-loop sum bytes step next₀ i₀ next i = next < 65521
 abbrev μ-loop : tie.MeasureT-loop
 μ-loop sum bytes step next₀ i₀ next i = length bytes - i
 
-cast-next : tie.Need-cast-next Inv-loop μ-loop
-cast-next c = omega (arith, c .shared-slice-known .given (c .before .before .loop .i))
-
-add-next : tie.Need-add-next Inv-loop μ-loop
-add-next c = omega (arith, c .shared-slice-known .given (c .before .before .loop .i))
-
 pub with-bytes-spec : {M : Type 1} → statement M
 with-bytes-spec =
     tie.close
@@ -28,8 +22,8 @@ with-bytes-spec =
     (λ c. search needs)
     (λ c. search needs)
     (λ c. search needs)
-    cast-next
-    add-next
+    (λ c. omega (arith, c .shared-slice-known .given (c .before .before .loop .i)))
+    (λ c. omega (arith, c .shared-slice-known .given (c .before .before .loop .i)))
     (λ c. search needs)
     (λ c. search needs)
     (λ c. search needs)

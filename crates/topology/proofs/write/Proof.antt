@@ -66,9 +66,6 @@ needed c = written-length (start c .args .t) (ids c) (links c)
 fits : (c : tie.Else2) → length (written (start c .args .t)) ≤ length (start c .args .out .now)
 fits c = omega (arith, c .before .length-of .ensures)
 
-put-limit-requires : tie.Need-put-limit-requires
-put-limit-requires c κs = omega (arith, needed (c .before), fits (c .before))
-
 put-routers-requires : tie.Need-put-routers-requires
 put-routers-requires c κs =
     let e : tie.Else2 = checked (c .before .before .before)
@@ -108,7 +105,7 @@ write-spec =
     returns
     length-of-requires
     returns-2
-    put-limit-requires
+    (λ c κs. omega (arith, needed (c .before), fits (c .before)))
     put-routers-requires
     put-links-requires
     slice-write-out

@@ -59,15 +59,6 @@ second-in : (c : tie.In-loop Inv-loop μ-loop) → link c .second .0 < 64
 unfolding seen
 second-in c = omega (arith, next c .second-in, next c .limit)
 
-mul-l : tie.Need-mul-l Inv-loop μ-loop
-mul-l c = omega (arith, few c)
-
-element-copy-out-l : tie.Need-element-copy-out-l Inv-loop μ-loop
-element-copy-out-l c = few c
-
-cast-number : tie.Need-cast-number Inv-loop μ-loop
-cast-number c = omega (arith, few (c .before))
-
 -- from the first call back to the turn, and from the second
 abbrev turn : tie.After-link Inv-loop μ-loop → tie.In-loop Inv-loop μ-loop
 turn c = c .before .before .before .before .before
@@ -84,12 +75,6 @@ unfolding seen there
 add-requires-2 c κs =
     let w = turn (added c .before) in
     (second-in w, subst (λ (a : Arcs). getD (a .count) (link w .second .0) 0 < 16) (sym (added c .add .ensures)) (room-second (next w) (w .before .loop .inv .1)))
-
-add-i : tie.Need-add-i Inv-loop μ-loop
-add-i c = omega (arith, few (turn (added (c .before) .before)))
-
-loop-less : tie.Need-loop-less Inv-loop μ-loop
-loop-less c = falls _ _ (turn (added (c .before) .before) .loop-test .taken)
 
 loop-again : tie.Need-loop-again Inv-loop μ-loop
 unfolding seen there back
@@ -120,12 +105,12 @@ of-spec =
     Inv-loop
     μ-loop
     loop-holds
-    mul-l
-    element-copy-out-l
-    cast-number
+    (λ c. omega (arith, few c))
+    (λ c. few c)
+    (λ c. omega (arith, few (c .before)))
     add-requires
     add-requires-2
-    add-i
-    loop-less
+    (λ c. omega (arith, few (turn (added (c .before) .before))))
+    (λ c. falls _ _ (turn (added (c .before) .before) .loop-test .taken))
     loop-again
     returns)

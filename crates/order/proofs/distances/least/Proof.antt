@@ -35,24 +35,9 @@ module _ (c : tie.In-loop Inv-loop μ-loop) where
   cheap : getD (c .before .before .before .args .cost .now) (c .before .before .before .args .u * 16 + (c .before .loop .j - 1)) 0 ≤ 65535
   cheap = c .before .before .before .pre .cheap (c .before .loop .j - 1) (omega arith)
 
-element-copy-out-best : tie.Need-element-copy-out-best Inv-loop μ-loop
-element-copy-out-best c = c .pre .place
-
 loop-holds : tie.Need-loop-holds Inv-loop μ-loop
 unfolding leastBy
 loop-holds c = (omega arith, rw down-none refl)
-
-cast-v : tie.Need-cast-v Inv-loop μ-loop
-cast-v c = omega (arith, leads (c .before))
-
-cast-through : tie.Need-cast-through Inv-loop μ-loop
-cast-through c = omega (arith, cheap (c .before .before))
-
-mul-through-2 : tie.Need-mul-through-2 Inv-loop μ-loop
-mul-through-2 c = omega (arith, leads (c .before .before))
-
-element-copy-out-through-2 : tie.Need-element-copy-out-through-2 Inv-loop μ-loop
-element-copy-out-through-2 c = leads (c .before .before)
 
 add-through-2 : tie.Need-add-through-2 Inv-loop μ-loop
 add-through-2 c =
@@ -80,18 +65,18 @@ least-spec =
     μ-loop
     (λ c. omega arith)
     (λ c. omega arith)
-    element-copy-out-best
+    (λ c. c .pre .place)
     loop-holds
     (λ c. omega arith)
     (λ c. omega arith)
     (λ c. omega arith)
-    cast-v
+    (λ c. omega (arith, leads (c .before)))
     (λ c. omega arith)
     (λ c. omega arith)
     (λ c. omega arith)
-    cast-through
-    mul-through-2
-    element-copy-out-through-2
+    (λ c. omega (arith, cheap (c .before .before)))
+    (λ c. omega (arith, leads (c .before .before)))
+    (λ c. leads (c .before .before))
     add-through-2
     (λ c. omega arith)
     loop-again

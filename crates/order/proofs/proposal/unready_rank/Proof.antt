@@ -2,14 +2,13 @@
 -- but the first was a candidate when placed.
 -- Assumes nothing.
 use Prim.Native.Nat.{_-_}
-use mathlib.Core.List.{List·Memᴰ·not-nil}
 use mathlib.Core.Logic.{⊎-elim}
 use native.Mathlib.Omega.{arith}
 use borrow.Author.Count.{falls}
 use borrow.Author.Tests.{not-true, not-false}
 use lib.ListN.{getD}
 use Rattle.order.specs.Inner.{Slots, state, readyIn}
-use Rattle.order.proofs.Turn.{every-slot, begun, room}
+use Rattle.order.proofs.Turn.{every-slot, slots, first-slots, first-room}
 use Rattle.order.proofs.Checking.{Checking, first-turn, place, has-room, unready, again, none-unready}
 use Rattle.order.proofs.proposal.unready_rank.Statement.{statement}
 use Rattle.order.proofs.proposal.unready_rank.Tie as tie
@@ -23,15 +22,6 @@ abbrev μ-loop : tie.MeasureT-loop
 waits-requires : tie.Need-waits-requires Inv-loop μ-loop
 waits-requires c κs = every-slot (c .before .pre .0)
 
-element-copy-out-count : tie.Need-element-copy-out-count Inv-loop μ-loop
-element-copy-out-count c = let g = c .before .before .pre .0 in every-slot g .each _ (g .place) .place
-
-cast-count : tie.Need-cast-count Inv-loop μ-loop
-cast-count c = let g = c .before .before .before .pre .0 in omega (arith, every-slot g .each _ (g .place) .few)
-
-array-write-placed : tie.Need-array-write-placed Inv-loop μ-loop
-array-write-placed c = let g = c .before .before .before .pre .0 in every-slot g .each _ (g .place) .place
-
 -- from the call that counts d in back to what it waits for
 abbrev waited : tie.After-ds Inv-loop μ-loop → tie.After-waits Inv-loop μ-loop
 waited c = c .before .before .before .before .before .before .before
@@ -40,8 +30,7 @@ abbrev start : tie.After-ds Inv-loop μ-loop → tie.Start Inv-loop μ-loop
 start c = waited c .before .before
 
 count-in-requires : tie.Need-count-in-requires Inv-loop μ-loop
-count-in-requires c κs =
-    let g = start c .pre .0 in (every-slot g .each _ (g .place), room g (begun g (waited c .waits .ensures)) (g .place) List·Memᴰ·not-nil)
+count-in-requires c κs = let g = start c .pre .0 in (first-slots g, first-room g (waited c .waits .ensures))
 
 loop-holds : tie.Need-loop-holds Inv-loop μ-loop
 loop-holds c =
@@ -57,16 +46,7 @@ at-place : (c : tie.After-shared-slice-known2 Inv-loop μ-loop) →
     Slots (args .t2 .to) (args .t2 .cost) (args .t3) u (getD (args .t2 .count) u 0)
 at-place c =
     let w = c .before .before .before .loop .inv in
-    every-slot (w .given) .each _ (place w (c .before .if1 .taken))
-
-cast-u : tie.Need-cast-u Inv-loop μ-loop
-cast-u c = omega (arith, at-place c .place)
-
-array-read-if2 : tie.Need-array-read-if2 Inv-loop μ-loop
-array-read-if2 c = at-place c .place
-
-array-read-if3 : tie.Need-array-read-if3 Inv-loop μ-loop
-array-read-if3 c = at-place (c .before) .place
+    slots (w .given) (place w (c .before .if1 .taken))
 
 returns : tie.Need-returns Inv-loop μ-loop
 unfolding readyIn
@@ -75,15 +55,6 @@ returns c =
     let at = here .before .before .before in
     unready (at .loop .inv) (here .before .if1 .taken)
     (⊎-elim (λ w. rw (w .taken)) (λ w. rw (w .0 .left) (not-true _ (w .1 .taken))) (c .if2 .came))
-
-element-copy-out-count-2 : tie.Need-element-copy-out-count-2 Inv-loop μ-loop
-element-copy-out-count-2 c = at-place (c .before .before) .place
-
-cast-count-2 : tie.Need-cast-count-2 Inv-loop μ-loop
-cast-count-2 c = omega (arith, at-place (c .before .before .before) .few)
-
-array-write-placed-2 : tie.Need-array-write-placed-2 Inv-loop μ-loop
-array-write-placed-2 c = at-place (c .before .before .before) .place
 
 -- from the call that counts it in back to the tests of the turn
 abbrev passed : tie.After-ds2 Inv-loop μ-loop → tie.Else3 Inv-loop μ-loop
@@ -97,9 +68,6 @@ count-in-requires-2 c κs = (at-place (passed c .before .before), has-room (turn
 
 add-rank : tie.Need-add-rank Inv-loop μ-loop
 add-rank c = let here = turn (c .before) in omega (arith, here .if1 .taken, every-slot (here .before .before .loop .inv .given) .most)
-
-loop-less : tie.Need-loop-less Inv-loop μ-loop
-loop-less c = falls _ _ (turn (c .before) .if1 .taken)
 
 loop-again : tie.Need-loop-again Inv-loop μ-loop
 unfolding readyIn
@@ -118,21 +86,21 @@ unready-rank-spec =
     Inv-loop
     μ-loop
     waits-requires
-    element-copy-out-count
-    cast-count
-    array-write-placed
+    (λ c. first-slots (c .before .before .pre .0) .place)
+    (λ c. omega (arith, first-slots (c .before .before .before .pre .0) .few))
+    (λ c. first-slots (c .before .before .before .pre .0) .place)
     count-in-requires
     loop-holds
     shared-slice-read-u
-    cast-u
-    array-read-if2
-    array-read-if3
+    (λ c. omega (arith, at-place c .place))
+    (λ c. at-place c .place)
+    (λ c. at-place (c .before) .place)
     returns
-    element-copy-out-count-2
-    cast-count-2
-    array-write-placed-2
+    (λ c. at-place (c .before .before) .place)
+    (λ c. omega (arith, at-place (c .before .before .before) .few))
+    (λ c. at-place (c .before .before .before) .place)
     count-in-requires-2
     add-rank
-    loop-less
+    (λ c. falls _ _ (turn (c .before) .if1 .taken))
     loop-again
     returns-2)

@@ -37,9 +37,6 @@ loop-holds : tie.Need-loop-holds Inv-loop μ-loop
 unfolding member any
 loop-holds c = (omega arith, refl, λ r h. absurd (omega arith), λ v h. getD-replicate {A = Bool} 64 v false false h)
 
-cast-u : tie.Need-cast-u Inv-loop μ-loop
-cast-u c = omega (arith, c .shared-slice-known .given (c .before .before .loop .rank))
-
 returns : tie.Need-returns Inv-loop μ-loop
 unfolding wrongRanks firstOr
 returns c =
@@ -91,7 +88,7 @@ wrong-rank-spec =
     μ-loop
     loop-holds
     (λ c. search needs)
-    cast-u
+    (λ c. omega (arith, c .shared-slice-known .given (c .before .before .loop .rank)))
     returns
     (λ c. search needs)
     returns-2

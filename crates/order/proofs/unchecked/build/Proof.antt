@@ -2,14 +2,13 @@
 -- it.
 -- Assumes nothing.
 use Prim.Native.Nat.{_-_}
-use mathlib.Core.List.{List·Memᴰ·not-nil}
 use mathlib.Core.Path.{_∙_}
 use native.Mathlib.Omega.{arith}
 use borrow.Author.Count.{falls}
 use lib.ListN.{getD, length-set}
 use Rattle.order.specs.Proposed.{LaidOut}
 use Rattle.order.specs.Inner.{Slots, state}
-use Rattle.order.proofs.Turn.{every-slot, begun, room}
+use Rattle.order.proofs.Turn.{every-slot, slots, first-slots, first-room}
 use Rattle.order.proofs.Building.{Building, same-long, first-turn, place, has-room, again, finished}
 use Rattle.order.proofs.unchecked.build.Statement.{statement}
 use Rattle.order.proofs.unchecked.build.Tie as tie
@@ -28,15 +27,6 @@ given c = rw (c .index .ensures) (c .before .before .pre .0)
 waits-requires : tie.Need-waits-requires Inv-loop μ-loop
 waits-requires c κs = every-slot (given c)
 
-element-copy-out-count : tie.Need-element-copy-out-count Inv-loop μ-loop
-element-copy-out-count c = let g = given (c .before) in every-slot g .each _ (g .place) .place
-
-cast-count : tie.Need-cast-count Inv-loop μ-loop
-cast-count c = let g = given (c .before .before) in omega (arith, every-slot g .each _ (g .place) .few)
-
-array-write-placed : tie.Need-array-write-placed Inv-loop μ-loop
-array-write-placed c = let g = given (c .before .before) in every-slot g .each _ (g .place) .place
-
 -- from the call that counts d in back to what it waits for
 abbrev waited : tie.After-ds Inv-loop μ-loop → tie.After-waits Inv-loop μ-loop
 waited c = c .before .before .before .before .before .before .before
@@ -45,11 +35,7 @@ abbrev start : tie.After-ds Inv-loop μ-loop → tie.Start Inv-loop μ-loop
 start c = waited c .before .before .before
 
 count-in-requires : tie.Need-count-in-requires Inv-loop μ-loop
-count-in-requires c κs =
-    let g = given (waited c .before) in (every-slot g .each _ (g .place), room g (begun g (waited c .waits .ensures)) (g .place) List·Memᴰ·not-nil)
-
-slice-write-out : tie.Need-slice-write-out Inv-loop μ-loop
-slice-write-out c = omega (arith, start (c .before) .pre)
+count-in-requires c κs = let g = given (waited c .before) in (first-slots g, first-room g (waited c .waits .ensures))
 
 loop-holds : tie.Need-loop-holds Inv-loop μ-loop
 loop-holds c =
@@ -69,16 +55,7 @@ at-place : (c : tie.After-select Inv-loop μ-loop) →
     Slots (args .t2 .to) (args .t2 .cost) (args .t3) (c .select .result) (getD (args .t2 .count) (c .select .result) 0)
 at-place c =
     let b = turn (c .before) .before .loop .inv in
-    every-slot (b .given) .each _ (place b (turn (c .before) .loop-test .taken) (c .select .ensures))
-
-element-copy-out-count-2 : tie.Need-element-copy-out-count-2 Inv-loop μ-loop
-element-copy-out-count-2 c = at-place c .place
-
-cast-count-2 : tie.Need-cast-count-2 Inv-loop μ-loop
-cast-count-2 c = omega (arith, at-place (c .before) .few)
-
-array-write-placed-2 : tie.Need-array-write-placed-2 Inv-loop μ-loop
-array-write-placed-2 c = at-place (c .before) .place
+    slots (b .given) (place b (turn (c .before) .loop-test .taken) (c .select .ensures))
 
 -- from the call that counts it in back to the call that selects
 abbrev selected : tie.After-ds2 Inv-loop μ-loop → tie.After-select Inv-loop μ-loop
@@ -89,9 +66,6 @@ count-in-requires-2 c κs =
     let here = turn (selected c .before) in
     (at-place (selected c), has-room (here .before .loop .inv) (here .loop-test .taken) (selected c .select .ensures))
 
-cast-out : tie.Need-cast-out Inv-loop μ-loop
-cast-out c = omega (arith, at-place (selected (c .before)) .place)
-
 slice-write-out-2 : tie.Need-slice-write-out-2 Inv-loop μ-loop
 slice-write-out-2 c =
     let here = turn (selected (c .before) .before) in
@@ -100,9 +74,6 @@ slice-write-out-2 c =
 add-rank : tie.Need-add-rank Inv-loop μ-loop
 add-rank c =
     let here = turn (selected (c .before) .before) in omega (arith, here .loop-test .taken, every-slot (here .before .loop .inv .given) .most)
-
-loop-less : tie.Need-loop-less Inv-loop μ-loop
-loop-less c = falls _ _ (turn (selected (c .before) .before) .loop-test .taken)
 
 loop-again : tie.Need-loop-again Inv-loop μ-loop
 loop-again c =
@@ -125,21 +96,21 @@ build-spec =
     μ-loop
     (λ c κs. tt)
     waits-requires
-    element-copy-out-count
-    cast-count
-    array-write-placed
+    (λ c. first-slots (given (c .before)) .place)
+    (λ c. omega (arith, first-slots (given (c .before .before)) .few))
+    (λ c. first-slots (given (c .before .before)) .place)
     count-in-requires
-    slice-write-out
+    (λ c. omega (arith, start (c .before) .pre))
     loop-holds
     select-requires
-    element-copy-out-count-2
-    cast-count-2
-    array-write-placed-2
+    (λ c. at-place c .place)
+    (λ c. omega (arith, at-place (c .before) .few))
+    (λ c. at-place (c .before) .place)
     count-in-requires-2
-    cast-out
+    (λ c. omega (arith, at-place (selected (c .before)) .place))
     slice-write-out-2
     add-rank
-    loop-less
+    (λ c. falls _ _ (turn (selected (c .before) .before) .loop-test .taken))
     loop-again
     same-length
     returns)

@@ -61,9 +61,6 @@ returns c =
     rw (← begun here .index .ensures)
     (stopped _ _ _ h (place (begun here)) (here .before .loop .inv .2 _ h) (next (c .before .before) _ h) (c .before .same .ensures .0 (c .if1 .taken)))
 
-add-k : tie.Need-add-k Inv-loop μ-loop
-add-k c = omega (arith, held (start (turn (c .before .before .before))) .most)
-
 loop-again : tie.Need-loop-again Inv-loop μ-loop
 loop-again c = (omega arith, omega arith, λ m h. as-many (omega arith) (next (c .before .before) m h))
 
@@ -85,7 +82,7 @@ distances-spec =
     next-round-requires
     same-requires
     returns
-    add-k
+    (λ c. omega (arith, held (start (turn (c .before .before .before))) .most))
     (λ c. omega arith)
     loop-again
     returns-2)

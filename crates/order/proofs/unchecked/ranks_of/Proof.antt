@@ -72,14 +72,8 @@ module _ (order : List ℕ) (ranked : Ranked order) (r : ℕ) (h : r < length or
       (λ _ out. absurd (out held))
       (λ v apart. passed v)
 
-cast-u : tie.Need-cast-u Inv-loop μ-loop
-cast-u c = omega (arith, c .shared-slice-known .given (c .before .before .loop .rank))
-
 cast-t9 : tie.Need-cast-t9 Inv-loop μ-loop
 cast-t9 c = let ranked = c .before .before .before .pre in omega (arith, at-most 64 _ (ranked .once) (ranked .places))
-
-array-set-from-by : tie.Need-array-set-from-by Inv-loop μ-loop
-array-set-from-by c = place _ (c .before .before .before .pre) _ (c .before .loop-test .taken)
 
 loop-again : tie.Need-loop-again Inv-loop μ-loop
 loop-again c =
@@ -107,9 +101,9 @@ ranks-of-spec =
     μ-loop
     loop-holds
     (λ c. search needs)
-    cast-u
+    (λ c. omega (arith, c .shared-slice-known .given (c .before .before .loop .rank)))
     cast-t9
-    array-set-from-by
+    (λ c. place _ (c .before .before .before .pre) _ (c .before .loop-test .taken))
     (λ c. search needs)
     (λ c. search needs)
     loop-again

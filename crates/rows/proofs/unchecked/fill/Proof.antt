@@ -116,12 +116,6 @@ put-header-requires c κs = omega (arith, c .before .before .before .before .bef
 loop-holds : tie.Need-loop-holds Inv-loop μ-loop
 loop-holds c = (omega arith, refl, λ t ds d g. rows-none _ _ _ _ (g .asked .limit-most) _)
 
-element-copy-out-arcs : tie.Need-element-copy-out-arcs Inv-loop μ-loop
-element-copy-out-arcs c = omega (arith, turn c, most (c .before))
-
-cast-arcs : tie.Need-cast-arcs Inv-loop μ-loop
-cast-arcs c = omega (arith, slots (c .before) .few)
-
 sort-keys-requires : tie.Need-sort-keys-requires Inv-loop μ-loop
 sort-keys-requires c κs = (c .before .before .before .before .before .before .before .loop .inv .1, slots (c .before .before .before .before .before .before))
 
@@ -181,8 +175,8 @@ fill-spec =
     cast-put-header
     put-header-requires
     loop-holds
-    element-copy-out-arcs
-    cast-arcs
+    (λ c. omega (arith, turn c, most (c .before)))
+    (λ c. omega (arith, slots (c .before) .few))
     sort-keys-requires
     element-copy-out-rank
     mul-put-row

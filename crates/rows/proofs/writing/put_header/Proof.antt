@@ -10,12 +10,6 @@ use Rattle.rows.specs.Bytes.{headerBytes}
 use Rattle.rows.proofs.writing.put_header.Statement.{statement}
 use Rattle.rows.proofs.writing.put_header.Tie as tie
 
-slice-write-out-2 : tie.Need-slice-write-out-2
-slice-write-out-2 c = simp length-set (omega arith)
-
-slice-write-out-3 : tie.Need-slice-write-out-3
-slice-write-out-3 c = simp length-set (omega arith)
-
 returns : tie.Need-returns
 unfolding headerBytes
 returns c =
@@ -27,8 +21,8 @@ put-header-spec =
     tie.close
     (tie.spec
     (λ c. search needs)
-    slice-write-out-2
-    slice-write-out-3
+    (λ c. simp length-set (omega arith))
+    (λ c. simp length-set (omega arith))
     (λ c. search needs)
     (λ c. search needs)
     returns)

@@ -41,20 +41,8 @@ module _ (c : tie.At-loop Inv-loop μ-loop) where
   same : length (c .loop .out) ≡ length (c .before .args .out .now)
   same = begun-length front (c .before .args .at + 3) row fits (c .loop .i) (c .loop .inv .1) (omega (arith, long)) ∙ simp length-set
 
-slice-write-out-2 : tie.Need-slice-write-out-2 Inv-loop μ-loop
-slice-write-out-2 c = simp length-set (omega arith)
-
-slice-write-out-3 : tie.Need-slice-write-out-3 Inv-loop μ-loop
-slice-write-out-3 c = simp length-set (omega arith)
-
 loop-holds : tie.Need-loop-holds Inv-loop μ-loop
 loop-holds c = (omega arith, sym (over-none _ _))
-
-slice-write-out-4 : tie.Need-slice-write-out-4 Inv-loop μ-loop
-slice-write-out-4 c = omega (arith, same (c .before .before .before))
-
-slice-write-out-5 : tie.Need-slice-write-out-5 Inv-loop μ-loop
-slice-write-out-5 c = omega (arith, same (c .before .before))
 
 loop-again : tie.Need-loop-again Inv-loop μ-loop
 loop-again c =
@@ -88,19 +76,19 @@ put-row-spec =
     μ-loop
     (λ c. search needs)
     (λ c. search needs)
-    slice-write-out-2
+    (λ c. simp length-set (omega arith))
     (λ c. search needs)
     (λ c. search needs)
-    slice-write-out-3
+    (λ c. simp length-set (omega arith))
     (λ c. search needs)
     loop-holds
     (λ c. search needs)
     (λ c. search needs)
     (λ c. search needs)
     (λ c. search needs)
-    slice-write-out-4
+    (λ c. omega (arith, same (c .before .before .before)))
     (λ c. search needs)
-    slice-write-out-5
+    (λ c. omega (arith, same (c .before .before)))
     (λ c. search needs)
     (λ c. search needs)
     loop-again

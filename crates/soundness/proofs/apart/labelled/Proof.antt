@@ -33,12 +33,6 @@ turn c =
       second-end = c .index2 .ensures;
     }
 
-array-read-from : tie.Need-array-read-from Inv-loop μ-loop
-array-read-from c = ends-listed (turn c) .0
-
-array-read-to : tie.Need-array-read-to Inv-loop μ-loop
-array-read-to c = ends-listed (turn c) .1
-
 loop-again : tie.Need-loop-again Inv-loop μ-loop
 loop-again c =
     let h = c .before .before .before .before .before .loop .inv .1 in
@@ -60,8 +54,8 @@ labelled-spec =
     (λ c. omega arith)
     (λ c κs. tt)
     (λ c κs. tt)
-    array-read-from
-    array-read-to
+    (λ c. ends-listed (turn c) .0)
+    (λ c. ends-listed (turn c) .1)
     (λ c κs. tt)
     (λ c. omega arith)
     (λ c. omega arith)

@@ -107,50 +107,11 @@ asked c =
     ap (λ j. getD (w .loop .linked) j false) (omega (arith, ends-are c))
     ∙ w .loop .inv .2 .at (link-at (turn c)) (omega (arith, sound-link c)) (omega (arith, sound-link c))
 
-mul-if5 : tie.Need-mul-if5 Inv-loop μ-loop
-mul-if5 c = omega (arith, ends c)
-
-add-if5 : tie.Need-add-if5 Inv-loop μ-loop
-add-if5 c = omega (arith, ends c)
-
-array-read-if5 : tie.Need-array-read-if5 Inv-loop μ-loop
-array-read-if5 c = omega (arith, ends c)
-
 returns-3 : tie.Need-returns-3 Inv-loop μ-loop
 unfolding noLink contents
 returns-3 c =
     let w = turn (c .before) in
     rw (sym (failed pairs-grow (w .before .loop .inv .1) (omega arith) noLink (ap not (sym (asked (c .before)) ∙ c .if5 .taken))), and-false)
-
-mul-linked : tie.Need-mul-linked Inv-loop μ-loop
-mul-linked c = omega (arith, ends (c .before))
-
-add-linked : tie.Need-add-linked Inv-loop μ-loop
-add-linked c = omega (arith, ends (c .before))
-
-array-write-linked : tie.Need-array-write-linked Inv-loop μ-loop
-array-write-linked c = omega (arith, ends (c .before))
-
-mul-linked-2 : tie.Need-mul-linked-2 Inv-loop μ-loop
-mul-linked-2 c = omega (arith, ends (c .before))
-
-add-linked-2 : tie.Need-add-linked-2 Inv-loop μ-loop
-add-linked-2 c = omega (arith, ends (c .before))
-
-array-write-linked-2 : tie.Need-array-write-linked-2 Inv-loop μ-loop
-array-write-linked-2 c = omega (arith, ends (c .before))
-
-mul-at-first : tie.Need-mul-at-first Inv-loop μ-loop
-mul-at-first c = omega (arith, ends (c .before))
-
-array-read-at-first : tie.Need-array-read-at-first Inv-loop μ-loop
-array-read-at-first c = omega (arith, ends (c .before))
-
-mul-at-second : tie.Need-mul-at-second Inv-loop μ-loop
-mul-at-second c = omega (arith, ends (c .before))
-
-array-read-at-second : tie.Need-array-read-at-second Inv-loop μ-loop
-array-read-at-second c = omega (arith, ends (c .before))
 
 -- one of its ends has 16 neighbours already
 refuse : (c : tie.Else4 Inv-loop μ-loop) (u : ℕ) → (link-at (turn c) .first ≡ u) ⊎ (link-at (turn c) .second ≡ u) →
@@ -167,21 +128,6 @@ returns-4 c =
     let l = c .before .before in
     ⊎-elim (λ w. refuse l _ (inl (sym (ends-are l .0))) (w .taken)) (λ w. refuse l _ (inr (sym (ends-are l .1))) (leb-true _ _ (w .1 .taken)))
     (c .if6 .came)
-
-mul-count : tie.Need-mul-count Inv-loop μ-loop
-mul-count c = omega (arith, ends (c .before .before .before))
-
-array-write-count : tie.Need-array-write-count Inv-loop μ-loop
-array-write-count c = ends (c .before .before .before) .0
-
-add-count-2 : tie.Need-add-count-2 Inv-loop μ-loop
-add-count-2 c = omega (arith, leb-false)
-
-mul-count-2 : tie.Need-mul-count-2 Inv-loop μ-loop
-mul-count-2 c = omega (arith, ends (c .before .before .before))
-
-array-write-count-2 : tie.Need-array-write-count-2 Inv-loop μ-loop
-array-write-count-2 c = ends (c .before .before .before) .1
 
 loop-again : tie.Need-loop-again Inv-loop μ-loop
 unfolding noLink
@@ -224,27 +170,27 @@ links-fit-spec =
     (λ c κs. search needs)
     returns
     returns-2
-    mul-if5
-    add-if5
-    array-read-if5
+    (λ c. omega (arith, ends c))
+    (λ c. omega (arith, ends c))
+    (λ c. omega (arith, ends c))
     returns-3
-    mul-linked
-    add-linked
-    array-write-linked
-    mul-linked-2
-    add-linked-2
-    array-write-linked-2
-    mul-at-first
-    array-read-at-first
-    mul-at-second
-    array-read-at-second
+    (λ c. omega (arith, ends (c .before)))
+    (λ c. omega (arith, ends (c .before)))
+    (λ c. omega (arith, ends (c .before)))
+    (λ c. omega (arith, ends (c .before)))
+    (λ c. omega (arith, ends (c .before)))
+    (λ c. omega (arith, ends (c .before)))
+    (λ c. omega (arith, ends (c .before)))
+    (λ c. omega (arith, ends (c .before)))
+    (λ c. omega (arith, ends (c .before)))
+    (λ c. omega (arith, ends (c .before)))
     returns-4
     (λ c. omega arith)
-    mul-count
-    array-write-count
-    add-count-2
-    mul-count-2
-    array-write-count-2
+    (λ c. omega (arith, ends (c .before .before .before)))
+    (λ c. ends (c .before .before .before) .0)
+    (λ c. omega (arith, leb-false))
+    (λ c. omega (arith, ends (c .before .before .before)))
+    (λ c. ends (c .before .before .before) .1)
     (λ c. search needs)
     (λ c. omega arith)
     loop-again

@@ -35,9 +35,6 @@ labelled-requires c κs = (c .pre .0, c .pre .1)
 loop-holds : tie.Need-loop-holds Inv-loop μ-loop
 loop-holds c = (omega arith, below-none _)
 
-array-read-if1 : tie.Need-array-read-if1 Inv-loop μ-loop
-array-read-if1 c = omega (arith, c .before .before .before .pre .0 .routers-fit)
-
 returns : tie.Need-returns Inv-loop μ-loop
 returns c =
     found (c .before .before .before) (c .before .before .loop .u) (c .before .before .loop .inv .0) (c .before .before .loop .inv .1)
@@ -59,7 +56,7 @@ lowest-apart-spec =
     labelled-requires
     (λ c. omega arith)
     loop-holds
-    array-read-if1
+    (λ c. omega (arith, c .before .before .before .pre .0 .routers-fit))
     returns
     (λ c. omega arith)
     (λ c. omega arith)

@@ -9,15 +9,6 @@ use Rattle.stream.proofs.Stream.{two-bytes}
 use Rattle.stream.proofs.records.be16.Statement.{statement}
 use Rattle.stream.proofs.records.be16.Tie as tie
 
-cast-result : tie.Need-cast-result
-cast-result c = omega (arith, c .shared-slice-known .given (c .before .args .at))
-
-mul-result : tie.Need-mul-result
-mul-result c = omega (arith, c .shared-slice-known .given (c .before .args .at))
-
-cast-result-2 : tie.Need-cast-result-2
-cast-result-2 c = omega (arith, c .shared-slice-known2 .given (c .before .before .args .at + 1))
-
 add-result-2 : tie.Need-add-result-2
 add-result-2 c =
     omega (arith, c .shared-slice-known2 .given (c .before .before .args .at), c .shared-slice-known2 .given (c .before .before .args .at + 1))
@@ -31,10 +22,10 @@ be16-spec =
     tie.close
     (tie.spec
     (λ c. search needs)
-    cast-result
-    mul-result
+    (λ c. omega (arith, c .shared-slice-known .given (c .before .args .at)))
+    (λ c. omega (arith, c .shared-slice-known .given (c .before .args .at)))
     (λ c. search needs)
     (λ c. search needs)
-    cast-result-2
+    (λ c. omega (arith, c .shared-slice-known2 .given (c .before .before .args .at + 1)))
     add-result-2
     returns)

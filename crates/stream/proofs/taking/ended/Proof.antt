@@ -1,10 +1,13 @@
 -- `topology::taking::ended` meets its contract: its tests are those of `ended`, and the lowest place that is apart tells whether all are joined.
 -- Assumes nothing.
-use mathlib.Core.Path.{ap}
+use Prim.Native.Nat.{_+_}
+use mathlib.Core.Path.{_≡_, ap}
 use borrow.Author.Needs.{needs}
 use borrow.Author.Tests.{lt-ltb, le-ltb, eq-eqb, ne-eqb}
+use lib.Dec.{ltb}
 use Rattle.stations.specs.Topology.{contents}
-use Rattle.stream.specs.Reading.{accepted}
+use Rattle.soundness.specs.Apart.{apart}
+use Rattle.stream.specs.Reading.{accepted, joined}
 use Rattle.stream.specs.Reading as said
 use Rattle.stream.specs.Theorems.{success}
 use Rattle.stream.proofs.Faults.{joined-not, joined-all}
@@ -23,30 +26,28 @@ returns-2 c =
     let count = routers-held (s .args .t) (s .pre .0) in
     rw (le-ltb _ _ (c .before .before .before .if1 .left), ← count, eq-eqb _ 0 (c .before .if2 .taken)) (c .refused2 .ensures)
 
-returns-3 : tie.Need-returns-3
+-- the tests before the last have passed
+left : (c : tie.Else2) → let a = c .before .before .before .args in
+    said.ended (ltb (a .at + 1) (a .length)) (a .at) (contents (a .t)) ≡ joined (contents (a .t)) (apart (contents (a .t)))
 unfolding said.ended
+left c =
+    let s = c .before .before .before in
+    rw (le-ltb _ _ (c .before .before .if1 .left), ← routers-held (s .args .t) (s .pre .0), ne-eqb _ 0 (c .if2 .left))
+
+returns-3 : tie.Need-returns-3
 returns-3 c =
     let s = c .before .before .before .before .before .before .before in
     let count = routers-held (s .args .t) (s .pre .0) in
-    rw (
-      le-ltb _ _ (c .before .before .before .before .before .before .if1 .left),
-      ← count,
-      ne-eqb _ 0 (c .before .before .before .before .if2 .left),
-      joined-not (contents (s .args .t)) _ _ count (c .before .before .before .lowest-apart .ensures) (c .before .if3 .taken),
-    ) (c .refused3 .ensures)
+    rw (left (c .before .before .before .before), joined-not _ _ _ count (c .before .before .before .lowest-apart .ensures) (c .before .if3 .taken))
+    (c .refused3 .ensures)
 
 returns-4 : tie.Need-returns-4
-unfolding accepted said.ended
+unfolding accepted
 returns-4 c =
     let s = c .before .before .before .before .before .before .before in
     let count = routers-held (s .args .t) (s .pre .0) in
-    rw (
-      le-ltb _ _ (c .before .before .before .before .before .before .if1 .left),
-      ← count,
-      ne-eqb _ 0 (c .before .before .before .before .if2 .left),
-      joined-all (contents (s .args .t)) _ _ count (c .before .before .before .lowest-apart .ensures) (c .before .if3 .left),
-      c .taken .ensures,
-    ) (ap success (s .pre .0 .whole))
+    rw (left (c .before .before .before .before), joined-all _ _ _ count (c .before .before .before .lowest-apart .ensures) (c .before .if3 .left), c .taken .ensures)
+    (ap success (s .pre .0 .whole))
 
 pub ended-spec : {M : Type 1} → statement M
 ended-spec =

@@ -1,15 +1,17 @@
 -- `topology::taking::link_fault` meets its contract: its tests are those of `linkFault`, in the same order.
 -- Assumes nothing.
 use Prim.Native.Nat.{ℕ}
+use mathlib.Core.Bool.{cond, not}
 use mathlib.Core.Path.{_≡_}
 use native.Mathlib.Omega.{arith}
 use borrow.Author.Needs.{needs}
 use borrow.Author.Tests.{lt-ltb, le-ltb, le-leb, lt-leb, eq-eqb, ne-eqb}
+use lib.Dec.{ltb}
 use Rattle.stations.specs.declared.Link.{Link}
 use Rattle.stations.specs.Limits.{mostLinks, mostNeighbours}
 use Rattle.stations.specs.Topology.{Contents, contents}
 use Rattle.stream.specs.Reading.{linkFault}
-use Rattle.stream.proofs.Faults.{from-6, from-7, from-8, from-9, by-arcs, last-test}
+use Rattle.stream.proofs.Faults.{from-6, from-7, from-8, from-9, by-arcs, in-second, last-test}
 use Rattle.stream.proofs.Held.{routers-held, links-held}
 use Rattle.stream.proofs.taking.link_fault.Statement.{statement}
 use Rattle.stream.proofs.taking.link_fault.Tie as tie
@@ -20,29 +22,25 @@ returns c =
     let s = c .before .before .before in
     rw (← routers-held (s .args .t) (s .pre), le-ltb (s .args .l .first .0) (s .args .t .routers) (omega arith))
 
-returns-2 : tie.Need-returns-2
-unfolding linkFault
-returns-2 c =
-    let s = c .before .before .before .before in
-    rw (
-      ← routers-held (s .args .t) (s .pre),
-      lt-ltb (s .args .l .first .0) (s .args .t .routers) (omega arith),
-      le-ltb (s .args .l .second .0) (s .args .t .routers) (omega arith),
-    )
-
 -- these tests are left where the ones before have passed
 abbrev Left : tie.Start → (Contents → Link → ℕ) → Type 0
 Left s rest = linkFault (contents (s .args .t)) (s .args .l) ≡ rest (contents (s .args .t)) (s .args .l)
 
-left-6 : (c : tie.Else2) → Left (c .before .before .before .before) from-6
+left-5 : (c : tie.Else1) → Left (c .before .before .before) (λ ls l. cond (not (ltb (l .second .0) (c .before .before .before .args .t .routers))) 5 (from-6 ls l))
 unfolding linkFault
+left-5 c =
+    let s = c .before .before .before in
+    rw (← routers-held (s .args .t) (s .pre), lt-ltb (s .args .l .first .0) (s .args .t .routers) (omega arith))
+
+returns-2 : tie.Need-returns-2
+returns-2 c =
+    let s = c .before .before .before .before in
+    rw (left-5 (c .before), le-ltb (s .args .l .second .0) (s .args .t .routers) (omega arith))
+
+left-6 : (c : tie.Else2) → Left (c .before .before .before .before) from-6
 left-6 c =
     let s = c .before .before .before .before in
-    rw (
-      ← routers-held (s .args .t) (s .pre),
-      lt-ltb (s .args .l .first .0) (s .args .t .routers) (omega arith),
-      lt-ltb (s .args .l .second .0) (s .args .t .routers) (omega arith),
-    )
+    rw (left-5 (c .before), lt-ltb (s .args .l .second .0) (s .args .t .routers) (omega arith))
 
 returns-3 : tie.Need-returns-3
 returns-3 c =
@@ -82,25 +80,14 @@ left-10 c =
 returns-7 : tie.Need-returns-7
 returns-7 c = rw (left-10 (c .before .before), ← c .before .neighbours .ensures, le-leb mostNeighbours _ (c .if7 .taken))
 
+left-11 : (c : tie.Else7) → Left (c .before .before .before .before .before .before .before .before .before .before .before .before .before) in-second
+left-11 c = rw (left-10 (c .before .before), ← c .before .neighbours .ensures, lt-leb mostNeighbours _ (c .if7 .left))
+
 returns-8 : tie.Need-returns-8
-returns-8 c =
-    rw (
-      left-10 (c .before .before .before .before),
-      ← c .before .before .before .neighbours .ensures,
-      ← c .before .neighbours2 .ensures,
-      lt-leb mostNeighbours _ (c .before .before .if7 .left),
-      le-leb mostNeighbours _ (c .if8 .taken),
-    )
+returns-8 c = rw (left-11 (c .before .before), ← c .before .neighbours2 .ensures, le-leb mostNeighbours _ (c .if8 .taken))
 
 returns-9 : tie.Need-returns-9
-returns-9 c =
-    rw (
-      left-10 (c .before .before .before .before),
-      ← c .before .before .before .neighbours .ensures,
-      ← c .before .neighbours2 .ensures,
-      lt-leb mostNeighbours _ (c .before .before .if7 .left),
-      lt-leb mostNeighbours _ (c .if8 .left),
-    )
+returns-9 c = rw (left-11 (c .before .before), ← c .before .neighbours2 .ensures, lt-leb mostNeighbours _ (c .if8 .left))
 
 pub link-fault-spec : {M : Type 1} → statement M
 link-fault-spec =

@@ -17,9 +17,6 @@ returns : tie.Need-returns
 unfolding soundHeader kindIn
 returns c = rw (ne-eqb _ _ (c .if1 .taken))
 
-cast-destination : tie.Need-cast-destination
-cast-destination c = omega (arith, c .shared-slice-known2 .given 1)
-
 -- the kind is 16, and the destination is below n
 kind : (c : tie.Else1) → eqb (getD (c .before .before .args .table .now) 0 0) 16 ≡ true
 kind c = eq-eqb _ _ (c .if1 .left)
@@ -30,9 +27,6 @@ place c = lt-ltb _ _ (c .if2 .left)
 returns-2 : tie.Need-returns-2
 unfolding soundHeader kindIn destinationIn
 returns-2 c = rw (kind (c .before .before), le-ltb _ _ (c .if2 .taken))
-
-cast-count : tie.Need-cast-count
-cast-count c = omega (arith, c .shared-slice-known3 .given 2)
 
 returns-3 : tie.Need-returns-3
 unfolding soundHeader kindIn destinationIn countIn
@@ -57,10 +51,10 @@ header-is-sound-spec =
     (λ c. search needs)
     returns
     (λ c. search needs)
-    cast-destination
+    (λ c. omega (arith, c .shared-slice-known2 .given 1))
     returns-2
     (λ c. search needs)
-    cast-count
+    (λ c. omega (arith, c .shared-slice-known3 .given 2))
     returns-3
     (λ c. search needs)
     returns-4

@@ -16,14 +16,8 @@ returns c = rw (limit-none _ (c .if1 .taken)) (refl, sym (over-none _ 0))
 room : (c : tie.Else1) → 2 ≤ length (c .before .before .args .out .now)
 room c = rw (limit-some _ (c .if1 .left)) at (c .before .before .pre)
 
-slice-write-out : tie.Need-slice-write-out
-slice-write-out c = omega (arith, room c)
-
-slice-write-out-2 : tie.Need-slice-write-out-2
-slice-write-out-2 c = simp length-set (omega (arith, room c))
-
 returns-2 : tie.Need-returns-2
 returns-2 c = rw (limit-some _ (c .if1 .left)) (refl, over-two _ 0 _ _ (room c))
 
 pub put-limit-spec : {M : Type 1} → statement M
-put-limit-spec = tie.close (tie.spec returns slice-write-out slice-write-out-2 (λ c. search needs) returns-2)
+put-limit-spec = tie.close (tie.spec returns (λ c. omega (arith, room c)) (λ c. simp length-set (omega (arith, room c))) (λ c. search needs) returns-2)

@@ -23,9 +23,6 @@ loop-holds c = first-none linkBytes link-five (omega (arith, links-length (c .be
 same : (c : tie.At-loop Inv-loop μ-loop) → length (c .loop .out) ≡ length (c .before .before .args .out .now)
 same c = first-length linkBytes link-five (c .loop .inv)
 
-put-link-requires : tie.Need-put-link-requires Inv-loop μ-loop
-put-link-requires c κs = omega (arith, same (c .before .before .before))
-
 loop-again : tie.Need-loop-again Inv-loop μ-loop
 unfolding noLink
 loop-again c =
@@ -49,7 +46,7 @@ put-links-spec =
     (λ c. omega arith)
     (λ c. omega arith)
     (λ c. omega arith)
-    put-link-requires
+    (λ c κs. omega (arith, same (c .before .before .before)))
     (λ c. omega arith)
     (λ c. omega arith)
     loop-again

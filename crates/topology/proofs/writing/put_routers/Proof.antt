@@ -23,9 +23,6 @@ loop-holds c = first-none routerBytes router-five (omega (arith, ids-length (c .
 same : (c : tie.At-loop Inv-loop μ-loop) → length (c .loop .out) ≡ length (c .before .before .args .out .now)
 same c = first-length routerBytes router-five (c .loop .inv)
 
-put-router-requires : tie.Need-put-router-requires Inv-loop μ-loop
-put-router-requires c κs = omega (arith, same (c .before .before .before))
-
 loop-again : tie.Need-loop-again Inv-loop μ-loop
 loop-again c =
     first-next routerBytes router-five (c .before .before .before .before .before .before .loop .inv) 0 (omega arith) (c .before .before .put-router .ensures)
@@ -48,7 +45,7 @@ put-routers-spec =
     (λ c. omega arith)
     (λ c. omega arith)
     (λ c. omega arith)
-    put-router-requires
+    (λ c κs. omega (arith, same (c .before .before .before)))
     (λ c. omega arith)
     (λ c. omega arith)
     loop-again
