@@ -6,6 +6,7 @@ use stations::Topology;
 mod counting;
 mod moving;
 mod schedule;
+pub mod unchecked;
 
 ghost use mathlib.Core.Path.{_≡_};
 ghost use Rattle.forwarding.specs.Calls.{packetIn, settingSays, hopSays, walkSays, countingHops, settingAt, hopping, walking};
@@ -49,7 +50,7 @@ pub fn greatest_hops(t: Topology, table: &[u8], out: &mut [u8]) -> Answer
     if out.len() < n {
         return Answer { number: 24, at: n };
     }
-    counting::put_bounds(counting::bounds_of(t, table), n, out);
+    unchecked::greatest_hops(t, table, out);
     Answer { number: 0, at: n }
 }
 

@@ -7,13 +7,13 @@ use lib.ListN.{length, take}
 use Rattle.text.specs.declared.unchecked.fields.Value.{Value}
 use Rattle.text.specs.declared.unchecked.fields.Value.the-variants.{Is, Wrong}
 use Rattle.text.specs.Hex.{byteCount, bytes}
-use Rattle.text.specs.Lines.{errorLine, wordLine, bufferLine}
+use Rattle.text.specs.Lines.{refusedWord, errorLine, wordLine, bufferLine}
 use Rattle.forwarding.specs.Calls.{packetIn}
 use Rattle.requests.specs.declared.unchecked.replies.Reply.{Reply}
 use Rattle.requests.specs.declared.unchecked.replies.Reply.the-variants.{Error, Says, Leaves, Set, Delivered, Moved, Dropped, Refused}
 use Rattle.requests.specs.declared.unchecked.calls.Holding.{Holding}
 use Rattle.requests.specs.declared.unchecked.calls.Step.{Step}
-use Rattle.requests.specs.Requests.{mostTable, Held, Answered, setWord, deliveredWord, movedWord, droppedWord, refusedWord, answerOf, packetLine}
+use Rattle.requests.specs.Requests.{mostTable, Held, Answered, setWord, deliveredWord, movedWord, droppedWord, answerOf, packetLine}
 
 -- The bytes of a field were put at the start of a buffer; if the field is no such field, the buffer stays.
 pub record Decoded (s : List ℕ) (r : Value) (entry exit : List ℕ) : Type 0 where

@@ -24,7 +24,7 @@ use Rattle.requests.specs.declared.unchecked.asked.Aim.the-variants as a
 use Rattle.text.specs.Fields.{field}
 use Rattle.text.specs.Numbers.{number}
 use Rattle.text.specs.Hex.{byteCount, bytes}
-use Rattle.text.specs.Lines.{errorLine, answerLine, wordLine, bufferLine}
+use Rattle.text.specs.Lines.{errorLine, refusedWord, answerLine, wordLine, bufferLine}
 
 -- at most 65,536 for ROOM
 abbrev pub mostRoom : ℕ
@@ -96,10 +96,6 @@ movedWord = 109 ∷ 111 ∷ 118 ∷ 101 ∷ 100 ∷ []
 -- `dropped`
 unfoldable pub droppedWord : List ℕ
 droppedWord = 100 ∷ 114 ∷ 111 ∷ 112 ∷ 112 ∷ 101 ∷ 100 ∷ []
-
--- `refused`
-unfoldable pub refusedWord : List ℕ
-refusedWord = 114 ∷ 101 ∷ 102 ∷ 117 ∷ 115 ∷ 101 ∷ 100 ∷ []
 
 -- a word, then STATION HOPS
 unfoldable pub packetLine : List ℕ → Packet ℕ → List ℕ

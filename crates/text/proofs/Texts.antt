@@ -53,6 +53,22 @@ unfolding bytesText
 text-hex [] h = absurd (h refl)
 text-hex (b ∷ s) h = refl
 
+-- numbers of one digit and of two
+pub one-digit : (n : ℕ) → n < 10 → numberText n ≡ (48 + n) ∷ []
+unfolding numberText lastDigits
+one-digit n h = rw (lt-ltb n 10 h)
+
+pub two-digits : (n : ℕ) → 10 ≤ n → n < 100 → numberText n ≡ (48 + n / 10) ∷ (48 + n % 10) ∷ []
+unfolding numberText lastDigits
+two-digits n h k = let front : ltb (n / 10) 10 ≡ true = lt-ltb (n / 10) 10 (omega arith) in rw (le-ltb n 10 h, front)
+
+pub small-length : (n : ℕ) → n < 100 → length (numberText n) ≤ 2
+small-length n h = cases (decLt n 10)
+  where
+    cases : Dec (n < 10) → length (numberText n) ≤ 2
+    cases (yes l) = rw (one-digit n l) (omega arith)
+    cases (no o) = rw (two-digits n (omega arith) h) (omega arith)
+
 digits-length : (most n : ℕ) → length (lastDigits most n) ≤ most
 unfolding lastDigits
 digits-length zero n = omega arith

@@ -41,6 +41,10 @@ pub record Gathered (entry : List ℕ) (count : ℕ) (part : List ℕ) (now : �
 unfoldable pub errorLine : List ℕ
 errorLine = 101 ∷ 114 ∷ 114 ∷ 111 ∷ 114 ∷ newline ∷ []
 
+-- `refused`
+unfoldable pub refusedWord : List ℕ
+refusedWord = 114 ∷ 101 ∷ 102 ∷ 117 ∷ 115 ∷ 101 ∷ 100 ∷ []
+
 -- NUMBER AT
 unfoldable pub answerText : ℕ → ℕ → List ℕ
 answerText number at = numberText number ++ (space ∷ numberText at)

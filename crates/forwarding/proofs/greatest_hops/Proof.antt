@@ -1,23 +1,18 @@
--- `forwarding::greatest_hops` meets its contract: the table is checked, 14 and 21, and then the bounds of all places are the figures.
+-- `forwarding::greatest_hops` meets its contract: the table is checked, 14 and 21, and then the figures are given to the buffer.
 -- Assumes nothing.
-use mathlib.Core.List.{map}
 use mathlib.Core.Path.{_≡_, sym, ap, _∙_}
 use borrow.Author.Needs.{needs}
 use borrow.Author.Tests.{lt-ltb, le-ltb, ne-eqb}
 use denote.Ref.{now}
 use lib.Dec.{T}
 use lib.ListN.{length}
-use Rattle.network.specs.Lists.{below}
-use Rattle.network.proofs.Below.{below-lt, length-map-below}
+use Rattle.network.proofs.Below.{length-map-below}
 use Rattle.stations.specs.Outcome.{turnedAway, given}
 use Rattle.stations.specs.declared.Answer.{Answer}
 use Rattle.soundness.specs.Sound.{sound}
-use Rattle.soundness.proofs.Sound.{sound-exact}
-use Rattle.order.proofs.Runs.{map-same}
 use Rattle.table.specs.Calls.{unlessRefused, tableChecking}
 use Rattle.table.proofs.Verdicts.{tables-each}
 use Rattle.forwarding.specs.Calls.{figure, figures, countingHops}
-use Rattle.forwarding.specs.Inner.{boundOf}
 use Rattle.forwarding.proofs.Returned.{passed-table}
 use Rattle.forwarding.proofs.greatest_hops.Statement.{statement}
 use Rattle.forwarding.proofs.greatest_hops.Tie as tie
@@ -45,17 +40,8 @@ returns-2 : tie.Need-returns-2
 unfolding countingHops unlessRefused given turnedAway
 returns-2 c = rw (whole (c .before), long (c .before), lt-ltb _ _ (c .if2 .taken))
 
-bounds-of-requires : tie.Need-bounds-of-requires
-bounds-of-requires c κs = (passed (c .before), whole (c .before))
-
-put-bounds-requires : tie.Need-put-bounds-requires
-put-bounds-requires c κs = (sound-exact _ .0 (passed (c .before .before .before)) .routers-most, c .before .before .if2 .left)
-
--- the bounds are the figures
-same : (c : tie.After-bounds-of) → let a = c .before .before .before .before .before .before .before .args in
-    map (boundOf (c .bounds-of .result .by)) (below (a .t .routers)) ≡ figures (a .t) (now (a .table))
-unfolding figures
-same c = map-same _ _ _ (λ u m. c .bounds-of .ensures .each u (below-lt _ m))
+greatest-hops-requires : tie.Need-greatest-hops-requires
+greatest-hops-requires c κs = (passed (c .before .before), whole (c .before .before), c .before .if2 .left)
 
 same-length : tie.Need-same-length
 same-length c = search needs
@@ -63,9 +49,8 @@ same-length c = search needs
 returns-3 : tie.Need-returns-3
 unfolding countingHops unlessRefused given
 returns-3 c =
-    let b : tie.After-bounds-of = c .before .before .before .before in
-    let e : tie.Else1 = b .before .before in
-    rw (c .before .before .put-bounds .ensures, same b, whole e, long e, le-ltb _ _ (b .before .if2 .left))
+    let b = c .before .before .before .before in
+    rw (c .before .before .greatest-hops .ensures, whole (b .before), long (b .before), le-ltb _ _ (b .if2 .left))
 
 pub greatest-hops-spec : {M : Type 1} → statement M
 greatest-hops-spec =
@@ -74,7 +59,6 @@ greatest-hops-spec =
     check-requires
     returns
     returns-2
-    bounds-of-requires
-    put-bounds-requires
+    greatest-hops-requires
     same-length
     returns-3)

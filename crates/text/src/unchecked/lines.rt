@@ -9,7 +9,7 @@ ghost use Rattle.text.specs.Numbers.{numberText};
 ghost use Rattle.text.specs.Lines.{Put, Gathered, errorLine, answerText, answerLine, wordLine, bufferLine};
 
 // Puts a text into a buffer from an offset on, and answers the offset after it.
-fn put(out: &mut [u8], at: usize, text: &[u8]) -> usize
+pub fn put(out: &mut [u8], at: usize, text: &[u8]) -> usize
     requires { ⌜ at + length (now text) ≤ length (now out) ⌝ }
     ensures { λ r. ⌜ Put (now (out .entry)) at (now (text .entry)) r (now (out .exit)) ⌝ }
 {
@@ -41,6 +41,20 @@ fn put_number(out: &mut [u8], at: usize, n: usize) -> usize
     let mut digits = [0u8; 20];
     let k = io::decimal(n as u64, &mut digits);
     put(out, at, &digits[..k])
+}
+
+// Puts a number of one digit or two.
+pub fn put_small(out: &mut [u8], at: usize, n: u8) -> usize
+    requires { ⌜ (n < 100) × (at + 2 ≤ length (now out)) ⌝ }
+    ensures { λ r. ⌜ Put (now (out .entry)) at (numberText n) r (now (out .exit)) ⌝ }
+{
+    if n < 10 {
+        out[at] = b'0' + n;
+        return at + 1;
+    }
+    out[at] = b'0' + n / 10;
+    out[at + 1] = b'0' + n % 10;
+    at + 2
 }
 
 fn digit(n: u8) -> u8

@@ -6,10 +6,10 @@ use mathlib.Core.Path.{sym}
 use native.Mathlib.Omega.{arith}
 use lib.ListN.{length, take}
 use lib.Seq.{length-take-le}
-use Rattle.text.specs.Lines.{errorLine, wordLine}
+use Rattle.text.specs.Lines.{refusedWord, errorLine, wordLine}
 use Rattle.text.proofs.Texts.{answer-line-length, word-line-length, buffer-line-length}
 use Rattle.forwarding.specs.Calls.{packetIn}
-use Rattle.requests.specs.Requests.{mostAnswer, setWord, deliveredWord, movedWord, droppedWord, refusedWord, answerOf, packetLine}
+use Rattle.requests.specs.Requests.{mostAnswer, setWord, deliveredWord, movedWord, droppedWord, answerOf, packetLine}
 use Rattle.requests.specs.Replies.{replyText, roomOf}
 use borrow.Author.Needs.{needs}
 use Rattle.requests.proofs.unchecked.replies.put_reply.Statement.{statement}

@@ -1,0 +1,84 @@
+-- A stream that is read has a sound topology, whose lines fit; a refused one has its line.
+-- Assumes nothing.
+use mathlib.Core.Path.{_≡_}
+use native.Mathlib.Omega.{arith}
+use borrow.Author.Tests.{eq-eqb, ne-eqb}
+use lib.Dec.{T}
+use Rattle.soundness.specs.Sound.{sound}
+use Rattle.soundness.proofs.Sound.{sound-exact}
+use Rattle.stream.specs.Theorems.{Bytes}
+use Rattle.stream.proofs.Returned.{reads-sound}
+use Rattle.order.proofs.Ranges.{mem-getD}
+use Rattle.text.specs.Lines.{refusedWord}
+use Rattle.text.proofs.Texts.{word-line-length}
+use Rattle.report.proofs.Tables.{all-length}
+use Rattle.listing.specs.Output.{printed, output}
+use borrow.Author.Needs.{needs}
+use Rattle.listing.proofs.put_output.Statement.{statement}
+use Rattle.listing.proofs.put_output.Tie as tie
+
+read-requires : tie.Need-read-requires
+read-requires c κs = search needs
+
+slice-aggregate-put-word-line : tie.Need-slice-aggregate-put-word-line
+slice-aggregate-put-word-line c = search needs
+
+put-word-line-requires : tie.Need-put-word-line-requires
+put-word-line-requires c κs = search needs
+
+same-length : tie.Need-same-length
+same-length c = search needs
+
+-- what was read
+module _ (c : tie.After-read) where
+  abbrev start : tie.Start
+  start = c .before .before .before
+
+  its-bytes : Bytes (start .args .stream .now)
+  its-bytes b m = let (i, h, e) = mem-getD 0 m in omega (arith, e, c .before .before .shared-slice-known .given i)
+
+  its-topology : c .read .result .answer .number ≡ 0 → T (sound (c .read .result .topology))
+  its-topology e = rw (c .read .ensures) (reads-sound _ its-bytes .is-sound (rw (← c .read .ensures) e))
+
+returns : tie.Need-returns
+unfolding output printed refusedWord
+returns c =
+    let r = c .before .before .before .before .before .before .before .before in
+    let line = word-line-length refusedWord (r .read .result .answer .number) (r .read .result .answer .at) in
+    let put = c .before .before .put-word-line .ensures in
+    (omega (arith, line, put .after), rw (← r .read .ensures, ne-eqb _ _ (c .before .before .before .before .before .if1 .taken)) put)
+
+of-requires : tie.Need-of-requires
+of-requires c κs = its-topology (c .before .before .before .before) (c .before .if1 .left)
+
+put-all-requires : tie.Need-put-all-requires
+put-all-requires c κs =
+    let r = c .before .before .before .before .before .before in
+    let good = its-topology r (c .before .before .before .if1 .left) in
+    (good, c .before .of .ensures, omega (arith, sound-exact _ .0 good .routers-most, start r .pre))
+
+same-length-2 : tie.Need-same-length-2
+same-length-2 c = search needs
+
+returns-2 : tie.Need-returns-2
+unfolding output printed
+returns-2 c =
+    let r = c .before .before .before .before .before .before .before .before .before in
+    let none = c .before .before .before .before .before .before .if1 .left in
+    let good = its-topology r none in
+    let put = c .before .before .put-all .ensures in
+    (omega (arith, put .after, all-length _ good, sound-exact _ .0 good .routers-most), rw (← r .read .ensures, eq-eqb _ _ none) put)
+
+pub put-output-spec : {M : Type 1} → statement M
+put-output-spec =
+    tie.close
+    (tie.spec
+    read-requires
+    slice-aggregate-put-word-line
+    put-word-line-requires
+    same-length
+    returns
+    of-requires
+    put-all-requires
+    same-length-2
+    returns-2)

@@ -1,0 +1,43 @@
+// The listing program (01, Two networks by hand): reads a topology stream on standard input, at most 65,536 bytes, and prints, in shortest-path mode, a
+// line for each destination and within it each router, by place: destination, router, rank, greatest hop count and row, `-` if it is empty. A refused
+// stream prints one line: `refused`, number, at. The rest of a longer input is not read.
+use libc::STDIN_FILENO;
+use libc::STDOUT_FILENO;
+use text::unchecked::lines;
+ghost use mathlib.Core.Path.{_≡_};
+ghost use Prim.Native.Nat.{_≤_};
+ghost use lib.ListN.{length};
+ghost use Rattle.text.specs.Lines.{Put};
+ghost use Rattle.listing.specs.Output.{output};
+
+// The bytes of the longest output: 3,840 for each of 64 destinations.
+const OUTPUT: usize = 245760;
+
+// An array that comes out of a function is known by what the function ensures.
+fn room() -> [u8; OUTPUT]
+    ensures { λ r. ⌜ 245760 ≡ length r ⌝ }
+{
+    [0; OUTPUT]
+}
+
+// The whole output for a stream, at the start of the slice; answers how many bytes it has.
+fn put_output(stream: &[u8], out: &mut [u8]) -> usize
+    requires { ⌜ 245760 ≤ length (now out) ⌝ }
+    ensures { λ r. ⌜ (r ≤ 245760) × Put (now (out .entry)) 0 (output (now (stream .entry))) r (now (out .exit)) ⌝ }
+{
+    let reading = topology::read(stream);
+    let answer = reading.answer;
+    if answer.number != 0 {
+        return lines::put_word_line(out, b"refused", answer.number, answer.at);
+    }
+    let t = reading.topology;
+    report::unchecked::put_all(t, arcs::unchecked::of(t), out)
+}
+
+fn main() {
+    let mut input = io::large_buffer();
+    let n = io::read_full(STDIN_FILENO, &mut input);
+    let mut out = room();
+    let end = put_output(&input[..n], &mut out);
+    io::write_all(STDOUT_FILENO, &out[..end]);
+}

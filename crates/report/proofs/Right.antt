@@ -1,0 +1,134 @@
+-- The order that is built is the one by the rule, and its table is accepted; so the rank that a row has is the router's turn, the figure is the greatest
+-- hop count, and the places are those of the row's entries.
+-- Assumes nothing.
+use Prim.Native.Nat.{ℕ, _≤_, _<_}
+use mathlib.Core.List.{List, [], _∷_, _++_, map, append-assoc}
+use mathlib.Core.Path.{_≡_, refl, sym, ap, _∙_}
+use native.Mathlib.Omega.{arith}
+use borrow.Author.Tests.{lt-ltb, le-ltb}
+use lib.Dec.{T}
+use lib.ListN.{length, getD}
+use Rattle.network.specs.Network.{Arc, size}
+use Rattle.network.specs.Distance.{distances}
+use Rattle.network.specs.Order.{shortest-path, build}
+use Rattle.network.specs.Row.{rank, row}
+use Rattle.network.proofs.Below.{getD-below}
+use Rattle.network.proofs.Build.{built-by-rule}
+use Rattle.network.proofs.Tests.{as-true, as-false}
+use Rattle.stations.specs.declared.Topology.{Topology}
+use Rattle.stations.specs.Outcome.{given, turnedAway}
+use Rattle.stations.specs.Topology.{networkOf}
+use Rattle.soundness.specs.Sound.{sound}
+use Rattle.soundness.proofs.Sound.{sound-networks}
+use Rattle.topology.specs.Written.{joinedOver}
+use Rattle.rows.specs.Bytes.{rowStart}
+use Rattle.table.specs.Listed.{rankIn, placesIn}
+use Rattle.table.proofs.Lists.{places-are}
+use Rattle.table.proofs.Ordered.{at-rank}
+use Rattle.forwarding.specs.Calls.{figure, figures}
+use Rattle.forwarding.proofs.Figures.{figures-exact}
+use Rattle.text.specs.Numbers.{numberText}
+use Rattle.text.proofs.Texts.{one-digit, two-digits}
+use Rattle.report.specs.declared.printing.Front.{Front}
+use Rattle.report.specs.Listing.{tableFor, lineFor, linesFor, listing}
+use Rattle.report.specs.Inner.{lineOf, frontText, rowText}
+use Rattle.report.specs.Theorems.{NumbersSpelled, lineWith, LineIs, ListsRight, ListingRefuses}
+use Rattle.report.proofs.Fields.{field, row-none, row-some, line-fields}
+use Rattle.report.proofs.Tables.{given as its-given, accepted, ranks, hop-counts}
+
+pub numbers-spelled : NumbersSpelled
+numbers-spelled n = record { one = one-digit n; two = two-digits n }
+
+-- the row's fields, entry by entry
+joined-entries : (entries : List Arc) → joinedOver field (map (λ a. a .to) entries) ≡ joinedOver (λ (b : Arc). 32 ∷ numberText (b .to)) entries
+unfolding joinedOver
+joined-entries [] = refl
+joined-entries (a ∷ rest) = ap (λ (l : List ℕ). field (a .to) ++ l) (joined-entries rest)
+
+-- a line by its fields
+spread : (f : Front) (row : List ℕ) → lineOf f row ≡ lineWith (f .destination) (f .router) (f .rank) (f .hops) (rowText row ++ (10 ∷ []))
+unfolding frontText
+spread f row = line-fields f row ∙ simp append-assoc
+
+module _ (t : Topology) (good : T (sound t)) (d : ℕ) (place : d < t .routers) where
+  abbrev order : List ℕ
+  order = build (networkOf t) d shortest-path
+
+  abbrev table : List ℕ
+  table = tableFor t d
+
+  module _ (u : ℕ) (h : u < t .routers) where
+    abbrev entries : List Arc
+    entries = row (networkOf t) (distances (networkOf t) d) (t .limit) order u
+
+    places : placesIn table u ≡ map (λ a. a .to) entries
+    places =
+        let s = sound-networks t good in
+        let g = its-given t good d place in
+        places-are (networkOf t) (s .well-formed) d (t .limit) (g .limit-most) order table (g .bytes) u (omega (arith, s .routers))
+
+    its-rank : rankIn table u ≡ rank order u
+    unfolding rankIn rowStart
+    its-rank = its-given t good d place .bytes .rows u (omega (arith, sound-networks t good .routers)) .rank-is
+
+    its-figure : getD (figures t table) u 0 ≡ figure t table u
+    unfolding figures
+    its-figure = getD-below (figure t table) (t .routers) u 0 h
+
+    fields : lineFor t d table u ≡ lineWith d u (rankIn table u) (figure t table u) (rowText (map (λ a. a .to) entries) ++ (10 ∷ []))
+    unfolding lineFor lineOf
+    fields = rw (← places) (spread (record { destination = d; router = u; rank = rankIn table u; hops = figure t table u }) (placesIn table u))
+
+    empty-row : entries ≡ [] → rowText (map (λ a. a .to) entries) ≡ 32 ∷ 45 ∷ []
+    empty-row e = rw e (row-none [] refl)
+
+    some-row : (a : Arc) (rest : List Arc) → entries ≡ a ∷ rest →
+        rowText (map (λ b. b .to) entries) ≡ joinedOver (λ (b : Arc). 32 ∷ numberText (b .to)) entries
+    some-row a rest e = rw e (row-some (map (λ b. b .to) (a ∷ rest)) (λ z. omega arith) ∙ joined-entries (a ∷ rest))
+
+    line-is : LineIs t d order table u (lineFor t d table u)
+    line-is =
+        let exact = figures-exact t good table (accepted t good d place) u h in
+        let (schedule, long, (w, walked, most)) = exact .reached in
+        record {
+          rank = rankIn table u;
+          rank-below = ranks t good d place u h;
+          turn =
+              rw its-rank
+              (at-rank order (its-given t good d place .in-free .once) u
+              (its-given t good d place .in-free .all u (sound-networks t good .paths d u place h)));
+          hops = figure t table u;
+          hops-below = hop-counts t good d place u h;
+          never-passed = λ s v e. rw its-figure at (exact .never-passed s v e);
+          reached = (schedule, w, walked, rw its-figure at most);
+          entries = entries;
+          row-is = refl;
+          if-empty = λ e. rw (empty-row e) at fields;
+          if-not = λ a rest e. rw (some-row a rest e) at fields;
+        }
+
+pub lists-right : ListsRight
+unfolding listing given turnedAway linesFor
+lists-right t good d place buffer =
+    let s = sound-networks t good in
+    record {
+      order = order t good d place;
+      by-rule = built-by-rule (networkOf t) (s .well-formed) d (omega (arith, s .routers)) shortest-path .0;
+      table = tableFor t d;
+      given = its-given t good d place;
+      accepted = accepted t good d place;
+      line = lineFor t d (tableFor t d);
+      lines = line-is t good d place;
+      text = linesFor t d;
+      text-is = refl;
+      success = λ h. rw (as-true (sound t) good, lt-ltb d (t .routers) place, le-ltb (length buffer) (length (linesFor t d)) h);
+      no-room = λ h. rw (as-true (sound t) good, lt-ltb d (t .routers) place, lt-ltb (length buffer) (length (linesFor t d)) h);
+    }
+
+pub listing-refuses : ListingRefuses
+unfolding listing turnedAway
+listing-refuses t d buffer =
+    record {
+      not-sound = λ out. rw (as-false (sound t) out);
+      no-place = λ good past. rw (as-true (sound t) good, le-ltb d (t .routers) past);
+    }

@@ -1,0 +1,140 @@
+-- The table of a destination is accepted, since the order that is built is; so its ranks and hop counts are below N, and its entries are places.
+-- Assumes nothing.
+use Prim.Native.Nat.{ℕ, _+_, _*_, _≤_, _<_}
+use mathlib.Core.List.{List, [], _∷_, _++_, List·Memᴰ, List·Memᴰ·head, List·Memᴰ·tail}
+use mathlib.Core.Path.{_≡_, refl, ap₂, _∙_}
+use native.Mathlib.Omega.{arith}
+use lib.Dec.{T}
+use lib.ListN.{length, getD, length-append, List·getD-append}
+use Rattle.network.specs.Lists.{below}
+use Rattle.network.specs.Order.{shortest-path, build}
+use Rattle.network.proofs.Below.{length-below, below-lt, getD-below, length-map-below}
+use Rattle.stations.specs.declared.Topology.{Topology}
+use Rattle.stations.specs.Topology.{networkOf}
+use Rattle.soundness.specs.Sound.{sound}
+use Rattle.soundness.proofs.Sound.{sound-exact}
+use Rattle.topology.specs.Written.{joinedOver}
+use Rattle.order.specs.declared.Mode.the-variants as mode
+use Rattle.order.specs.Calls.{modeOf}
+use Rattle.order.proofs.Ranges.{getD-mem}
+use Rattle.rows.specs.Bytes.{rowStart}
+use Rattle.table.specs.Listed.{rankIn, placesIn}
+use Rattle.table.specs.Calls.{tableChecking}
+use Rattle.table.specs.Theorems.{GivenBy}
+use Rattle.table.proofs.Bytes.{bytes-exact}
+use Rattle.table.proofs.Calling.{built-free}
+use Rattle.table.proofs.Verdicts.{table-long, tables-exact}
+use Rattle.forwarding.specs.Calls.{figure, figures}
+use Rattle.forwarding.proofs.Listed.{Over, over}
+use Rattle.forwarding.proofs.Bounds.{row-of}
+use Rattle.forwarding.proofs.Figures.{figures-exact}
+use Rattle.forwarding.proofs.Places.{whole-fits, places-long}
+use Rattle.report.specs.Listing.{tableFor, lineFor, linesFor, allLines}
+use Rattle.report.specs.Inner.{mostLine, mostLines, Row, Listable, lineOf, lineIn, tableText}
+use Rattle.report.proofs.InTurn.{joined-most}
+use Rattle.report.proofs.Fields.{line-length}
+
+joined-same : {A : Type 0} (f g : A → List ℕ) (xs : List A) → ((x : A) → List·Memᴰ x xs → f x ≡ g x) → joinedOver f xs ≡ joinedOver g xs
+unfolding joinedOver
+joined-same f g [] each = refl
+joined-same f g (x ∷ xs) each =
+    ap₂ (λ (l r : List ℕ). l ++ r) (each x (List·Memᴰ·head refl)) (joined-same f g xs (λ y m. each y (List·Memᴰ·tail m)))
+
+module _ (t : Topology) (good : T (sound t)) (d : ℕ) (place : d < t .routers) where
+  abbrev table : List ℕ
+  table = tableFor t d
+
+  pub given : GivenBy t table d (t .limit) (build (networkOf t) d shortest-path)
+  unfolding tableFor modeOf
+  given =
+      let w = sound-exact t .0 good in
+      record {
+        place = place;
+        limit-least = w .limit-least;
+        limit-most = w .limit-most;
+        in-free = built-free t good d place mode.ShortestPath;
+        bytes = bytes-exact (networkOf t) d (t .limit) (w .limit-most) _ _ .0 refl;
+      }
+
+  pub accepted : tableChecking t table ≡ record { number = 0; at = 0 }
+  accepted = tables-exact t good table .1 (d, t .limit, _, given)
+
+  pub long : length table ≡ 4 + 19 * t .routers
+  long = table-long t good (given .bytes)
+
+  abbrev opened : Over t table
+  opened = over t good table accepted
+
+  few-routers : t .routers ≤ 64
+  few-routers = sound-exact t .0 good .routers-most
+
+  entries : (u : ℕ) → u < t .routers → Row (placesIn table u)
+  unfolding rowStart
+  entries u h =
+      let r = row-of t good table opened u h in
+      record {
+        few = omega (arith, places-long (whole-fits r), r .few);
+        small = λ i k. omega (arith, r .places _ (getD-mem (placesIn table u) i 0 k));
+      }
+
+  pub ranks : (u : ℕ) → u < t .routers → rankIn table u < t .routers
+  unfolding rankIn rowStart
+  ranks u h = omega (arith, opened .rank-is u h, opened .rank-below u h)
+
+  pub hop-counts : (u : ℕ) → u < t .routers → figure t table u < t .routers
+  unfolding rankIn rowStart figures
+  hop-counts u h =
+      omega (arith, getD-below (figure t table) (t .routers) u 0 h, figures-exact t good table accepted u h .at-most-rank, ranks u h)
+
+  pub lines-length : length (linesFor t d) ≤ mostLines
+  unfolding linesFor lineFor lineOf
+  lines-length =
+      let few = joined-most (lineFor t d table) mostLine (below (t .routers))
+      (λ u m.
+      let h = below-lt _ m in
+      line-length (record { destination = d; router = u; rank = rankIn table u; hops = figure t table u }) (placesIn table u)
+      record {
+        destination = omega (arith, few-routers, place);
+        router = omega (arith, few-routers, h);
+        rank = omega (arith, few-routers, ranks u h);
+        hops = omega (arith, few-routers, hop-counts u h);
+      }
+      (entries u h)) in
+      omega (arith, few, length-below (t .routers), few-routers)
+
+  -- the hop counts at the front of a buffer
+  module _ (hops rest : List ℕ) (is : hops ≡ figures t table ++ rest) where
+    counted : length (figures t table) ≡ t .routers
+    unfolding figures
+    counted = length-map-below (figure t table) (t .routers)
+
+    at-place : (u : ℕ) → u < t .routers → getD hops u 0 ≡ figure t table u
+    unfolding figures
+    at-place u h = rw is (List·getD-append (figures t table) rest 0 u (omega (arith, counted))) ∙ getD-below (figure t table) (t .routers) u 0 h
+
+    pub listable : Listable table hops (t .routers) d
+    unfolding rankIn rowStart
+    listable =
+        record {
+          destination = place;
+          routers = few-routers;
+          long = long;
+          counted = rw is (omega (arith, length-append (figures t table) rest, counted));
+          rank = λ u h. omega (arith, ranks u h, few-routers);
+          hop-count = λ u h. omega (arith, at-place u h, hop-counts u h, few-routers);
+          entries = λ u h. row-of t good table opened u h .few;
+          row = entries;
+        }
+
+    pub lines : tableText table hops d (t .routers) ≡ linesFor t d
+    unfolding tableText linesFor lineIn lineFor
+    lines = joined-same _ _ (below (t .routers)) (λ u m. rw (at-place u (below-lt _ m)))
+
+pub all-length : (t : Topology) → T (sound t) → length (allLines t) ≤ mostLines * t .routers
+unfolding allLines
+all-length t good =
+    omega (
+      arith,
+      joined-most (linesFor t) mostLines (below (t .routers)) (λ d m. lines-length t good d (below-lt _ m)),
+      length-below (t .routers),
+    )

@@ -1,0 +1,61 @@
+-- Each field is put behind the one before.
+-- Assumes nothing.
+use native.Mathlib.Omega.{arith}
+use borrow.Author.Needs.{needs}
+use Rattle.text.proofs.Stores.{behind}
+use Rattle.text.proofs.Texts.{small-length}
+use Rattle.report.specs.Inner.{frontText}
+use Rattle.report.proofs.InTurn.{ended}
+use Rattle.report.proofs.Fields.{field-length}
+use Rattle.report.proofs.printing.put_front.Statement.{statement}
+use Rattle.report.proofs.printing.put_front.Tie as tie
+
+put-small-requires : tie.Need-put-small-requires
+put-small-requires c κs = search needs
+
+put-field-requires : tie.Need-put-field-requires
+put-field-requires c κs =
+    let small = c .before .before .before .before .before .before .pre .0 in
+    (small .router, omega (arith, ended (c .before .before .before .put-small .ensures) (small-length _ (small .destination))))
+
+put-field-requires-2 : tie.Need-put-field-requires-2
+put-field-requires-2 c κs =
+    let one = c .before .before .before .before in
+    let small = one .before .before .before .before .before .before .pre .0 in (
+      small .rank,
+      omega (
+        arith,
+        ended (one .before .before .before .put-small .ensures) (small-length _ (small .destination)),
+        ended (c .before .before .before .put-field .ensures) (field-length _ (small .router)),
+      ),
+    )
+
+put-field-requires-3 : tie.Need-put-field-requires-3
+put-field-requires-3 c κs =
+    let two = c .before .before .before .before in
+    let one = two .before .before .before .before in
+    let small = one .before .before .before .before .before .before .pre .0 in (
+      small .hops,
+      omega (
+        arith,
+        ended (one .before .before .before .put-small .ensures) (small-length _ (small .destination)),
+        ended (two .before .before .before .put-field .ensures) (field-length _ (small .router)),
+        ended (c .before .before .before .put-field2 .ensures) (field-length _ (small .rank)),
+      ),
+    )
+
+same-length : tie.Need-same-length
+same-length c = search needs
+
+returns : tie.Need-returns
+unfolding frontText
+returns c =
+    let three = c .before .before .before in
+    let two = three .before .before .before .before in
+    let one = two .before .before .before .before in
+    behind (one .before .before .before .put-small .ensures)
+    (behind (two .before .before .before .put-field .ensures)
+    (behind (three .before .before .before .put-field2 .ensures) (c .before .before .put-field3 .ensures)))
+
+pub put-front-spec : {M : Type 1} → statement M
+put-front-spec = tie.close (tie.spec put-small-requires put-field-requires put-field-requires-2 put-field-requires-3 same-length returns)

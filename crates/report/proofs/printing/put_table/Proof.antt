@@ -1,0 +1,179 @@
+-- The loop's invariant: the lines of the places passed were put.
+-- Assumes nothing.
+use Prim.Native.Nat.{_+_, _*_, _-_, _≤_, _<_}
+use mathlib.Core.Path.{_≡_}
+use native.Mathlib.Omega.{arith}
+use lib.ListN.{length, getD, take, drop}
+use Rattle.network.specs.Lists.{numbersFrom, below}
+use Rattle.arcs.proofs.Slots.{below-more}
+use Rattle.rows.specs.Bytes.{rowStart}
+use Rattle.table.specs.Listed.{rankIn, placesIn}
+use Rattle.report.specs.declared.printing.Front.{Front}
+use Rattle.report.specs.Inner.{mostLine, lineOf, lineIn, tableText, Small}
+use Rattle.report.proofs.InTurn.{SoFar, none, more}
+use Rattle.report.proofs.Fields.{line-length}
+use Rattle.report.proofs.printing.put_table.Statement.{statement}
+use Rattle.report.proofs.printing.put_table.Tie as tie
+
+abbrev Inv-loop : tie.InvT-loop
+Inv-loop out₀ at table hops n destination end₀ u₀ out end u =
+    (u ≤ n) × SoFar (lineIn table hops destination) mostLine out₀ at (below u) u end out
+
+abbrev μ-loop : tie.MeasureT-loop
+μ-loop out₀ at table hops n destination end₀ u₀ out end u = n - u
+
+loop-holds : tie.Need-loop-holds Inv-loop μ-loop
+unfolding below numbersFrom
+loop-holds c = (omega arith, none (lineIn _ _ _) mostLine)
+
+-- the row of a turn stands in the table
+module _ (c : tie.In-loop Inv-loop μ-loop) where
+  abbrev args : tie.Start Inv-loop μ-loop
+  args = c .before .before .before .before .before
+
+  in-table : (c .before .loop .u < args .args .n) × (args .args .n ≤ 64) × (4 + 19 * c .before .loop .u + 19 ≤ length (args .args .table .now))
+      × (getD (args .args .table .now) (4 + 19 * c .before .loop .u + 2) 0 ≤ 16)
+  unfolding rowStart
+  in-table =
+      let h = c .loop-test .taken in
+      let l = args .pre .0 in
+      (h, l .routers, omega (arith, l .long), l .entries (c .before .loop .u) h)
+
+  -- its line's fields, and its entries
+  front : Front
+  front = record {
+    destination = args .args .destination;
+    router = c .before .loop .u;
+    rank = rankIn (args .args .table .now) (c .before .loop .u);
+    hops = getD (args .args .hops .now) (c .before .loop .u) 0;
+  }
+
+  small : Small front
+  unfolding front
+  small =
+      let l = args .pre .0 in
+      let h = c .loop-test .taken in
+      record {
+        destination = omega (arith, l .destination, l .routers);
+        router = omega (arith, h, l .routers);
+        rank = l .rank _ h;
+        hops = l .hop-count _ h;
+      }
+
+  entries : let first = 4 + 19 * c .before .loop .u + 3 in
+      take (first + getD (args .args .table .now) (4 + 19 * c .before .loop .u + 2) 0 - first) (drop first (args .args .table .now))
+      ≡ placesIn (args .args .table .now) (c .before .loop .u)
+  unfolding placesIn rowStart
+  entries =
+      let first = 4 + 19 * c .before .loop .u + 3 in
+      let count = getD (args .args .table .now) (4 + 19 * c .before .loop .u + 2) 0 in
+      let many : first + count - first ≡ count = omega arith in
+      rw many
+
+mul-start : tie.Need-mul-start Inv-loop μ-loop
+mul-start c = omega (arith, in-table c)
+
+add-start : tie.Need-add-start Inv-loop μ-loop
+add-start c = omega (arith, in-table c)
+
+add-first : tie.Need-add-first Inv-loop μ-loop
+add-first c = omega (arith, in-table c)
+
+add-last : tie.Need-add-last Inv-loop μ-loop
+add-last c = omega (arith, in-table c)
+
+shared-slice-read-last : tie.Need-shared-slice-read-last Inv-loop μ-loop
+shared-slice-read-last c = omega (arith, in-table (c .before))
+
+cast-last : tie.Need-cast-last Inv-loop μ-loop
+cast-last c = omega (arith, in-table (c .before))
+
+add-last-2 : tie.Need-add-last-2 Inv-loop μ-loop
+add-last-2 c = omega (arith, in-table (c .before))
+
+cast-t16 : tie.Need-cast-t16 Inv-loop μ-loop
+cast-t16 c = omega (arith, in-table (c .before))
+
+add-t14 : tie.Need-add-t14 Inv-loop μ-loop
+add-t14 c = omega (arith, in-table (c .before))
+
+shared-slice-read-t19 : tie.Need-shared-slice-read-t19 Inv-loop μ-loop
+shared-slice-read-t19 c = omega (arith, in-table (c .before .before))
+
+shared-slice-read-t21 : tie.Need-shared-slice-read-t21 Inv-loop μ-loop
+shared-slice-read-t21 c = omega (arith, in-table (c .before .before .before), c .before .before .before .before .before .before .before .before .pre .0 .counted)
+
+sub-put-line : tie.Need-sub-put-line Inv-loop μ-loop
+sub-put-line c = omega (arith, in-table (c .before .before .before .before))
+
+part-put-line-start : tie.Need-part-put-line-start Inv-loop μ-loop
+part-put-line-start c = omega (arith, in-table (c .before .before .before .before))
+
+part-put-line-end : tie.Need-part-put-line-end Inv-loop μ-loop
+part-put-line-end c = omega (arith, in-table (c .before .before .before .before))
+
+put-line-requires : tie.Need-put-line-requires Inv-loop μ-loop
+unfolding front rankIn rowStart
+put-line-requires c κs =
+    let turn = c .before .before .before .before .before in
+    let at = turn .before .loop .inv .1 in
+    let pre = args turn .pre in (
+      small turn,
+      rw (entries turn) (pre .0 .row _ (turn .loop-test .taken)),
+      omega (arith, at .ends, at .long, pre .1, turn .loop-test .taken),
+    )
+
+add-u : tie.Need-add-u Inv-loop μ-loop
+add-u c = omega (arith, in-table (c .before .before .before .before .before .before .before .before))
+
+loop-less : tie.Need-loop-less Inv-loop μ-loop
+loop-less c = omega (arith, in-table (c .before .before .before .before .before .before .before .before))
+
+loop-again : tie.Need-loop-again Inv-loop μ-loop
+unfolding front rankIn rowStart lineIn lineOf
+loop-again c =
+    let turn = c .before .before .before .before .before .before .before .before in
+    let u = turn .before .loop .u in
+    let start = args turn in
+    let few = line-length (front turn) (placesIn (start .args .table .now) u) (small turn) (start .pre .0 .row u (turn .loop-test .taken)) in (
+      omega (arith, in-table turn),
+      more (lineIn (start .args .table .now) (start .args .hops .now) (start .args .destination)) mostLine (turn .before .loop .inv .1) u few
+          (rw (entries turn) at (c .before .before .put-line .ensures)) (below-more u),
+    )
+
+same-length : tie.Need-same-length Inv-loop μ-loop
+same-length c = c .before .loop .inv .1 .long
+
+returns : tie.Need-returns Inv-loop μ-loop
+unfolding tableText
+returns c =
+    let all : c .before .loop .u ≡ c .before .before .before .before .before .args .n = omega (arith, c .loop-test .left, c .before .loop .inv .0) in
+    rw (← all) (c .before .loop .inv .1 .put)
+
+pub put-table-spec : {M : Type 1} → statement M
+put-table-spec =
+    tie.close
+    (tie.spec
+    Inv-loop
+    μ-loop
+    loop-holds
+    mul-start
+    add-start
+    add-first
+    add-last
+    shared-slice-read-last
+    cast-last
+    add-last-2
+    cast-t16
+    add-t14
+    shared-slice-read-t19
+    shared-slice-read-t21
+    sub-put-line
+    part-put-line-start
+    part-put-line-end
+    put-line-requires
+    add-u
+    loop-less
+    loop-again
+    same-length
+    returns)

@@ -1,0 +1,92 @@
+-- Listings by hand, and what is refused, as a list: the call and what it answers. A new fact is one line. Texts are given byte by byte: 48 is `0`, 32
+-- the space, 45 `-` and 10 the line's end.
+-- Assumes nothing.
+use Prim.Native.Nat.{ℕ}
+use mathlib.Core.Bool.{Bool, _&&_}
+use mathlib.Core.List.{List, [], _∷_, _++_}
+use lib.Dec.{T}
+use lib.ListN.{replicate}
+use Rattle.network.specs.Lists.{every, sameNumbers}
+use Rattle.stations.specs.declared.Topology.{Topology}
+use Rattle.stations.specs.Topology.{zeros}
+use Rattle.order.specs.Table.{answers, T-topology}
+use Rattle.table.specs.Facts.{lone, F-topology}
+use Rattle.report.specs.Listing.{listing, allLines}
+
+pub data Fact : Type 0 where
+  -- listing a destination into a buffer answers a number, at, and leaves these bytes
+  lists : Topology → ℕ → List ℕ → ℕ → ℕ → List ℕ → Fact
+  -- the lines of all destinations
+  all : Topology → List ℕ → Fact
+
+unfoldable pub holds : Fact → Bool
+holds (lists t d buffer number at bytes) = answers (listing t d buffer .answer) number at && sameNumbers (listing t d buffer .buffer) bytes
+holds (all t text) = sameNumbers (allLines t) text
+
+-- 01, Two networks by hand: T's lines for destination 0
+unfoldable pub T-0 : List ℕ
+T-0 =
+    48 ∷ 32 ∷ 48 ∷ 32 ∷ 48 ∷ 32 ∷ 48 ∷ 32 ∷ 45 ∷ 10
+    ∷ 48 ∷ 32 ∷ 49 ∷ 32 ∷ 49 ∷ 32 ∷ 49 ∷ 32 ∷ 48 ∷ 10
+    ∷ 48 ∷ 32 ∷ 50 ∷ 32 ∷ 50 ∷ 32 ∷ 50 ∷ 32 ∷ 49 ∷ 32 ∷ 48 ∷ 10 ∷ []
+
+-- 01, Two networks by hand: T's lines for destination 1
+unfoldable pub T-1 : List ℕ
+T-1 =
+    49 ∷ 32 ∷ 48 ∷ 32 ∷ 50 ∷ 32 ∷ 50 ∷ 32 ∷ 49 ∷ 32 ∷ 50 ∷ 10
+    ∷ 49 ∷ 32 ∷ 49 ∷ 32 ∷ 48 ∷ 32 ∷ 48 ∷ 32 ∷ 45 ∷ 10
+    ∷ 49 ∷ 32 ∷ 50 ∷ 32 ∷ 49 ∷ 32 ∷ 49 ∷ 32 ∷ 49 ∷ 10 ∷ []
+
+-- 01, Two networks by hand: T's lines for destination 2
+unfoldable pub T-2 : List ℕ
+T-2 =
+    50 ∷ 32 ∷ 48 ∷ 32 ∷ 50 ∷ 32 ∷ 50 ∷ 32 ∷ 49 ∷ 32 ∷ 50 ∷ 10
+    ∷ 50 ∷ 32 ∷ 49 ∷ 32 ∷ 49 ∷ 32 ∷ 49 ∷ 32 ∷ 50 ∷ 10
+    ∷ 50 ∷ 32 ∷ 50 ∷ 32 ∷ 48 ∷ 32 ∷ 48 ∷ 32 ∷ 45 ∷ 10 ∷ []
+
+-- 01, Two networks by hand: F's lines for destination 0, by its order, rows and greatest hops
+unfoldable pub F-0 : List ℕ
+F-0 =
+    48 ∷ 32 ∷ 48 ∷ 32 ∷ 48 ∷ 32 ∷ 48 ∷ 32 ∷ 45 ∷ 10
+    ∷ 48 ∷ 32 ∷ 49 ∷ 32 ∷ 50 ∷ 32 ∷ 50 ∷ 32 ∷ 48 ∷ 32 ∷ 50 ∷ 10
+    ∷ 48 ∷ 32 ∷ 50 ∷ 32 ∷ 49 ∷ 32 ∷ 49 ∷ 32 ∷ 48 ∷ 10
+    ∷ 48 ∷ 32 ∷ 51 ∷ 32 ∷ 52 ∷ 32 ∷ 51 ∷ 32 ∷ 49 ∷ 32 ∷ 52 ∷ 10
+    ∷ 48 ∷ 32 ∷ 52 ∷ 32 ∷ 51 ∷ 32 ∷ 50 ∷ 32 ∷ 50 ∷ 10
+    ∷ 48 ∷ 32 ∷ 53 ∷ 32 ∷ 53 ∷ 32 ∷ 52 ∷ 32 ∷ 52 ∷ 32 ∷ 51 ∷ 10 ∷ []
+
+-- the same with K = 1
+unfoldable pub F-0-limited : List ℕ
+F-0-limited =
+    48 ∷ 32 ∷ 48 ∷ 32 ∷ 48 ∷ 32 ∷ 48 ∷ 32 ∷ 45 ∷ 10
+    ∷ 48 ∷ 32 ∷ 49 ∷ 32 ∷ 50 ∷ 32 ∷ 49 ∷ 32 ∷ 48 ∷ 10
+    ∷ 48 ∷ 32 ∷ 50 ∷ 32 ∷ 49 ∷ 32 ∷ 49 ∷ 32 ∷ 48 ∷ 10
+    ∷ 48 ∷ 32 ∷ 51 ∷ 32 ∷ 52 ∷ 32 ∷ 50 ∷ 32 ∷ 49 ∷ 10
+    ∷ 48 ∷ 32 ∷ 52 ∷ 32 ∷ 51 ∷ 32 ∷ 50 ∷ 32 ∷ 50 ∷ 10
+    ∷ 48 ∷ 32 ∷ 53 ∷ 32 ∷ 53 ∷ 32 ∷ 51 ∷ 32 ∷ 52 ∷ 10 ∷ []
+
+-- one router alone
+unfoldable pub lone-0 : List ℕ
+lone-0 = 48 ∷ 32 ∷ 48 ∷ 32 ∷ 48 ∷ 32 ∷ 48 ∷ 32 ∷ 45 ∷ 10 ∷ []
+
+unfoldable pub room : ℕ → List ℕ
+room n = replicate n 170
+
+-- T's whole output, F's lines for destination 0, one router alone; then 14, 15 and 24, each beside what is tested later, and a buffer with a byte to spare
+unfoldable pub facts : List Fact
+facts =
+    all T-topology (T-0 ++ (T-1 ++ T-2))
+    ∷ all lone lone-0
+    ∷ lists T-topology 0 (room 32) 0 32 T-0
+    ∷ lists T-topology 1 (room 33) 0 32 (T-1 ++ (170 ∷ []))
+    ∷ lists (F-topology 16) 0 (room 66) 0 66 F-0
+    ∷ lists (F-topology 1) 0 (room 60) 0 60 F-0-limited
+    ∷ lists zeros 0 (room 3) 14 0 (room 3)
+    ∷ lists zeros 5 [] 14 0 []
+    ∷ lists T-topology 3 (room 99) 15 3 (room 99)
+    ∷ lists T-topology 255 [] 15 255 []
+    ∷ lists T-topology 0 (room 31) 24 32 (room 31)
+    ∷ lists T-topology 0 [] 24 32 []
+    ∷ []
+
+abbrev pub FactsHold : Type 0
+FactsHold = T (every holds facts)

@@ -1,0 +1,82 @@
+-- What is proved of the listing: what stands in each field of each line, in the terms of 01, for every sound topology, destination and buffer; and what
+-- is refused.
+-- Assumes nothing.
+use Prim.Native.Nat.{ℕ, _+_, _/_, _%_, _≤_, _<_}
+use mathlib.Core.List.{List, [], _∷_, _++_}
+use mathlib.Core.Path.{_≡_}
+use lib.Dec.{T}
+use lib.ListN.{length, getD, drop}
+use Rattle.network.specs.Lists.{below}
+use Rattle.network.specs.Network.{Arc}
+use Rattle.network.specs.Distance.{distances}
+use Rattle.network.specs.Order.{shortest-path}
+use Rattle.network.specs.Row.{row}
+use Rattle.network.specs.Forwarding.{Walk, packetOf}
+use Rattle.network.specs.Theorems.Order.{ByRule}
+use Rattle.stations.specs.declared.Topology.{Topology}
+use Rattle.stations.specs.Topology.{networkOf}
+use Rattle.soundness.specs.Sound.{sound}
+use Rattle.topology.specs.Written.{joinedOver}
+use Rattle.table.specs.Calls.{tableChecking}
+use Rattle.table.specs.Theorems.{GivenBy}
+use Rattle.forwarding.specs.Calls.{done, walking}
+use Rattle.text.specs.Numbers.{numberText}
+use Rattle.report.specs.Listing.{listing}
+
+-- a number of one digit or two, in decimal; every number of a listing is below 64
+pub record Spelled (n : ℕ) : Type 0 where
+  pub one : n < 10 → numberText n ≡ (48 + n) ∷ []
+  pub two : 10 ≤ n → n < 100 → numberText n ≡ (48 + n / 10) ∷ (48 + n % 10) ∷ []
+
+abbrev pub NumbersSpelled : Type 0
+NumbersSpelled = (n : ℕ) → Spelled n
+
+-- 01, Two networks by hand: destination, router, rank, greatest hop count, and the row behind them; 32 is the space
+abbrev pub lineWith : ℕ → ℕ → ℕ → ℕ → List ℕ → List ℕ
+lineWith d u rank hops rest =
+    numberText d ++ (32 ∷ (numberText u ++ (32 ∷ (numberText rank ++ (32 ∷ (numberText hops ++ rest))))))
+
+-- 01, Two networks by hand: the line of router u for destination d, under an order and by a table. Its fields: the rank, u's turn in the order from 0;
+-- the greatest hop count, the most hops made that a walk from u answers over all schedules, which some schedule reaches; the row, the places of its
+-- entries, at most K, with one space before each; `-`, 45, if it is empty. A newline, 10, ends it.
+pub record LineIs (t : Topology) (d : ℕ) (order table : List ℕ) (u : ℕ) (line : List ℕ) : Type 0 where
+  pub rank : ℕ
+  pub rank-below : rank < t .routers
+  pub turn : getD order rank 0 ≡ u
+  pub hops : ℕ
+  pub hops-below : hops < t .routers
+  pub never-passed : (schedule : List ℕ) (w : Walk ℕ) → walking t table u schedule ≡ done w → packetOf w .hops ≤ hops
+  pub reached : (schedule : List ℕ) × (w : Walk ℕ) × (walking t table u schedule ≡ done w) × (packetOf w .hops ≡ hops)
+  pub entries : List Arc
+  pub row-is : entries ≡ row (networkOf t) (distances (networkOf t) d) (t .limit) order u
+  pub if-empty : entries ≡ [] → line ≡ lineWith d u rank hops (32 ∷ 45 ∷ 10 ∷ [])
+  pub if-not : (a : Arc) (rest : List Arc) → entries ≡ a ∷ rest →
+      line ≡ lineWith d u rank hops (joinedOver (λ b. 32 ∷ numberText (b .to)) entries ++ (10 ∷ []))
+
+-- The lines of a destination: each router's, by place, under the order by 01's rule in shortest-path mode and by the table that it and the topology's
+-- K give. They are written where there is room, the rest of the buffer staying, and refused with 24 at their length where there is not.
+pub record Lists (t : Topology) (d : ℕ) (buffer : List ℕ) : Type 0 where
+  pub order : List ℕ
+  pub by-rule : ByRule (networkOf t) d shortest-path order
+  pub table : List ℕ
+  pub given : GivenBy t table d (t .limit) order
+  pub accepted : tableChecking t table ≡ record { number = 0; at = 0 }
+  pub line : ℕ → List ℕ
+  pub lines : (u : ℕ) → u < t .routers → LineIs t d order table u (line u)
+  pub text : List ℕ
+  pub text-is : text ≡ joinedOver line (below (t .routers))
+  pub success : length text ≤ length buffer →
+      listing t d buffer ≡ record { answer = record { number = 0; at = length text }; buffer = text ++ drop (length text) buffer }
+  pub no-room : length buffer < length text →
+      listing t d buffer ≡ record { answer = record { number = 24; at = length text }; buffer = buffer }
+
+abbrev pub ListsRight : Type 0
+ListsRight = (t : Topology) → T (sound t) → (d : ℕ) → d < t .routers → (buffer : List ℕ) → Lists t d buffer
+
+-- 01, Refusals, 14 and 15: each with the buffer as it was; all else is `ListsRight`.
+pub record Refuses (t : Topology) (d : ℕ) (buffer : List ℕ) : Type 0 where
+  pub not-sound : (T (sound t) → ⊥) → listing t d buffer ≡ record { answer = record { number = 14; at = 0 }; buffer = buffer }
+  pub no-place : T (sound t) → t .routers ≤ d → listing t d buffer ≡ record { answer = record { number = 15; at = d }; buffer = buffer }
+
+abbrev pub ListingRefuses : Type 0
+ListingRefuses = (t : Topology) (d : ℕ) (buffer : List ℕ) → Refuses t d buffer

@@ -1,0 +1,127 @@
+// Putting lines into a lent buffer: each number is put behind the one before, which answers where it ends.
+use rows::ENTRIES;
+use rows::FRONT;
+use rows::HEADER;
+use rows::ROW;
+use rows::TABLE;
+use stations::ROUTERS;
+use text::unchecked::lines;
+ghost use mathlib.Core.List.{_∷_};
+ghost use mathlib.Core.Path.{_≡_};
+ghost use Prim.Native.Nat.{_+_, _*_, _≤_, _<_};
+ghost use lib.ListN.{length};
+ghost use Rattle.stations.specs.Limits.{mostRouters};
+ghost use Rattle.text.specs.Fields.{space};
+ghost use Rattle.text.specs.Lines.{Put};
+ghost use Rattle.text.specs.Numbers.{numberText};
+ghost use Rattle.report.specs.Inner.{mostLine, mostLines, rowText, frontText, lineOf, Row, Small, Listable, tableText};
+
+// The most bytes of a line, and of the lines of a destination.
+const LINE: usize = 12 + 3 * ENTRIES;
+
+pub(crate) const LINES: usize = LINE * ROUTERS;
+
+// Arrays come out of functions, so that a proof that lends one knows it by what the function ensures and not by all its elements.
+pub(crate) fn room_for_lines() -> [u8; LINES]
+    ensures { λ r. ⌜ mostLines ≡ length r ⌝ }
+{
+    [0; LINES]
+}
+
+pub(crate) fn room_for_table() -> [u8; TABLE]
+    ensures { λ r. ⌜ 1220 ≡ length r ⌝ }
+{
+    [0; TABLE]
+}
+
+pub(crate) fn room_for_hops() -> [u8; ROUTERS]
+    ensures { λ r. ⌜ mostRouters ≡ length r ⌝ }
+{
+    [0; ROUTERS]
+}
+
+// The fields of a line before its row.
+pub(crate) struct Front {
+    pub destination: u8,
+    pub router: u8,
+    pub rank: u8,
+    pub hops: u8,
+}
+
+// A space and a number.
+fn put_field(out: &mut [u8], at: usize, n: u8) -> usize
+    requires { ⌜ (n < 100) × (at + 3 ≤ length (now out)) ⌝ }
+    ensures { λ r. ⌜ Put (now (out .entry)) at (space ∷ numberText n) r (now (out .exit)) ⌝ }
+{
+    out[at] = b' ';
+    lines::put_small(out, at + 1, n)
+}
+
+// The row, a space before each field.
+fn put_row(out: &mut [u8], at: usize, row: &[u8]) -> usize
+    requires { ⌜ Row (now row) × (at + 48 ≤ length (now out)) ⌝ }
+    ensures { λ r. ⌜ Put (now (out .entry)) at (rowText (now (row .entry))) r (now (out .exit)) ⌝ }
+{
+    if row.len() == 0 {
+        return lines::put(out, at, b" -");
+    }
+    let mut end = at;
+    let mut i: usize = 0;
+    while i < row.len() {
+        end = put_field(out, end, row[i]);
+        i += 1;
+    }
+    end
+}
+
+// The fields of a line before its row.
+fn put_front(out: &mut [u8], at: usize, front: Front) -> usize
+    requires { ⌜ Small front × (at + 11 ≤ length (now out)) ⌝ }
+    ensures { λ r. ⌜ Put (now (out .entry)) at (frontText front) r (now (out .exit)) ⌝ }
+{
+    let first = lines::put_small(out, at, front.destination);
+    let second = put_field(out, first, front.router);
+    let third = put_field(out, second, front.rank);
+    put_field(out, third, front.hops)
+}
+
+// A line.
+fn put_line(out: &mut [u8], at: usize, front: Front, row: &[u8]) -> usize
+    requires { ⌜ Small front × Row (now row) × (at + mostLine ≤ length (now out)) ⌝ }
+    ensures { λ r. ⌜ Put (now (out .entry)) at (lineOf front (now (row .entry))) r (now (out .exit)) ⌝ }
+{
+    let middle = put_front(out, at, front);
+    let end = put_row(out, middle, row);
+    out[end] = b'\n';
+    end + 1
+}
+
+// The lines of a table for n routers, with their hop counts by place.
+pub(crate) fn put_table<'a, 'b>(
+    out: &'a mut [u8],
+    at: usize,
+    table: &'b [u8],
+    hops: &'b [u8],
+    n: usize,
+    destination: u8,
+) -> usize
+    requires { ⌜ Listable (now table) (now hops) n destination × (at + mostLine * n ≤ length (now out)) ⌝ }
+    ensures { λ r. ⌜ Put (now (out .entry)) at (tableText (now (table .entry)) (now (hops .entry)) destination n) r (now (out .exit)) ⌝ }
+{
+    let mut end = at;
+    let mut u: usize = 0;
+    while u < n {
+        let start = HEADER + ROW * u;
+        let first = start + FRONT;
+        let last = first + table[start + 2] as usize;
+        let front = Front {
+            destination: destination,
+            router: u as u8,
+            rank: table[start + 1],
+            hops: hops[u],
+        };
+        end = put_line(out, end, front, &table[first..last]);
+        u += 1;
+    }
+    end
+}

@@ -1,0 +1,45 @@
+// For callers that have tested the topology, laid out its arcs and lent the room.
+use super::printing;
+use arcs::Arcs;
+use order::Mode;
+use rows::HEADER;
+use rows::ROW;
+use stations::Place;
+use stations::Topology;
+ghost use Prim.Native.Nat.{_+_, _*_, _≤_, _<_};
+ghost use lib.Dec.{T};
+ghost use lib.ListN.{length};
+ghost use Rattle.stations.specs.Topology.{networkOf};
+ghost use Rattle.soundness.specs.Sound.{sound};
+ghost use Rattle.arcs.specs.Arcs.{Holds};
+ghost use Rattle.text.specs.Lines.{Put};
+ghost use Rattle.report.specs.Listing.{linesFor, allLines};
+ghost use Rattle.report.specs.Inner.{mostLines};
+
+// The lines of a destination, from an offset of the slice on; answers the offset after them.
+pub fn put_lines(t: Topology, a: Arcs, destination: Place, out: &mut [u8], at: usize) -> usize
+    requires { ⌜ T (sound t) × Holds (networkOf t) a × (destination .0 < t .routers) × (at + mostLines ≤ length (now out)) ⌝ }
+    ensures { λ r. ⌜ Put (now (out .entry)) at (linesFor t (destination .0)) r (now (out .exit)) ⌝ }
+{
+    let n = t.routers;
+    let length = HEADER + ROW * n;
+    let mut table = printing::room_for_table();
+    table::unchecked::build(t, a, destination, Mode::ShortestPath, &mut table);
+    let mut hops = printing::room_for_hops();
+    forwarding::unchecked::greatest_hops(t, &table[..length], &mut hops);
+    printing::put_table(out, at, &table[..length], &hops, n, destination.0)
+}
+
+// The lines of all destinations, into the first bytes of the slice; answers how many bytes they are.
+pub fn put_all(t: Topology, a: Arcs, out: &mut [u8]) -> usize
+    requires { ⌜ T (sound t) × Holds (networkOf t) a × (mostLines * t .routers ≤ length (now out)) ⌝ }
+    ensures { λ r. ⌜ Put (now (out .entry)) 0 (allLines t) r (now (out .exit)) ⌝ }
+{
+    let mut end: usize = 0;
+    let mut d: usize = 0;
+    while d < t.routers {
+        end = put_lines(t, a, Place(d as u8), out, end);
+        d += 1;
+    }
+    end
+}
