@@ -99,6 +99,11 @@ first-record (kind ∷ rest) = cases (decLt (length rest) (bodyLength kind))
         let e = whole kind rest h′ in
         inr (⊎-elim (λ u. inl (e ∙ u)) (λ w. inr (wide kind rest h′ (ap width e ∙ w))) (known kind (take (bodyLength kind) rest)))
 
+-- a record has no more bytes than are there
+pub width-within : (s : List ℕ) → width (recordIn s) ≤ length s
+unfolding width
+width-within s = ⊎-elim (λ r. rw r zero-le) (⊎-elim (λ r. rw r zero-le) (λ w. w .fits)) (first-record s)
+
 -- a record that has no fault is whole, the end too
 pub whole-record : (c : Contents) (s : List ℕ) → fault c (recordIn s) ≡ 0 → WholeRecord s
 unfolding fault

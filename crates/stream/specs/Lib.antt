@@ -1,5 +1,6 @@
 pub mod Stream
 pub mod Reading
+pub mod Reader
 pub mod Inner
 pub mod Theorems
 pub mod Table

@@ -1,4 +1,5 @@
 // Reading a topology stream (01, Topology stream).
+mod reader;
 mod records;
 mod taking;
 
@@ -31,7 +32,8 @@ pub fn read(stream: &[u8]) -> Reading
     let mut t = taking::blank(NEXT_HOPS);
     let mut at: usize = 0;
     while at < stream.len() {
-        let record = records::record_at(stream, at);
+        let taken = reader::next_from(stream, at);
+        let record = taken.found;
         if let Record::End = record {
             return taking::ended(t, at, stream.len());
         }
@@ -41,7 +43,7 @@ pub fn read(stream: &[u8]) -> Reading
             return next;
         }
         t = next.topology;
-        at += taking::width_of(record);
+        at = taken.at;
     }
     taking::refused(1, at)
 }

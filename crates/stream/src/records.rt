@@ -1,11 +1,19 @@
 // The records of a topology stream, one at a time.
 use super::Record;
+use super::taking;
 use stations::Link;
 use stations::Place;
 ghost use mathlib.Core.Path.{_≡_};
 ghost use Prim.Native.Nat.{_+_, _≤_, _<_};
 ghost use lib.ListN.{length, take, drop};
 ghost use Rattle.stream.specs.Stream.{bigEndian, recordIn};
+ghost use Rattle.stream.specs.Reader.{taken};
+
+// A record, and the offset past it.
+pub(crate) struct Taken {
+    pub found: Record,
+    pub at: usize,
+}
 
 // The number in the two bytes from at, big-endian.
 fn be16(s: &[u8], at: usize) -> u16
@@ -60,4 +68,16 @@ pub(crate) fn record_at(s: &[u8], at: usize) -> Record
         return Record::End;
     }
     Record::Refused(2)
+}
+
+// The record that begins at the offset at, and the offset past it.
+pub(crate) fn taken_at(s: &[u8], at: usize) -> Taken
+    ensures { λ r. ⌜ r ≡ taken (now (s .entry)) at ⌝ }
+{
+    let found = record_at(s, at);
+    let width = taking::width_of(found);
+    Taken {
+        found: found,
+        at: at + width,
+    }
 }
