@@ -19,13 +19,13 @@ use Rattle.stream.specs.Theorems.{Bytes, fourBytes, linkOf, Lists, refus
 use Rattle.stream.proofs.Kept.{Good, good-nothing, kept}
 
 -- the next record, by its bytes
-next-router : (a b e f : ℕ) (rest : List ℕ) → records 0 (1 ∷ a ∷ b ∷ e ∷ f ∷ rest) ≡ record-of.Router (fourBytes a b e f) ∷ records 0 rest
+pub next-router : (a b e f : ℕ) (rest : List ℕ) → records 0 (1 ∷ a ∷ b ∷ e ∷ f ∷ rest) ≡ record-of.Router (fourBytes a b e f) ∷ records 0 rest
 unfolding records recordIn decoded bodyLength bigEndian bigEndianOn
 next-router a b e f rest =
     rw (le-ltb (length (a ∷ b ∷ e ∷ f ∷ rest)) 4 (omega arith))
     (ap (λ (x : ℕ). record-of.Router (fourBytes x b e f) ∷ records 0 rest) (zero-add a))
 
-next-link : (u v e f : ℕ) (rest : List ℕ) → records 0 (2 ∷ u ∷ v ∷ e ∷ f ∷ rest) ≡ record-of.Link (linkOf u v e f) ∷ records 0 rest
+pub next-link : (u v e f : ℕ) (rest : List ℕ) → records 0 (2 ∷ u ∷ v ∷ e ∷ f ∷ rest) ≡ record-of.Link (linkOf u v e f) ∷ records 0 rest
 unfolding records recordIn decoded bodyLength linkIn bigEndian bigEndianOn
 next-link u v e f rest =
     rw (le-ltb (length (u ∷ v ∷ e ∷ f ∷ rest)) 4 (omega arith))
@@ -35,7 +35,7 @@ pub next-limit : (k : ℕ) (rest : List ℕ) → records 0 (8 ∷ k ∷ rest) �
 unfolding records recordIn decoded bodyLength
 next-limit k rest = rw (le-ltb (length (k ∷ rest)) 1 (omega arith)) refl
 
-next-unknown : (kind : ℕ) → kind ≢ 1 → kind ≢ 2 → kind ≢ 3 → kind ≢ 8 → (rest : List ℕ) →
+pub next-unknown : (kind : ℕ) → kind ≢ 1 → kind ≢ 2 → kind ≢ 3 → kind ≢ 8 → (rest : List ℕ) →
     records 0 (kind ∷ rest) ≡ record-of.Refused 2 ∷ records 0 rest
 unfolding records recordIn decoded bodyLength
 next-unknown kind n1 n2 n3 n8 rest =

@@ -9,3 +9,4 @@ pub mod Returned
 pub mod Verdicts
 pub mod Table
 pub mod InTurn
+pub mod Readers

@@ -3,4 +3,5 @@ pub mod Reading
 pub mod Reader
 pub mod Inner
 pub mod Theorems
+pub mod Readers
 pub mod Table

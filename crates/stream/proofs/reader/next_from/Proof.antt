@@ -1,5 +1,6 @@
--- `reader::next_from` meets its contract: a walk of its MIR, by hand. The reader is made in a local and lent to `next_record` for a lifetime within the stream's, which is ended after the call; the offset is then read from what comes back.
--- All that the proof knows of `next_record` is that it meets its contract.
+-- `next_from` meets its contract: a walk of its MIR, by hand. The reader is made in a local and lent to `next_record` for a lifetime within the stream's,
+-- which is ended after the call; the offset is then read from the reader that comes back.
+-- All that is known of `next_record` is that it meets its contract.
 -- Assumes nothing.
 use mathlib.Core.Path.{_≡_, refl, ap, subst}
 use Prim.Native.Nat.{ℕ, _<_, _^_}
@@ -38,7 +39,7 @@ use denote.Steps.{only, owned, facts, heard, nothing}
 use denote.Enum.Laws as EL
 use denote.Struct.Declared.{Declared}
 use denote.Struct.Laws as LL
-use denote.Struct.Rest.{all-own, own-shut}
+use denote.Struct.Rest.{own-shut}
 use denote.Struct.Steps.{spelt}
 use denote.Triple.Statement.{Contract, Triple}
 use denote.Triple.Call.{calls-at}
@@ -81,7 +82,8 @@ module _ {M : Type 1} (𝓤 : URA M) (H : Heap 𝓤) (A : Atoms 𝓤) (mem : Mem
   abbrev NextRecord : Contract 𝓤
   NextRecord = tripleOf 𝓤 H A next-record.signature (next-record.spec 𝓤 H A mem run)
 
-module _ {M : Type 1} (𝓤 : URA M) (H : Heap 𝓤) (A : Atoms 𝓤) (W : Given 𝓤 H A) (at-mem : Memory → SProp 𝓤) (run : Routine → Fun 𝓤) (κ : Lft) (q : Share) (s : RefT (List ℕ)) (n : ℕ) (fits : n < 2 ^ 64) where
+module _ {M : Type 1} (𝓤 : URA M) (H : Heap 𝓤) (A : Atoms 𝓤) (W : Given 𝓤 H A) (at-mem : Memory → SProp 𝓤) (run : Routine → Fun 𝓤)
+    (κ : Lft) (q : Share) (s : RefT (List ℕ)) (n : ℕ) (fits : n < 2 ^ 64) where
   -- the machine value that s has
   abbrev v : Val
   v = sliceVal (s .ptr) (length (s .now))
@@ -138,7 +140,8 @@ module _ {M : Type 1} (𝓤 : URA M) (H : Heap 𝓤) (A : Atoms 𝓤) (W : Given
   lain : (g : Reader) (l : ℕ) → ent 𝓤 (sem 𝓤 H A (mem R .lies g l 0)) (sep 𝓤 (sem 𝓤 H A (fat fullShare (T′.mir erased) l 0 (T′.lowered g))) (sem 𝓤 H A (Own g)))
   unfolding partOf
   lain g l =
-      qed W (‵ (mem R .lies g l 0) ∷ []) ∵ fpick ! (λ vs. fsplit ! $ spelt ! R (Is R) (shows 𝓤 H A R) (LL.vals D L) (LL.tells D L) fullShare g vs l 0 $
+      qed W (‵ (mem R .lies g l 0) ∷ []) ∵ fpick ! (λ vs. fsplit ! $
+      spelt ! R (Is R) (shows 𝓤 H A R) (LL.vals D L) (LL.tells D L) fullShare g vs l 0 $
       use1 W (‵ (fat fullShare (T′.mir erased) l 0 (T′.lowered g))) (W .laws .raw-at fullShare (T′.mir erased) l 0 (T′.lowered g)) $ done !)
 
   -- the shares of the stream's lifetime: one goes into the lifetime of the call, one beside it
@@ -164,7 +167,8 @@ module _ {M : Type 1} (𝓤 : URA M) (H : Heap 𝓤) (A : Atoms 𝓤) (W : Given
       → ent 𝓤 (⋆ 𝓤 H A (‵ (flft κ q₂) ∷ (‵ (flft κ q₁) ⊛ ‵ ftrue) ∷ ‵ Stream ∷ [])) (Post (answer-val r g))
   exits r g e is =
       qed W (‵ (flft κ q₂) ∷ (‵ (flft κ q₁) ⊛ ‵ ftrue) ∷ ‵ Stream ∷ []) ∵
-      suffices ! _ (ends-at 𝓤 H A next-from.ended stayed (next-from.clauses 𝓤 H A at-mem run) W (((κ, tt), (q, tt), tt, x, vals), tt) (answer-val r g) (answer r g) (tt, (tt, tt)) (tt, (tt, tt))) $ says ! e $
+      suffices ! _ (ends-at 𝓤 H A next-from.ended stayed (next-from.clauses 𝓤 H A at-mem run) W (((κ, tt), (q, tt), tt, x, vals), tt)
+      (answer-val r g) (answer r g) (tt, (tt, tt)) (tt, (tt, tt))) $ says ! e $
       move ! (1 ∷ []) $ split ! $ move ! (0 ∷ 2 ∷ []) $ use2 W (‵ (flft κ q)) (W .lfts .lft-join κ q) $ join ! $ frame ! $
       nothing ! $ owned ! usize (Is usize) (uint-makes 𝓤 H A W w64) n _ (refl, fits) $ fjoin ! $ move ! (1 ∷ 0 ∷ []) $ fjoin ! $
       owned ! K.the-row (Is K.the-row) (LL.makes K.the-type K′.the-plain 𝓤 H A) (answer r g) _ is $ move ! (1 ∷ 0 ∷ []) $ done !
@@ -173,48 +177,76 @@ module _ {M : Type 1} (𝓤 : URA M) (H : Heap 𝓤) (A : Atoms 𝓤) (W : Given
     walk : Is (ShrSlice (named 0) κ u8) s (v ∷ []) → ent 𝓤 (onEntry 𝓤 H A next-from.signature (κ, tt) (q, tt) x vals) (WpFn 𝓤 H C Λ code.function (v ∷ vint w64 n ∷ []) Post)
     walk p =
         let wt = shr-slice-lawful 𝓤 H A W (named 0) κ u8 .typed s (v ∷ []) p .0 in
-        qed W ((‵ (flft κ q) ⊛ ‵ ftrue) ∷ ‵ (owns (ShrSlice (named 0) κ u8 ∷ usize ∷ []) x vals) ∷ []) ∵ enter ! C Λ code.function (v ∷ vint w64 n ∷ []) _ $
-        alloc1 ! (λ l₀. alloc1 ! (λ l₁. alloc1 ! (λ l₂. alloc1 ! (λ l₃. alloc1 ! (λ l₄. alloc1 ! (λ l₅. alloc1 ! (λ l₆. alloc0 ! $ params1 ! $ pass1 ! (init ! 10 refl wt) $ pass1 ! (init ! 8 refl (tt, record { fits = fits })) $ pass0 ! $
+        qed W ((‵ (flft κ q) ⊛ ‵ ftrue) ∷ ‵ (owns (ShrSlice (named 0) κ u8 ∷ usize ∷ []) x vals) ∷ []) ∵
+        enter ! C Λ code.function (v ∷ vint w64 n ∷ []) _ $
+        alloc1 ! (λ l₀. alloc1 ! (λ l₁. alloc1 ! (λ l₂. alloc1 ! (λ l₃. alloc1 ! (λ l₄. alloc1 ! (λ l₅. alloc1 ! (λ l₆. alloc0 ! $ params1 ! $
+        pass1 ! (init ! 10 refl wt) $ pass1 ! (init ! 8 refl (tt, record { fits = fits })) $ pass0 ! $
         -- [_6; …; _5; …; _4; …; _3; …; _2; …; _1; …; room for _0; …; the token; what stream and at own]
-        assigns ! (agg ! (and-then ! (load ! (from ! (stop !)) (look ! 10 refl)) (and-then ! (load ! (from ! (stop !)) (look ! 8 refl)) (no-more !)))) (from ! (stop !)) (init ! 6 refl (tt, (wt .1, (record { fits = fits }, tt)))) $
+        assigns ! (agg ! (and-then ! (load ! (from ! (stop !)) (look ! 10 refl))
+        (and-then ! (load ! (from ! (stop !)) (look ! 8 refl)) (no-more !)))) (from ! (stop !))
+        (init ! 6 refl (tt, (wt .1, (record { fits = fits }, tt)))) $
         assigns ! (addr ! (from ! (stop !))) (from ! (stop !)) (init ! 2 refl (tt, tt)) $
         -- the reader owns what the stream and the offset own, and lies in its local; of the stream a copy is kept
-        move ! (15 ∷ []) $ fsplit ! $ use1 W (‵ Stream ⊛ ‵ Stream) (shr-slice-copy 𝓤 H A W (named 0) κ u8 .twice s (v ∷ [])) $ split ! $ move ! (0 ∷ 2 ∷ []) $ fjoin ! $
+        move ! (15 ∷ []) $ fsplit ! $ use1 W (‵ Stream ⊛ ‵ Stream) (shr-slice-copy 𝓤 H A W (named 0) κ u8 .twice s (v ∷ [])) $ split ! $
+        move ! (0 ∷ 2 ∷ []) $ fjoin ! $
         use1 W (‵ (Own h)) (own-shut 𝓤 H A W D L (s, (n, tt))) $ move ! (8 ∷ 0 ∷ []) $ use2 W (‵ (mem R .lies h l₃ 0)) (lies h l₃) $
         -- [the reader; what stream owns; _6; …; _5; …; _4; …; of _3; _2; …; _1; …; room for _0; …; the token]
-        lft-new ! tt (λ a. move ! (16 ∷ []) $ split ! $ use1 W (‵ (flft κ q₁) ⊛ ‵ (flft κ q₂)) (W .lfts .lft-split κ q) $ split ! $ move ! (3 ∷ 1 ∷ []) $
+        lft-new ! tt (λ a. move ! (16 ∷ []) $ split ! $ use1 W (‵ (flft κ q₁) ⊛ ‵ (flft κ q₂)) (W .lfts .lft-split κ q) $ split ! $
+        move ! (3 ∷ 1 ∷ []) $
         use2 W (‵ (flft (a ∷ κ) q₂) ⊛ raw (Rest 𝓤 H A W a q₂)) (within-token 𝓤 H A W a κ q₂) $ split ! $ move ! (4 ∷ []) $
-        use1 W (later (some (λ (δ : GName). ‵ (MutRef (named 0) (a ∷ κ) R .own (lent l₃ δ) (vptr l₃ 0 ∷ [])) ⊛ ‵ (flent (a ∷ κ) (Body (mem R) l₃ 0 δ))))) (lends-ref 𝓤 H A W R (named 0) (a ∷ κ) h l₃ 0) $ await ! tt $ pick ! (λ δ. split ! $
+        use1 W (later (some (λ (δ : GName). ‵ (MutRef (named 0) (a ∷ κ) R .own (lent l₃ δ) (vptr l₃ 0 ∷ [])) ⊛ ‵
+        (flent (a ∷ κ) (Body (mem R) l₃ 0 δ))))) (lends-ref 𝓤 H A W R (named 0) (a ∷ κ) h l₃ 0) $ await ! tt $ pick ! (λ δ. split ! $
         move ! (2 ∷ 4 ∷ 0 ∷ []) $ use3 W (raw (NextRecord 𝓤 H A at-mem run .pre (to a l₃ δ))) (goes a l₃ δ) $
         -- [what is asked; the lender's part; the rest of a; true; what stream owns; _6; …; _5; …; _4; …; of _3; _2; …; _1; …; room for _0; …]
         calls-at ! fm (NextRecord 𝓤 H A at-mem run) known (to a l₃ δ) (and-then ! (load ! (from ! (stop !)) (look ! 7 refl)) (no-more !)) (λ u.
-        use1 W (later (some (λ (r : Record). ((‵ (flft (a ∷ κ) q₂) ⊛ ‵ (flft κ q₁) ⊛ ‵ ftrue) ⊛ ‵ (S.the-row .own r (u ∷ []))) ⊛ raw (ensured 𝓤 H A next-record.ended (next-record.clauses 𝓤 H A at-mem run) (a ∷ κ, (κ, tt)) (lent l₃ δ, tt) tt r)))) (id⊢ 𝓤 _) $ await ! tt $ pick ! (λ r.
-        split ! $ move ! (1 ∷ []) $ use1 W (some (λ (ws : Reader × Unit {0}). ‵ (lasts next-record.ended (a ∷ κ, (κ, tt)) (lent l₃ δ, tt) ws) ⊛ raw (fact 𝓤 (_≡_ {A = Next} record { found = r; reader = ws .0 } (next h))))) (id⊢ 𝓤 _) $ pick ! (λ ws.
-        split ! $ move ! (1 ∷ []) $ heard ! (_≡_ {A = Next} record { found = r; reader = ws .0 } (next h)) (λ e. fsplit ! $ move ! (2 ∷ []) $ split ! $ move ! (1 ∷ []) $ facts ! S.the-row (Is S.the-row) (shows 𝓤 H A S.the-row) r (u ∷ []) (λ is.
+        use1 W (later (some (λ (r : Record). ((‵ (flft (a ∷ κ) q₂) ⊛ ‵ (flft κ q₁) ⊛ ‵ ftrue) ⊛ ‵ (S.the-row .own r (u ∷ []))) ⊛ raw
+        (ensured 𝓤 H A next-record.ended (next-record.clauses 𝓤 H A at-mem run) (a ∷ κ, (κ, tt)) (lent l₃ δ, tt) tt r)))) (id⊢ 𝓤 _) $ await ! tt $
+        pick ! (λ r.
+        split ! $ move ! (1 ∷ []) $
+        use1 W (some (λ (ws : Reader × Unit {0}). ‵ (lasts next-record.ended (a ∷ κ, (κ, tt)) (lent l₃ δ, tt) ws) ⊛ raw
+        (fact 𝓤 (_≡_ {A = Next} record { found = r; reader = ws .0 } (next h))))) (id⊢ 𝓤 _) $ pick ! (λ ws.
+        split ! $ move ! (1 ∷ []) $ heard ! (_≡_ {A = Next} record { found = r; reader = ws .0 } (next h)) (λ e. fsplit ! $ move ! (2 ∷ []) $
+        split ! $ move ! (1 ∷ []) $ facts ! S.the-row (Is S.the-row) (shows 𝓤 H A S.the-row) r (u ∷ []) (λ is.
         -- [the tokens; the reader's last value; true; the lender's part; the rest of a; true; what stream owns; _6; …; _5; …; _4; …; of _3; _2; …; _1; …; room for _0; …]
-        land ! (from ! (stop !)) (init ! 11 refl (EL.lawful S.the-type S′.the-laws 𝓤 H A W tt .typed r _ is .0)) $ rewrite ! 11 (λ (w : Val). ‵ (fat fullShare S′.mir l₄ 0 w)) (ap only (EL.tells S.the-type S′.the-laws r _ is)) refl $
+        land ! (from ! (stop !)) (init ! 11 refl (EL.lawful S.the-type S′.the-laws 𝓤 H A W tt .typed r _ is .0)) $
+        rewrite ! 11 (λ (w : Val). ‵ (fat fullShare S′.mir l₄ 0 w)) (ap only (EL.tells S.the-type S′.the-laws r _ is)) refl $
         split ! $ move ! (0 ∷ 5 ∷ []) $ use2 W (later (‵ (fdead (a ∷ κ)) ⊛ ‵ (flft κ q₂))) (within-end 𝓤 H A W a κ q₂) $ await ! tt $ split ! $
         move ! (0 ∷ 5 ∷ 3 ∷ []) $ use3 W (later (‵ (mem R .lies (ws .0) l₃ 0))) (ref-back 𝓤 H A W R (a ∷ κ) δ (ws .0) l₃ 0) $ await ! tt $
-        use1 W (‵ (fat fullShare (T′.mir erased) l₃ 0 (T′.lowered (ws .0))) ⊛ ‵ (Own (ws .0))) (lain (ws .0) l₃) $ split ! $ move ! (1 ∷ []) $ facts ! R (Is R) (shows 𝓤 H A R) (ws .0) (T′.lowered (ws .0) ∷ []) (λ was.
+        use1 W (‵ (fat fullShare (T′.mir erased) l₃ 0 (T′.lowered (ws .0))) ⊛ ‵ (Own (ws .0))) (lain (ws .0) l₃) $ split ! $ move ! (1 ∷ []) $
+        facts ! R (Is R) (shows 𝓤 H A R) (ws .0) (T′.lowered (ws .0) ∷ []) (λ was.
         let is-at = LL.owed D L (ws .0) _ was .1 in
-        let is-answer = LL.owes K.the-type K′.the-laws (answer r (ws .0)) (subst (λ us. Is S.the-row r us) (EL.tells S.the-type S′.the-laws r _ is) is, is-at) in
+        let is-answer = LL.owes K.the-type K′.the-laws (answer r (ws .0))
+        (subst (λ us. Is S.the-row r us) (EL.tells S.the-type S′.the-laws r _ is) is, is-at) in
         -- [_3; q₂'s token; q₁'s; true; true; what stream owns; _6; …; _5; …; _4; …; of _3; _2; …; _1; …; room for _0; …]
-        assigns ! (of-opd ! (load ! (from ! (fld ! {d = 16} refl (stop !))) (look-in ! 0 (sub ! 1 {d = 16} refl (whole !))))) (from ! (stop !)) (init ! 6 refl (tt, record { fits = is-at .0 .1 })) $
-        assigns ! (agg ! (and-then ! (load ! (from ! (stop !)) (look ! 10 refl)) (and-then ! (load ! (from ! (stop !)) (look ! 6 refl)) (no-more !)))) (from ! (stop !)) (init ! 17 refl (LL.lawful K.the-type K′.the-laws 𝓤 H A W .typed (answer r (ws .0)) _ is-answer .0)) $
-        returns ! (look ! 17 refl) $ forget ! 0 refl $ forget ! 6 refl $ forget ! 8 refl $ forget ! 10 refl $ forget ! 13 refl $ forget ! 15 refl $ forget ! 17 refl $
-        move ! (17 ∷ 18 ∷ []) $ free1 ! $ move ! (15 ∷ 16 ∷ []) $ free1 ! $ move ! (13 ∷ 14 ∷ []) $ free1 ! $ move ! (0 ∷ 12 ∷ []) $ free1 ! $ move ! (9 ∷ 10 ∷ []) $ free1 ! $ move ! (7 ∷ 8 ∷ []) $ free1 ! $ move ! (5 ∷ 6 ∷ []) $ free1 ! $ free0 ! $
+        assigns ! (of-opd ! (load ! (from ! (fld ! {d = 16} refl (stop !))) (look-in ! 0 (sub ! 1 {d = 16} refl (whole !))))) (from ! (stop !))
+        (init ! 6 refl (tt, record { fits = is-at .0 .1 })) $
+        assigns ! (agg ! (and-then ! (load ! (from ! (stop !)) (look ! 10 refl))
+        (and-then ! (load ! (from ! (stop !)) (look ! 6 refl)) (no-more !)))) (from ! (stop !))
+        (init ! 17 refl (LL.lawful K.the-type K′.the-laws 𝓤 H A W .typed (answer r (ws .0)) _ is-answer .0)) $
+        returns ! (look ! 17 refl) $ forget ! 0 refl $ forget ! 6 refl $ forget ! 8 refl $ forget ! 10 refl $ forget ! 13 refl $ forget ! 15 refl $
+        forget ! 17 refl $
+        move ! (17 ∷ 18 ∷ []) $ free1 ! $ move ! (15 ∷ 16 ∷ []) $ free1 ! $ move ! (13 ∷ 14 ∷ []) $ free1 ! $ move ! (0 ∷ 12 ∷ []) $ free1 ! $
+        move ! (9 ∷ 10 ∷ []) $ free1 ! $ move ! (7 ∷ 8 ∷ []) $ free1 ! $ move ! (5 ∷ 6 ∷ []) $ free1 ! $ free0 ! $
         keep ! (0 ∷ 1 ∷ 4 ∷ []) $ by ! (exits r (ws .0) (takes h r (ws .0) e) is-answer))))))))))))))))
 
 module _ {M : Type 1} (𝓤 : URA M) (H : Heap 𝓤) (A : Atoms 𝓤) (W : Given 𝓤 H A) (mem : Memory → SProp 𝓤) (run : Routine → Fun 𝓤) where
-  next-from-walks : (C : Calls 𝓤 H) (Λ : Loops 𝓤 H) → FmC 𝓤 H (W .laws) C → Triple 𝓤 (C #next-record) (NextRecord 𝓤 H A mem run) → Walks 𝓤 H A next-from.ended stayed (WpFn 𝓤 H C Λ code.function) (next-from.clauses 𝓤 H A mem run)
-  next-from-walks C Λ fm known = walked 𝓤 H A next-from.ended stayed (next-from.clauses 𝓤 H A mem run) (WpFn 𝓤 H C Λ code.function) (λ κs. (slice-vals, (uint-vals w64, tt))) (λ κs. (shr-slice-tells (named 0) (κs .0) u8, (uint-tells w64, tt)))
-      (λ κs qs bounds a g are. via 𝓤 _ (fst∗ 𝓤 _ (emp 𝓤)) (walk 𝓤 H A W mem run (κs .0) (qs .0) (a .0) (a .1 .0) (are .1 .0 .1) C Λ fm known (are .0)))
+  next-from-walks : (C : Calls 𝓤 H) (Λ : Loops 𝓤 H) → FmC 𝓤 H (W .laws) C
+      → Triple 𝓤 (C #next-record) (NextRecord 𝓤 H A mem run) → Walks 𝓤 H A next-from.ended stayed (WpFn 𝓤 H C Λ code.function) (next-from.clauses 𝓤 H A mem run)
+  next-from-walks C Λ fm known = walked 𝓤 H A next-from.ended stayed (next-from.clauses 𝓤 H A mem run) (WpFn 𝓤 H C Λ code.function)
+      (λ κs. (slice-vals, (uint-vals w64, tt))) (λ κs. (shr-slice-tells (named 0) (κs .0) u8, (uint-tells w64, tt)))
+      (λ κs qs bounds a g are. via 𝓤 _ (fst∗ 𝓤 _ (emp 𝓤)) (walk 𝓤 H A W mem run (κs .0) (qs .0) (a .0) (a .1 .0) (are .1 .0 .1) C Λ fm known
+      (are .0)))
 
-next-from-meets : {M : Type 1} (𝓤 : URA M) (H : Heap 𝓤) (A : Atoms 𝓤) → Given 𝓤 H A → (mem : Memory → SProp 𝓤) (run : Routine → Fun 𝓤) (𝓣 : Tables 𝓤 H) → Triple 𝓤 (𝓣 .C #next-record) (NextRecord 𝓤 H A mem run)
+next-from-meets : {M : Type 1} (𝓤 : URA M) (H : Heap 𝓤) (A : Atoms 𝓤)
+    → Given 𝓤 H A → (mem : Memory → SProp 𝓤) (run : Routine → Fun 𝓤) (𝓣 : Tables 𝓤 H) → Triple 𝓤 (𝓣 .C #next-record) (NextRecord 𝓤 H A mem run)
     → Meets 𝓤 H A next-from.signature (WpFn 𝓤 H (𝓣 .C) (𝓣 .Λ) code.function) (next-from.spec 𝓤 H A mem run)
 next-from-meets 𝓤 H A W mem run 𝓣 known =
-    walk-meets 𝓤 H A next-from.ended stayed W (goes-none-slice 𝓤 H A W 1 (0 ∷ []) tt (plain (λ _. u8)) yes, (goes-none 𝓤 H A W 1 (λ _. usize) yes (λ κs x f. refl), tt)) (next-from.clauses 𝓤 H A mem run)
-    (WpFn 𝓤 H (𝓣 .C) (𝓣 .Λ) code.function) (WpFn-mono 𝓤 H (W .laws) 𝓣 code.function) (next-from-walks 𝓤 H A W mem run (𝓣 .C) (𝓣 .Λ) (fmOf 𝓤 H (W .laws) 𝓣) known)
+    walk-meets 𝓤 H A next-from.ended stayed W (
+      goes-none-slice 𝓤 H A W 1 (0 ∷ []) tt (plain (λ _. u8)) yes,
+      (goes-none 𝓤 H A W 1 (λ _. usize) yes (λ κs x f. refl), tt),
+    ) (next-from.clauses 𝓤 H A mem run)
+    (WpFn 𝓤 H (𝓣 .C) (𝓣 .Λ) code.function) (WpFn-mono 𝓤 H (W .laws) 𝓣 code.function)
+    (next-from-walks 𝓤 H A W mem run (𝓣 .C) (𝓣 .Λ) (fmOf 𝓤 H (W .laws) 𝓣) known)
 
 pub next-from-spec : {M : Type 1} → stated.statement M
 unfolding code.routine tablesOf
@@ -222,4 +254,5 @@ next-from-spec 𝓤 H 𝓜 𝓖 𝓡 =
     entered 𝓤 H (tripleOf 𝓤 H (𝓖 .A) next-from.signature (next-from.spec 𝓤 H (𝓖 .A) (𝓜 .mem) (𝓡 .run)))
     (tables 𝓤 H 𝓜 𝓡 code.env .C) (tables 𝓤 H 𝓜 𝓡 code.env .Λ) #next-from code.function (code.unfolded 𝓤 H 𝓜 𝓡)
     (next-from-meets 𝓤 H (𝓖 .A) (givenOf 𝓤 H 𝓜 𝓖) (𝓜 .mem) (𝓡 .run) (tablesOf 𝓤 H 𝓜 (tables 𝓤 H 𝓜 𝓡 code.env))
-    (cited 𝓤 H (NextRecord 𝓤 H (𝓖 .A) (𝓜 .mem) (𝓡 .run)) 𝓜 𝓡 code.env #next-record next-record-def.routine code.calls-stream·reader·next-record (next-record-thm.met 𝓤 H 𝓜 𝓖 𝓡)))
+    (cited 𝓤 H (NextRecord 𝓤 H (𝓖 .A) (𝓜 .mem) (𝓡 .run)) 𝓜 𝓡 code.env #next-record next-record-def.routine code.calls-stream·reader·next-record
+    (next-record-thm.met 𝓤 H 𝓜 𝓖 𝓡)))
