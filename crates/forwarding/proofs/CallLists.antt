@@ -24,7 +24,8 @@ use Rattle.stations.specs.Outcome.{answer}
 use Rattle.soundness.specs.Sound.{sound}
 use Rattle.table.specs.Calls.{tableChecking}
 use Rattle.forwarding.specs.Calls.{Said, done, refused, figures, settingAt, hopping}
-use Rattle.forwarding.specs.Lists.{Call, set-at, hop-under, afterSetting, afterHop, lastAfter, after, afterAll, setIn, lastSetIn}
+use Rattle.forwarding.specs.Lent.{afterSetting, afterHop, settingPacket, hoppingPacket}
+use Rattle.forwarding.specs.Lists.{Call, set-at, hop-under, lastAfter, after, afterAll, setIn, lastSetIn}
 use Rattle.forwarding.specs.Theorems.{Standing, CallsBounded, CallsExact}
 use Rattle.forwarding.proofs.Calls.{settings-answer}
 use Rattle.forwarding.proofs.Listed.{Over, over}
@@ -106,7 +107,7 @@ module _ (t : Topology) (good : T (sound t)) (table : List ℕ) (right : tableCh
 
   -- so each call, and each list of calls, leaves the packet, and where it was last set, as network's does
   same : (c : calls.Call f) (p : Packet ℕ) (last : ℕ) → (after t table (here c) p ≡ afterCall f tests c p) × (setIn t table (here c) last ≡ setBy f tests c last)
-  unfolding here after setIn afterCall setBy
+  unfolding here after settingPacket hoppingPacket setIn afterCall setBy
   same (calls.setting u) p last = sets u p last
   same (calls.hopping states) p last = (hops states p, refl)
 

@@ -17,3 +17,4 @@ pub mod Steps
 pub mod Turns
 pub mod Returned
 pub mod Meant
+pub mod Loan

@@ -1,5 +1,6 @@
 pub mod Schedule
 pub mod Calls
+pub mod Lent
 pub mod Lists
 pub mod Inner
 pub mod Theorems

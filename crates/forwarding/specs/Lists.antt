@@ -1,29 +1,17 @@
--- Lists of calls that set one packet or make one hop with it (01, Packet, hop and schedule, last paragraph; demand 3, hop by hop), over what the calls
--- answer.
+-- Lists of calls that set one packet or make one hop with it (01, Packet, hop and schedule, last paragraph; demand 3, hop by hop), over what the two calls
+-- leave that are lent the packet.
 -- Assumes nothing.
 use Prim.Native.Nat.{ℕ}
 use mathlib.Core.List.{List, [], _∷_}
-use Rattle.network.specs.Forwarding as network
 use Rattle.network.specs.Forwarding.{Packet}
 use Rattle.stations.specs.declared.Topology.{Topology}
-use Rattle.forwarding.specs.Calls.{Said, done, refused, settingAt, hopping}
+use Rattle.forwarding.specs.Calls.{Said, done, refused, settingAt}
+use Rattle.forwarding.specs.Lent.{settingPacket, hoppingPacket}
 
 -- 01, Packet, hop and schedule: one call, a setting of the packet at a start or a single hop of it under a row of states, which may be anything
 pub data Call : Type 0 where
   set-at : ℕ → Call
   hop-under : List ℕ → Call
-
--- 01, Refusals: a setting not refused sets the packet; a refused one leaves it
-unfoldable pub afterSetting : Packet ℕ → Said (Packet ℕ) → Packet ℕ
-afterSetting p (done q) = q
-afterSetting p (refused number at) = p
-
--- 01, Packet, hop and schedule: only moved changes the packet
-unfoldable pub afterHop : Packet ℕ → Said (network.Hop ℕ) → Packet ℕ
-afterHop p (done network.delivered) = p
-afterHop p (done (network.moved q)) = q
-afterHop p (done network.dropped) = p
-afterHop p (refused number at) = p
 
 -- the station of the setting, if it is not refused
 unfoldable pub lastAfter : ℕ → Said (Packet ℕ) → ℕ
@@ -33,8 +21,8 @@ lastAfter last (refused number at) = last
 module _ (t : Topology) (table : List ℕ) where
   -- 01, Packet, hop and schedule: the packet as one call leaves it
   unfoldable pub after : Call → Packet ℕ → Packet ℕ
-  after (set-at u) p = afterSetting p (settingAt t u)
-  after (hop-under states) p = afterHop p (hopping t table states p)
+  after (set-at u) p = settingPacket t u p .packet
+  after (hop-under states) p = hoppingPacket t table states p .packet
 
   -- each call gets the packet as the last one left it
   unfoldable pub afterAll : List Call → Packet ℕ → Packet ℕ

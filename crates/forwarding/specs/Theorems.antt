@@ -25,7 +25,8 @@ use Rattle.forwarding.specs.declared.Setting.the-variants as setting
 use Rattle.forwarding.specs.declared.Hopped.the-variants as hopped
 use Rattle.forwarding.specs.declared.Walked.the-variants as walked
 use Rattle.forwarding.specs.Schedule.{rowIn}
-use Rattle.forwarding.specs.Calls.{done, refused, said, packetIn, settingSays, hopSays, walkSays, figures, countingHops, settingAt, hopping, walking}
+use Rattle.forwarding.specs.Calls.{Said, done, refused, said, packetIn, settingSays, hopSays, walkSays, figures, countingHops, settingAt, hopping, walking}
+use Rattle.forwarding.specs.Lent.{Left, settingPacket, hoppingPacket}
 use Rattle.forwarding.specs.Lists.{Call, set-at, hop-under, after, afterAll, setIn, lastSetIn}
 
 -- 01, Packet, hop and schedule; Refusals: a packet of the code, and the answers that hold it, with its place as a number
@@ -211,6 +212,33 @@ pub record SettingAnswers (t : Topology) (u : ℕ) : Type 0 where
 abbrev pub SettingsAnswer : Type 0
 SettingsAnswer = (t : Topology) (u : ℕ) → SettingAnswers t u
 
+-- An answer, and the packet as it is then.
+abbrev pub left : {A : Type 0} → Said A → Packet ℕ → Left A
+left said p = record { answer = said; packet = p }
+
+-- 01, Packet, hop and schedule; Refusals: what a setting of a lent packet leaves, for every packet before. Its old contents are not tested, and a refusal
+-- leaves it as it was.
+pub record SettingLeaves (t : Topology) (u : ℕ) (p : Packet ℕ) : Type 0 where
+  pub sets : T (sound t) → u < t .routers → settingPacket t u p ≡ left (done (record { station = u; hops = 0 })) (record { station = u; hops = 0 })
+  pub not-sound : (T (sound t) → ⊥) → settingPacket t u p ≡ left (refused 14 0) p
+  pub no-place : T (sound t) → t .routers ≤ u → settingPacket t u p ≡ left (refused 15 u) p
+
+abbrev pub SettingsLeave : Type 0
+SettingsLeave = (t : Topology) (u : ℕ) (p : Packet ℕ) → SettingLeaves t u p
+
+-- 01, Packet, hop and schedule; Refusals: what a hop of a lent packet leaves, for every packet before. It answers what `HopsByRule`, `HopsDone` and
+-- `HopsAnswer` say of a hop; a packet that was delivered, dropped or refused is as it was, and only moved changes it.
+pub record HopLeaves (t : Topology) (table states : List ℕ) (p : Packet ℕ) : Type 0 where
+  pub answers : hoppingPacket t table states p .answer ≡ hopping t table states p
+  pub delivers : (hoppingPacket t table states p ≡ left (done network.delivered) p) ↔ (hopping t table states p ≡ done network.delivered)
+  pub moves : (q : Packet ℕ) → (hoppingPacket t table states p ≡ left (done (network.moved q)) q) ↔ (hopping t table states p ≡ done (network.moved q))
+  pub drops : (hoppingPacket t table states p ≡ left (done network.dropped) p) ↔ (hopping t table states p ≡ done network.dropped)
+  pub refuses : (number at : ℕ) → (hoppingPacket t table states p ≡ left (refused number at) p) ↔ (hopping t table states p ≡ refused number at)
+  pub only-moved : hoppingPacket t table states p .packet ≢ p → (q : Packet ℕ) × (hopping t table states p ≡ done (network.moved q))
+
+abbrev pub HopsLeave : Type 0
+HopsLeave = (t : Topology) (table states : List ℕ) (p : Packet ℕ) → HopLeaves t table states p
+
 -- Demand 3: a walk not refused ends delivered at d, or dropped off d where, in the row of states for that hop, no link to a listed next hop is up.
 pub data WalkEnds (t : Topology) (table : List ℕ) (u : ℕ) (schedule : List ℕ) : Type 0 where
   delivers : (p : Packet ℕ) → walking t table u schedule ≡ done (delivered-at p) → p .station ≡ destinationByte table → WalkEnds t table u schedule
@@ -236,8 +264,10 @@ WalksByHops =
     OfAccepted (λ t table. (u : ℕ) (schedule : List ℕ) (w : Walk ℕ) → walking t table u schedule ≡ done w →
     (cost : ℕ) × ByHops t table schedule (record { station = u; hops = 0 }) w cost)
 
--- What one call does to the packet, and to where it was last set: a refused one changes nothing.
+-- What one call does to the packet, and to where it was last set: it leaves the packet that the call's contract says, and a refused one changes nothing.
 pub record CallRule (t : Topology) (table : List ℕ) (p : Packet ℕ) (last : ℕ) : Type 0 where
+  pub set-leaves : (u : ℕ) → after t table (set-at u) p ≡ settingPacket t u p .packet
+  pub hop-leaves : (states : List ℕ) → after t table (hop-under states) p ≡ hoppingPacket t table states p .packet
   pub sets : (u : ℕ) (q : Packet ℕ) → settingAt t u ≡ done q → (after t table (set-at u) p ≡ q) × (setIn t table (set-at u) last ≡ u)
   pub set-refused : (u number at : ℕ) → settingAt t u ≡ refused number at →
       (after t table (set-at u) p ≡ p) × (setIn t table (set-at u) last ≡ last)

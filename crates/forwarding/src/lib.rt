@@ -4,10 +4,17 @@ use stations::Place;
 use stations::Topology;
 
 mod counting;
+mod lending;
 mod moving;
 mod schedule;
 pub mod unchecked;
 
+pub use lending::AfterHop;
+pub use lending::AfterSetting;
+pub use lending::hop_packet;
+pub use lending::lend_to_hop;
+pub use lending::lend_to_set;
+pub use lending::set_packet;
 ghost use mathlib.Core.Path.{_≡_};
 ghost use Rattle.forwarding.specs.Calls.{packetIn, settingSays, hopSays, walkSays, countingHops, settingAt, hopping, walking};
 

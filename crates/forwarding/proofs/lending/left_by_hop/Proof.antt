@@ -1,0 +1,19 @@
+-- `forwarding::lending::left_by_hop` meets its contract: the packet is the one after what the hop says.
+-- Assumes nothing.
+use borrow.Author.Needs.{needs}
+use Rattle.forwarding.specs.Lent.{hoppingPacket}
+use Rattle.forwarding.proofs.lending.left_by_hop.Statement.{statement}
+use Rattle.forwarding.proofs.lending.left_by_hop.Tie as tie
+
+hop-requires : tie.Need-hop-requires
+hop-requires c κs = search needs
+
+packet-after-hop-requires : tie.Need-packet-after-hop-requires
+packet-after-hop-requires c κs = search needs
+
+returns : tie.Need-returns
+unfolding hoppingPacket
+returns c = rw (← c .before .hop .ensures, c .packet-after-hop .ensures)
+
+pub left-by-hop-spec : {M : Type 1} → statement M
+left-by-hop-spec = tie.close (tie.spec hop-requires packet-after-hop-requires returns)

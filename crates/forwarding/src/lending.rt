@@ -1,0 +1,109 @@
+// The packet lent by &mut (01, Packet, hop and schedule): two thin calls over the setting and the hop by value, and two that lend a local to them.
+use super::Hopped;
+use super::Packet;
+use super::Setting;
+use stations::Place;
+use stations::Topology;
+ghost use mathlib.Core.Path.{_≡_};
+ghost use Rattle.forwarding.specs.Calls.{packetIn, settingSays, hopSays};
+ghost use Rattle.forwarding.specs.Lent.{afterSetting, afterHop, settingPacket, hoppingPacket};
+
+// What a setting of a packet answers, and the packet as it leaves it.
+pub struct AfterSetting {
+    pub answer: Setting,
+    pub packet: Packet,
+}
+
+// What a hop of a packet answers, and the packet as it leaves it.
+pub struct AfterHop {
+    pub answer: Hopped,
+    pub packet: Packet,
+}
+
+// A setting not refused leaves the packet that it set, a refused one the packet of before.
+fn packet_after_setting(answer: Setting, packet: Packet) -> Packet
+    ensures { λ r. ⌜ packetIn r ≡ afterSetting (packetIn packet) (settingSays answer) ⌝ }
+{
+    match answer {
+        Setting::Set(set) => set,
+        Setting::Refused(_) => packet,
+    }
+}
+
+// Only moved changes the packet.
+fn packet_after_hop(answer: Hopped, packet: Packet) -> Packet
+    ensures { λ r. ⌜ packetIn r ≡ afterHop (packetIn packet) (hopSays answer) ⌝ }
+{
+    match answer {
+        Hopped::Delivered => packet,
+        Hopped::Moved(moved) => moved,
+        Hopped::Dropped => packet,
+        Hopped::Refused(_) => packet,
+    }
+}
+
+// What a setting of this packet answers and leaves.
+fn left_by_setting(packet: Packet, t: Topology, start: Place) -> AfterSetting
+    ensures { λ r. ⌜ record { answer = settingSays (r .answer); packet = packetIn (r .packet) } ≡ settingPacket t (start .0) (packetIn packet) ⌝ }
+{
+    let answer = super::set(t, start);
+    let after = packet_after_setting(answer, packet);
+    AfterSetting {
+        answer: answer,
+        packet: after,
+    }
+}
+
+// What a hop of this packet answers and leaves.
+fn left_by_hop(packet: Packet, t: Topology, table: &[u8], states: &[u8]) -> AfterHop
+    ensures { λ r. ⌜ record { answer = hopSays (r .answer); packet = packetIn (r .packet) } ≡ hoppingPacket t (now (table .entry)) (now (states .entry)) (packetIn packet) ⌝ }
+{
+    let answer = super::hop(t, table, states, packet);
+    let after = packet_after_hop(answer, packet);
+    AfterHop {
+        answer: answer,
+        packet: after,
+    }
+}
+
+// Sets the packet, its old contents untested, to a start with 0 hops made: refusals 14 and 15, which leave it as it was.
+pub fn set_packet(packet: &mut Packet, t: Topology, start: Place) -> Setting
+    ensures { λ r. ⌜ record { answer = settingSays r; packet = packetIn (now (packet .exit)) } ≡ settingPacket t (start .0) (packetIn (now (packet .entry))) ⌝ }
+{
+    let left = left_by_setting(*packet, t, start);
+    *packet = left.packet;
+    left.answer
+}
+
+// Makes one hop of the packet under a row of link states: refusals 14, 15 and 21 to 23, which leave it as it was.
+pub fn hop_packet(packet: &mut Packet, t: Topology, table: &[u8], states: &[u8]) -> Hopped
+    ensures { λ r. ⌜ record { answer = hopSays r; packet = packetIn (now (packet .exit)) } ≡ hoppingPacket t (now (table .entry)) (now (states .entry)) (packetIn (now (packet .entry))) ⌝ }
+{
+    let left = left_by_hop(*packet, t, table, states);
+    *packet = left.packet;
+    left.answer
+}
+
+// Lends a local with this packet to `set_packet`, for callers that the borrow checker is to cover.
+pub fn lend_to_set(packet: Packet, t: Topology, start: Place) -> AfterSetting
+    ensures { λ r. ⌜ record { answer = settingSays (r .answer); packet = packetIn (r .packet) } ≡ settingPacket t (start .0) (packetIn packet) ⌝ }
+{
+    let mut lent = packet;
+    let answer = set_packet(&mut lent, t, start);
+    AfterSetting {
+        answer: answer,
+        packet: lent,
+    }
+}
+
+// Lends a local with this packet to `hop_packet`.
+pub fn lend_to_hop(packet: Packet, t: Topology, table: &[u8], states: &[u8]) -> AfterHop
+    ensures { λ r. ⌜ record { answer = hopSays (r .answer); packet = packetIn (r .packet) } ≡ hoppingPacket t (now (table .entry)) (now (states .entry)) (packetIn packet) ⌝ }
+{
+    let mut lent = packet;
+    let answer = hop_packet(&mut lent, t, table, states);
+    AfterHop {
+        answer: answer,
+        packet: lent,
+    }
+}
