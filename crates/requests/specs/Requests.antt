@@ -16,7 +16,8 @@ use Rattle.order.specs.declared.Mode.the-variants as mode
 use Rattle.order.specs.Calls.{building, checking}
 use Rattle.table.specs.Calls.{filling, tableChecking}
 use Rattle.forwarding.specs.Calls as said
-use Rattle.forwarding.specs.Calls.{Said, countingHops, settingAt, hopping, walking}
+use Rattle.forwarding.specs.Calls.{Said, countingHops, walking}
+use Rattle.forwarding.specs.Lent.{Left, settingPacket, hoppingPacket}
 use Rattle.text.specs.declared.unchecked.fields.Value.{Value}
 use Rattle.text.specs.declared.unchecked.fields.Value.the-variants.{Is, Wrong}
 use Rattle.requests.specs.declared.unchecked.asked.Aim.{Aim}
@@ -101,17 +102,25 @@ droppedWord = 100 ∷ 114 ∷ 111 ∷ 112 ∷ 112 ∷ 101 ∷ 100 ∷ []
 unfoldable pub packetLine : List ℕ → Packet ℕ → List ℕ
 packetLine word p = wordLine word (p .station) (p .hops)
 
--- what a setting answers: the packet that was set is held from then on
-unfoldable pub setAnswer : Held → Said (Packet ℕ) → Answered
-setAnswer h (said.done p) = record { held = carrying h p; text = packetLine setWord p }
-setAnswer h (said.refused number at) = unchanged h (wordLine refusedWord number at)
+-- what a setting says, with the packet as it is then
+unfoldable pub setText : Said (Packet ℕ) → Packet ℕ → List ℕ
+setText (said.done q) p = packetLine setWord p
+setText (said.refused number at) p = wordLine refusedWord number at
 
--- what a hop answers, with the packet as it is then: one that moved is held from then on
-unfoldable pub hopAnswer : Held → Said (Hop ℕ) → Answered
-hopAnswer h (said.done delivered) = unchanged h (packetLine deliveredWord (h .packet))
-hopAnswer h (said.done (moved p)) = record { held = carrying h p; text = packetLine movedWord p }
-hopAnswer h (said.done dropped) = unchanged h (packetLine droppedWord (h .packet))
-hopAnswer h (said.refused number at) = unchanged h (wordLine refusedWord number at)
+-- what a hop says, with the packet as it is then
+unfoldable pub hopText : Said (Hop ℕ) → Packet ℕ → List ℕ
+hopText (said.done delivered) p = packetLine deliveredWord p
+hopText (said.done (moved q)) p = packetLine movedWord p
+hopText (said.done dropped) p = packetLine droppedWord p
+hopText (said.refused number at) p = wordLine refusedWord number at
+
+-- the packet as a setting left it is held from then on
+unfoldable pub setAnswer : Held → Left (Packet ℕ) → Answered
+setAnswer h l = record { held = carrying h (l .packet); text = setText (l .answer) (l .packet) }
+
+-- as a hop left it
+unfoldable pub hopAnswer : Held → Left (Hop ℕ) → Answered
+hopAnswer h l = record { held = carrying h (l .packet); text = hopText (l .answer) (l .packet) }
 
 -- what a walk answers; no walk that a call answers is unfinished
 unfoldable pub walkText : Said (Walk ℕ) → List ℕ
@@ -186,12 +195,12 @@ loadPacketBy h Wrong hops = refused h
 
 -- `set START`, where the field holds this
 unfoldable pub setBy : Held → Value → Answered
-setBy h (Is u) = setAnswer h (settingAt (h .topology) u)
+setBy h (Is u) = setAnswer h (settingPacket (h .topology) u (h .packet))
 setBy h Wrong = refused h
 
 -- `hop STATES`, where the field is of this count, and its bytes
 unfoldable pub hopBy : Held → Value → List ℕ → Answered
-hopBy h (Is n) states = hopAnswer h (hopping (h .topology) (h .table) states (h .packet))
+hopBy h (Is n) states = hopAnswer h (hoppingPacket (h .topology) (h .table) states (h .packet))
 hopBy h Wrong states = refused h
 
 -- `walk START SCHEDULE`, where the fields hold this, the last a count of bytes, and these are the bytes

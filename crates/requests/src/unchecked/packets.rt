@@ -1,4 +1,4 @@
-// The requests that set, move and walk packets. What was set or moved is held from then on.
+// The requests that set, move and walk packets. The packet is lent to the call, and held from then on as the call left it.
 use super::asked;
 use super::asked::BYTE;
 use super::calls::Holding;
@@ -68,13 +68,13 @@ pub fn set(h: Holding, line: &[u8]) -> Step
         };
     };
     let t = h.topology;
-    let setting = forwarding::set(t, Place(u as u8));
-    match setting {
-        Setting::Set(p) => carry(h, p, Reply::Set(p)),
-        Setting::Refused(a) => Step {
-            held: h,
-            reply: Reply::Refused(a),
-        },
+    let packet = h.packet;
+    let after = forwarding::lend_to_set(packet, t, Place(u as u8));
+    let left = after.packet;
+    let answer = after.answer;
+    match answer {
+        Setting::Set(_) => carry(h, left, Reply::Set(left)),
+        Setting::Refused(a) => carry(h, left, Reply::Refused(a)),
     }
 }
 
@@ -93,21 +93,14 @@ pub fn hop(h: Holding, table: &[u8], line: &[u8]) -> Step
     let t = h.topology;
     let size = h.size;
     let packet = h.packet;
-    let hopped = forwarding::hop(t, &table[..size], &bytes[..n], packet);
-    match hopped {
-        Hopped::Delivered => Step {
-            held: h,
-            reply: Reply::Delivered(packet),
-        },
-        Hopped::Moved(p) => carry(h, p, Reply::Moved(p)),
-        Hopped::Dropped => Step {
-            held: h,
-            reply: Reply::Dropped(packet),
-        },
-        Hopped::Refused(a) => Step {
-            held: h,
-            reply: Reply::Refused(a),
-        },
+    let after = forwarding::lend_to_hop(packet, t, &table[..size], &bytes[..n]);
+    let left = after.packet;
+    let answer = after.answer;
+    match answer {
+        Hopped::Delivered => carry(h, left, Reply::Delivered(left)),
+        Hopped::Moved(_) => carry(h, left, Reply::Moved(left)),
+        Hopped::Dropped => carry(h, left, Reply::Dropped(left)),
+        Hopped::Refused(a) => carry(h, left, Reply::Refused(a)),
     }
 }
 

@@ -1,14 +1,14 @@
--- The states stand at the start of the buffer, and what the call says is what the request answers; a packet that moved is held.
+-- The states stand at the start of the buffer, and what the call says, with the packet as it left it, is what the request answers.
 -- Assumes nothing.
 use mathlib.Core.Path.{_≡_, refl, sym, _∙_}
 use lib.Seq.{length-take-le}
 use Rattle.text.specs.declared.unchecked.fields.Value.the-variants.{Is, Wrong}
 use Rattle.text.specs.Fields.{field}
 use Rattle.text.specs.Hex.{byteCount}
-use Rattle.forwarding.specs.Calls.{hopSays}
-use Rattle.requests.specs.Requests.{hopIn, hopBy, hopAnswer}
+use Rattle.forwarding.specs.Calls.{packetIn, hopSays}
+use Rattle.requests.specs.Requests.{hopIn, hopBy, hopAnswer, hopText}
 use Rattle.requests.specs.Replies.{heldIn, replyText, roomOf}
-use Rattle.requests.proofs.Replying.{error-step, kept-step, carried-step, plain-reply}
+use Rattle.requests.proofs.Replying.{error-step, carried-step, plain-reply}
 use borrow.Author.Needs.{needs}
 use Rattle.requests.proofs.unchecked.packets.hop.Statement.{statement}
 use Rattle.requests.proofs.unchecked.packets.hop.Tie as tie
@@ -17,14 +17,13 @@ use Rattle.requests.proofs.unchecked.packets.hop.Tie as tie
 held : (c : tie.After-known-told) → byteCount (field 1 (c .before .before .before .before .before .before .before .before .before .args .line .now)) ≡ Is (c .before .n .given .0 .0)
 held c = sym (c .before .before .before .before .bytes-in .ensures .counted) ∙ c .before .n .given .1
 
--- what the call says is answered
-said : (c : tie.After-hop) →
-    hopIn (heldIn (c .before .before .before .before .before .before .before .before .before .before .before .before .before .before .args .h) (c .before .before .before .before .before .before .before .before .before .before .before .before .before .before .args .table .now)) (c .before .before .before .before .before .before .before .before .before .before .before .before .before .before .args .line .now) ≡
-    hopAnswer (heldIn (c .before .before .before .before .before .before .before .before .before .before .before .before .before .before .args .h) (c .before .before .before .before .before .before .before .before .before .before .before .before .before .before .args .table .now)) (hopSays (c .hop .result))
+-- what the call says and leaves is answered
+said : (c : tie.After-lend-to-hop) → let a = c .before .before .before .before .before .before .before .before .before .before .before .before .before .before .args in
+    hopIn (heldIn (a .h) (a .table .now)) (a .line .now) ≡ hopAnswer (heldIn (a .h) (a .table .now)) (record { answer = hopSays (c .lend-to-hop .result .answer); packet = packetIn (c .lend-to-hop .result .packet) })
 unfolding hopIn hopBy heldIn
 said c =
     let known = c .before .before .before .before .before in
-    rw (held known, ← known .before .before .before .before .bytes-in .ensures .start _ (held known) .0, c .hop .ensures)
+    rw (held known, ← known .before .before .before .before .bytes-in .ensures .start _ (held known) .0, ← c .lend-to-hop .ensures)
 
 room-for-bytes-requires : tie.Need-room-for-bytes-requires
 room-for-bytes-requires c κs = search needs
@@ -47,23 +46,20 @@ returns c buffer =
     let e : byteCount (field 1 (c .before .before .before .before .before .before .before .before .args .line .now)) ≡ Wrong = sym (c .before .before .before .bytes-in .ensures .counted) ∙ c .enum-told .given .1 in
     rw (e) (error-step (c .before .before .before .before .before .before .before .before .pre .0))
 
-slice-aggregate-hop : tie.Need-slice-aggregate-hop
-slice-aggregate-hop c = sym (length-take-le _ _ (c .before .before .before .before .before .before .before .before .before .before .before .before .pre .0))
+slice-aggregate-lend-to-hop : tie.Need-slice-aggregate-lend-to-hop
+slice-aggregate-lend-to-hop c = sym (length-take-le _ _ (c .before .before .before .before .before .before .before .before .before .before .before .before .pre .0))
 
 array-share-prefix-bytes : tie.Need-array-share-prefix-bytes
 array-share-prefix-bytes c = c .before .before .before .before .before .before .before .bytes-in .ensures .start _ (held (c .before .before .before)) .1
 
-slice-aggregate-hop-2 : tie.Need-slice-aggregate-hop-2
-slice-aggregate-hop-2 c = sym (length-take-le _ _ (c .before .before .before .before .before .before .before .before .bytes-in .ensures .start _ (held (c .before .before .before .before)) .1))
+slice-aggregate-lend-to-hop-2 : tie.Need-slice-aggregate-lend-to-hop-2
+slice-aggregate-lend-to-hop-2 c = sym (length-take-le _ _ (c .before .before .before .before .before .before .before .before .bytes-in .ensures .start _ (held (c .before .before .before .before)) .1))
 
-hop-requires : tie.Need-hop-requires
-hop-requires c κs = search needs
+lend-to-hop-requires : tie.Need-lend-to-hop-requires
+lend-to-hop-requires c κs = search needs
 
 enum-told-2 : tie.Need-enum-told-2
 enum-told-2 c = search needs
-
-enum-known-hopped : tie.Need-enum-known-hopped
-enum-known-hopped c = search needs
 
 carry-requires : tie.Need-carry-requires
 carry-requires c κs = search needs
@@ -71,26 +67,48 @@ carry-requires c κs = search needs
 enum-told-3 : tie.Need-enum-told-3
 enum-told-3 c = search needs
 
-enum-known-hopped-2 : tie.Need-enum-known-hopped-2
-enum-known-hopped-2 c = search needs
+carry-requires-2 : tie.Need-carry-requires-2
+carry-requires-2 c κs = search needs
+
+enum-told-4 : tie.Need-enum-told-4
+enum-told-4 c = search needs
+
+carry-requires-3 : tie.Need-carry-requires-3
+carry-requires-3 c κs = search needs
+
+enum-known-answer : tie.Need-enum-known-answer
+enum-known-answer c = search needs
+
+carry-requires-4 : tie.Need-carry-requires-4
+carry-requires-4 c κs = search needs
 
 returns-2 : tie.Need-returns-2
-unfolding hopAnswer hopSays heldIn replyText roomOf
-returns-2 c buffer = rw (said (c .before .before), c .enum-told2 .given .1) (kept-step (c .before .before .before .before .before .before .before .before .before .before .before .before .before .before .before .before .pre .0) (plain-reply refl))
+unfolding hopAnswer hopText hopSays heldIn replyText roomOf
+returns-2 c buffer =
+    let call = c .before .before .before .before in
+    let start = call .before .before .before .before .before .before .before .before .before .before .before .before .before .before in
+    rw (said call, c .before .enum-told2 .given .1) (carried-step (start .args .h) _ (c .carry .ensures) (start .pre .0) (plain-reply refl))
 
 returns-3 : tie.Need-returns-3
-unfolding hopAnswer hopSays heldIn replyText roomOf
+unfolding hopAnswer hopText hopSays heldIn replyText roomOf
 returns-3 c buffer =
-    let entry = c .before .before .before .before .before .before .before .before .before .before .before .before .before .before .before .before .before .before in
-    rw (said (c .before .before .before .before), c .before .before .hopped .given .1) (carried-step (entry .args .h) _ (c .carry .ensures) (entry .pre .0) (plain-reply refl))
+    let call = c .before .before .before .before in
+    let start = call .before .before .before .before .before .before .before .before .before .before .before .before .before .before in
+    rw (said call, c .before .enum-told3 .given .1) (carried-step (start .args .h) _ (c .carry2 .ensures) (start .pre .0) (plain-reply refl))
 
 returns-4 : tie.Need-returns-4
-unfolding hopAnswer hopSays heldIn replyText roomOf
-returns-4 c buffer = rw (said (c .before .before), c .enum-told3 .given .1) (kept-step (c .before .before .before .before .before .before .before .before .before .before .before .before .before .before .before .before .pre .0) (plain-reply refl))
+unfolding hopAnswer hopText hopSays heldIn replyText roomOf
+returns-4 c buffer =
+    let call = c .before .before .before .before in
+    let start = call .before .before .before .before .before .before .before .before .before .before .before .before .before .before in
+    rw (said call, c .before .enum-told4 .given .1) (carried-step (start .args .h) _ (c .carry3 .ensures) (start .pre .0) (plain-reply refl))
 
 returns-5 : tie.Need-returns-5
-unfolding hopAnswer hopSays heldIn replyText roomOf
-returns-5 c buffer = rw (said (c .before .before .before), c .before .hopped2 .given .1) (kept-step (c .before .before .before .before .before .before .before .before .before .before .before .before .before .before .before .before .before .pre .0) (plain-reply refl))
+unfolding hopAnswer hopText hopSays heldIn replyText roomOf
+returns-5 c buffer =
+    let call = c .before .before .before .before .before in
+    let start = call .before .before .before .before .before .before .before .before .before .before .before .before .before .before in
+    rw (said call, c .before .before .answer .given .1) (carried-step (start .args .h) _ (c .carry4 .ensures) (start .pre .0) (plain-reply refl))
 
 pub hop-spec : {M : Type 1} → statement M
 hop-spec =
@@ -102,15 +120,18 @@ hop-spec =
     enum-known-n
     enum-told
     returns
-    slice-aggregate-hop
+    slice-aggregate-lend-to-hop
     array-share-prefix-bytes
-    slice-aggregate-hop-2
-    hop-requires
+    slice-aggregate-lend-to-hop-2
+    lend-to-hop-requires
     enum-told-2
-    enum-known-hopped
     carry-requires
     enum-told-3
-    enum-known-hopped-2
+    carry-requires-2
+    enum-told-4
+    carry-requires-3
+    enum-known-answer
+    carry-requires-4
     returns-2
     returns-3
     returns-4

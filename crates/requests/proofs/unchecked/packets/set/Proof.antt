@@ -1,4 +1,4 @@
--- The start is a field, and what the call says is what the request answers; a packet that was set is held.
+-- The start is a field, and what the call says, with the packet as it left it, is what the request answers.
 -- Assumes nothing.
 use Prim.Native.Nat.{ℕ}
 use mathlib.Core.List.{List}
@@ -8,10 +8,10 @@ use Rattle.text.specs.declared.unchecked.fields.Value.the-variants.{Is, Wrong}
 use Rattle.text.specs.Fields.{field}
 use Rattle.text.specs.Numbers.{number}
 use Rattle.text.proofs.Numbers.{number-bound}
-use Rattle.forwarding.specs.Calls.{settingSays}
-use Rattle.requests.specs.Requests.{mostByte, setIn, setBy, setAnswer}
+use Rattle.forwarding.specs.Calls.{packetIn, settingSays}
+use Rattle.requests.specs.Requests.{mostByte, setIn, setBy, setAnswer, setText}
 use Rattle.requests.specs.Replies.{heldIn, replyText, roomOf}
-use Rattle.requests.proofs.Replying.{error-step, kept-step, carried-step, plain-reply}
+use Rattle.requests.proofs.Replying.{error-step, carried-step, plain-reply}
 use borrow.Author.Needs.{needs}
 use Rattle.requests.proofs.unchecked.packets.set.Statement.{statement}
 use Rattle.requests.proofs.unchecked.packets.set.Tie as tie
@@ -20,11 +20,11 @@ use Rattle.requests.proofs.unchecked.packets.set.Tie as tie
 held : (c : tie.After-known-told) → number mostByte (field 1 (c .before .before .before .before .before .args .line .now)) ≡ Is (c .before .u .given .0 .0)
 held c = sym (c .before .before .before .number-in .ensures) ∙ c .before .u .given .1
 
--- what the call says is answered
-said : (c : tie.After-set) (table : List ℕ) →
-    setIn (heldIn (c .before .before .before .before .before .before .before .args .h) table) (c .before .before .before .before .before .before .before .args .line .now) ≡ setAnswer (heldIn (c .before .before .before .before .before .before .before .args .h) table) (settingSays (c .set .result))
+-- what the call says and leaves is answered
+said : (c : tie.After-lend-to-set) (table : List ℕ) → let a = c .before .before .before .before .before .before .before .before .args in
+    setIn (heldIn (a .h) table) (a .line .now) ≡ setAnswer (heldIn (a .h) table) (record { answer = settingSays (c .lend-to-set .result .answer); packet = packetIn (c .lend-to-set .result .packet) })
 unfolding setIn setBy heldIn
-said c table = rw (held (c .before .before), c .set .ensures)
+said c table = rw (held (c .before .before .before), ← c .lend-to-set .ensures)
 
 number-in-requires : tie.Need-number-in-requires
 number-in-requires c κs = search needs
@@ -41,29 +41,37 @@ returns c table buffer h =
     let e : number mostByte (field 1 (c .before .before .before .before .args .line .now)) ≡ Wrong = sym (c .before .before .number-in .ensures) ∙ c .enum-told .given .1 in
     rw (e) (error-step h)
 
-cast-t10 : tie.Need-cast-t10
-cast-t10 c = omega (arith, number-bound mostByte _ _ (held (c .before)))
+cast-t12 : tie.Need-cast-t12
+cast-t12 c = omega (arith, number-bound mostByte _ _ (held (c .before .before)))
 
-set-requires : tie.Need-set-requires
-set-requires c κs = search needs
+lend-to-set-requires : tie.Need-lend-to-set-requires
+lend-to-set-requires c κs = search needs
 
-enum-known-setting : tie.Need-enum-known-setting
-enum-known-setting c = search needs
+enum-told-2 : tie.Need-enum-told-2
+enum-told-2 c = search needs
 
 carry-requires : tie.Need-carry-requires
 carry-requires c κs = search needs
 
-enum-known-setting-2 : tie.Need-enum-known-setting-2
-enum-known-setting-2 c = search needs
+enum-known-answer : tie.Need-enum-known-answer
+enum-known-answer c = search needs
+
+carry-requires-2 : tie.Need-carry-requires-2
+carry-requires-2 c κs = search needs
 
 returns-2 : tie.Need-returns-2
-unfolding setAnswer settingSays heldIn replyText roomOf
+unfolding setAnswer setText settingSays heldIn replyText roomOf
 returns-2 c table buffer h =
-    rw (said (c .before .before .before .before) table, c .before .before .setting .given .1) (carried-step (c .before .before .before .before .before .before .before .before .before .before .before .args .h) _ (c .carry .ensures) h (plain-reply refl))
+    let call = c .before .before .before .before in
+    let a = call .before .before .before .before .before .before .before .before .args in
+    rw (said call table, c .before .enum-told2 .given .1) (carried-step (a .h) _ (c .carry .ensures) h (plain-reply refl))
 
 returns-3 : tie.Need-returns-3
-unfolding setAnswer settingSays heldIn replyText roomOf
-returns-3 c table buffer h = rw (said (c .before .before .before) table, c .before .setting2 .given .1) (kept-step h (plain-reply refl))
+unfolding setAnswer setText settingSays heldIn replyText roomOf
+returns-3 c table buffer h =
+    let call = c .before .before .before .before .before in
+    let a = call .before .before .before .before .before .before .before .before .args in
+    rw (said call table, c .before .before .answer .given .1) (carried-step (a .h) _ (c .carry2 .ensures) h (plain-reply refl))
 
 pub set-spec : {M : Type 1} → statement M
 set-spec =
@@ -73,10 +81,11 @@ set-spec =
     enum-known-u
     enum-told
     returns
-    cast-t10
-    set-requires
-    enum-known-setting
+    cast-t12
+    lend-to-set-requires
+    enum-told-2
     carry-requires
-    enum-known-setting-2
+    enum-known-answer
+    carry-requires-2
     returns-2
     returns-3)
