@@ -8,7 +8,7 @@ use lib.Dec.{leb}
 use lib.ListN.{length, take}
 use Rattle.text.specs.Fields.{asks}
 use Rattle.text.specs.Lines.{Put}
-use Rattle.requests.specs.Requests.{Held, Answered, unchanged, refused, setWord, readIn, loadIn, writeIn, orderIn, checkOrderIn, fillIn, checkTable, countIn, loadPacketIn, setIn, hopIn, walkIn}
+use Rattle.requests.specs.Requests.{Held, Answered, unchanged, refused, setWord, readIn, loadIn, writeIn, orderIn, checkOrderIn, fillIn, checkTable, countIn, loadPacketIn, setIn, hopIn, walkIn, listIn}
 use Rattle.requests.specs.Replies.{heldIn}
 use Rattle.console.specs.declared.answers.Turn.{Turn}
 use Rattle.console.specs.declared.answers.Request.{Request}
@@ -58,6 +58,10 @@ hopWord = 104 ∷ 111 ∷ 112 ∷ []
 unfoldable pub walkWord : List ℕ
 walkWord = 119 ∷ 97 ∷ 108 ∷ 107 ∷ []
 
+-- `listing`
+unfoldable pub listingWord : List ℕ
+listingWord = 108 ∷ 105 ∷ 115 ∷ 116 ∷ 105 ∷ 110 ∷ 103 ∷ []
+
 -- A request's first word, and the number of fields after it.
 pub record Form : Type 0 where
   pub word : List ℕ
@@ -77,7 +81,8 @@ forms =
     record { word = loadPacketWord; fields = 2; request = request.LoadPacket } ∷
     record { word = setWord; fields = 1; request = request.Set } ∷
     record { word = hopWord; fields = 1; request = request.Hop } ∷
-    record { word = walkWord; fields = 2; request = request.Walk } ∷ []
+    record { word = walkWord; fields = 2; request = request.Walk } ∷
+    record { word = listingWord; fields = 2; request = request.Listing } ∷ []
 
 -- the request of the first form that a line has
 unfoldable pub formed : List Form → List ℕ → Request
@@ -102,6 +107,7 @@ answerTo request.LoadPacket h line = loadPacketIn h line
 answerTo request.Set h line = setIn h line
 answerTo request.Hop h line = hopIn h line
 answerTo request.Walk h line = unchanged h (walkIn h line)
+answerTo request.Listing h line = unchanged h (listIn (h .topology) line)
 answerTo request.Unknown h line = refused h
 
 -- what a line answers

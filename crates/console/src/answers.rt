@@ -27,6 +27,7 @@ pub enum Request {
     Set,
     Hop,
     Walk,
+    Listing,
     Unknown,
 }
 
@@ -75,6 +76,9 @@ fn request_in(line: &[u8]) -> Request
     if fields::asks(line, b"walk", 2) {
         return Request::Walk;
     }
+    if fields::asks(line, b"listing", 2) {
+        return Request::Listing;
+    }
     Request::Unknown
 }
 
@@ -118,6 +122,10 @@ fn step(h: Holding, table: &mut [u8], line: &[u8], buffer: &mut [u8]) -> Step
         Request::Walk => Step {
             held: h,
             reply: packets::walk(h, table, line),
+        },
+        Request::Listing => Step {
+            held: h,
+            reply: calls::list(t, line, buffer),
         },
         Request::Unknown => Step {
             held: h,

@@ -18,6 +18,7 @@ use Rattle.table.specs.Calls.{filling, tableChecking}
 use Rattle.forwarding.specs.Calls as said
 use Rattle.forwarding.specs.Calls.{Said, countingHops, walking}
 use Rattle.forwarding.specs.Lent.{Left, settingPacket, hoppingPacket}
+use Rattle.report.specs.Listing.{listing}
 use Rattle.text.specs.declared.unchecked.fields.Value.{Value}
 use Rattle.text.specs.declared.unchecked.fields.Value.the-variants.{Is, Wrong}
 use Rattle.requests.specs.declared.unchecked.asked.Aim.{Aim}
@@ -187,6 +188,12 @@ unfoldable pub countBy : Held → Value → List ℕ
 countBy h (Is room) = bufferOf (countingHops (h .topology) (h .table) (lent room))
 countBy h Wrong = errorLine
 
+-- `listing D ROOM`, where the fields hold this
+unfoldable pub listBy : Topology → Value → Value → List ℕ
+listBy t (Is d) (Is room) = bufferOf (listing t d (lent room))
+listBy t (Is d) Wrong = errorLine
+listBy t Wrong room = errorLine
+
 -- `load-packet STATION HOPS`, where the fields hold this: it is held from then on
 unfoldable pub loadPacketBy : Held → Value → Value → Answered
 loadPacketBy h (Is station) (Is hops) = record { held = carrying h (record { station = station; hops = hops }); text = answerLine 0 0 }
@@ -238,6 +245,9 @@ checkTable h = answerOf (tableChecking (h .topology) (h .table))
 
 unfoldable pub countIn : Held → List ℕ → List ℕ
 countIn h line = countBy h (number mostRoom (field 1 line))
+
+unfoldable pub listIn : Topology → List ℕ → List ℕ
+listIn t line = listBy t (number mostByte (field 1 line)) (number mostRoom (field 2 line))
 
 unfoldable pub loadPacketIn : Held → List ℕ → Answered
 loadPacketIn h line = loadPacketBy h (number mostByte (field 1 line)) (number mostByte (field 2 line))

@@ -41,15 +41,6 @@ within c =
 loop-holds : tie.Need-loop-holds Inv-loop μ-loop
 loop-holds c = (refl, refl, c .before .before .before .pre .0 .size, refl)
 
-sub-rest : tie.Need-sub-rest Inv-loop μ-loop
-sub-rest c = omega arith
-
-part-rest-start : tie.Need-part-rest-start Inv-loop μ-loop
-part-rest-start c = omega arith
-
-part-rest-end : tie.Need-part-rest-end Inv-loop μ-loop
-part-rest-end c = omega arith
-
 width-requires : tie.Need-width-requires Inv-loop μ-loop
 width-requires c κs = tt
 
@@ -70,9 +61,6 @@ add-at-2 : tie.Need-add-at-2 Inv-loop μ-loop
 add-at-2 c =
     let width = c .before .before .before .before .before .before .before .before in
     omega (arith, within width, width .before .before .before .before .before .before .before .good .1 .1 .1 .0 .1)
-
-loop-less : tie.Need-loop-less Inv-loop μ-loop
-loop-less c = omega arith
 
 loop-again : tie.Need-loop-again Inv-loop μ-loop
 loop-again c =
@@ -104,15 +92,15 @@ take-spec =
     Inv-loop
     μ-loop
     loop-holds
-    sub-rest
-    part-rest-start
-    part-rest-end
+    (λ c. omega arith)
+    (λ c. omega arith)
+    (λ c. omega arith)
     width-requires
     slice-aggregate-take-part
     take-part-requires
     add-at
     add-at-2
-    loop-less
+    (λ c. omega arith)
     loop-again
     same-length
     same-length-2

@@ -17,18 +17,6 @@ use borrow.Author.Needs.{needs}
 use Rattle.listing.proofs.put_output.Statement.{statement}
 use Rattle.listing.proofs.put_output.Tie as tie
 
-read-requires : tie.Need-read-requires
-read-requires c κs = search needs
-
-slice-aggregate-put-word-line : tie.Need-slice-aggregate-put-word-line
-slice-aggregate-put-word-line c = search needs
-
-put-word-line-requires : tie.Need-put-word-line-requires
-put-word-line-requires c κs = search needs
-
-same-length : tie.Need-same-length
-same-length c = search needs
-
 -- what was read
 module _ (c : tie.After-read) where
   abbrev start : tie.Start
@@ -57,9 +45,6 @@ put-all-requires c κs =
     let good = its-topology r (c .before .before .before .if1 .left) in
     (good, c .before .of .ensures, omega (arith, sound-exact _ .0 good .routers-most, start r .pre))
 
-same-length-2 : tie.Need-same-length-2
-same-length-2 c = search needs
-
 returns-2 : tie.Need-returns-2
 unfolding output printed
 returns-2 c =
@@ -73,12 +58,12 @@ pub put-output-spec : {M : Type 1} → statement M
 put-output-spec =
     tie.close
     (tie.spec
-    read-requires
-    slice-aggregate-put-word-line
-    put-word-line-requires
-    same-length
+    (λ c κs. search needs)
+    (λ c. search needs)
+    (λ c κs. search needs)
+    (λ c. search needs)
     returns
     of-requires
     put-all-requires
-    same-length-2
+    (λ c. search needs)
     returns-2)

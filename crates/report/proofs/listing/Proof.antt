@@ -18,9 +18,6 @@ use borrow.Author.Needs.{needs}
 use Rattle.report.proofs.listing.Statement.{statement}
 use Rattle.report.proofs.listing.Tie as tie
 
-is-sound-requires : tie.Need-is-sound-requires
-is-sound-requires c κs = search needs
-
 returns : tie.Need-returns
 unfolding listing turnedAway
 returns c = rw (sym (c .before .is-sound .ensures) ∙ not-true _ (c .if1 .taken))
@@ -32,9 +29,6 @@ good c = sym (c .before .is-sound .ensures) ∙ not-false _ (c .if1 .left)
 passed : (c : tie.Else1) → T (sound (c .before .before .before .args .t))
 passed c = rw (good c) tt
 
-index-requires : tie.Need-index-requires
-index-requires c κs = search needs
-
 returns-2 : tie.Need-returns-2
 unfolding listing turnedAway
 returns-2 c =
@@ -42,14 +36,8 @@ returns-2 c =
     let outside : ltb (a .destination .0) (a .t .routers) ≡ false = le-ltb (a .destination .0) (a .t .routers) (omega (arith, c .before .before .index .ensures, c .if2 .taken)) in
     rw (good (c .before .before .before), outside, c .before .before .index .ensures)
 
-room-for-lines-requires : tie.Need-room-for-lines-requires
-room-for-lines-requires c κs = search needs
-
 of-requires : tie.Need-of-requires
 of-requires c κs = passed (c .before .before .before .before)
-
-slice-aggregate-put-lines : tie.Need-slice-aggregate-put-lines
-slice-aggregate-put-lines c = search needs
 
 -- the destination is one of its places
 place : (c : tie.Else2) → let a = c .before .before .before .before .before .before .args in a .destination .0 < a .t .routers
@@ -98,9 +86,6 @@ slice-aggregate-put c = let p = c .before .before .before .before in sym (ap len
 put-requires : tie.Need-put-requires
 put-requires c κs = let p = c .before .before .before .before in omega (arith, ap length (front p) ∙ needed p, c .before .before .if3 .left)
 
-same-length : tie.Need-same-length
-same-length c = search needs
-
 returns-4 : tie.Need-returns-4
 unfolding listing given
 returns-4 c =
@@ -113,17 +98,17 @@ pub listing-spec : {M : Type 1} → statement M
 listing-spec =
     tie.close
     (tie.spec
-    is-sound-requires
+    (λ c κs. search needs)
     returns
-    index-requires
+    (λ c κs. search needs)
     returns-2
-    room-for-lines-requires
+    (λ c κs. search needs)
     of-requires
-    slice-aggregate-put-lines
+    (λ c. search needs)
     put-lines-requires
     returns-3
     array-share-prefix-lines
     slice-aggregate-put
     put-requires
-    same-length
+    (λ c. search needs)
     returns-4)

@@ -13,7 +13,7 @@ ghost use mathlib.Core.List.{List};
 ghost use mathlib.Core.Path.{_≡_};
 ghost use Prim.Native.Nat.{ℕ, _≤_};
 ghost use lib.ListN.{length};
-ghost use Rattle.requests.specs.Requests.{lent, mostRoom, mostLine, readIn, loadIn, writeIn, orderIn, checkOrderIn, fillIn, checkTable, countIn};
+ghost use Rattle.requests.specs.Requests.{lent, mostRoom, mostLine, readIn, loadIn, writeIn, orderIn, checkOrderIn, fillIn, checkTable, countIn, listIn};
 ghost use Rattle.requests.specs.Replies.{Ready, Replies, Stepped, heldIn};
 
 // What is held, but for the table's bytes, which stand at the start of a buffer: the topology, how many bytes the table has, and the packet.
@@ -164,5 +164,20 @@ pub fn count_hops(h: Holding, table: &[u8], line: &[u8], buffer: &mut [u8]) -> R
         return Reply::Error;
     };
     let answer = forwarding::greatest_hops(t, &table[..size], &mut buffer[..n]);
+    Reply::Leaves(answer, n)
+}
+
+// `listing D ROOM`
+pub fn list(t: Topology, line: &[u8], buffer: &mut [u8]) -> Reply
+    requires { ⌜ now buffer ≡ lent mostRoom ⌝ }
+    ensures { λ r. ⌜ Replies (listIn t (now (line .entry))) r (now (buffer .exit)) ⌝ }
+{
+    let Value::Is(d) = asked::number_in(line, 1, BYTE) else {
+        return Reply::Error;
+    };
+    let Value::Is(n) = asked::number_in(line, 2, ROOM) else {
+        return Reply::Error;
+    };
+    let answer = report::listing(t, Place(d as u8), &mut buffer[..n]);
     Reply::Leaves(answer, n)
 }

@@ -7,7 +7,7 @@ use mathlib.Core.Path.{_≡_, sym, _∙_}
 use lib.ListN.{drop}
 use Rattle.text.specs.Fields.{asks}
 use Rattle.requests.specs.Requests.{setWord}
-use Rattle.console.specs.Answers.{topologyWord, writeWord, orderWord, checkOrderWord, fillWord, loadTableWord, checkTableWord, greatestWord, loadPacketWord, hopWord, walkWord, Form, forms, formed, requestIn}
+use Rattle.console.specs.Answers.{topologyWord, writeWord, orderWord, checkOrderWord, fillWord, loadTableWord, checkTableWord, greatestWord, loadPacketWord, hopWord, walkWord, listingWord, Form, forms, formed, requestIn}
 use borrow.Author.Needs.{needs}
 use Rattle.console.proofs.answers.request_in.Statement.{statement}
 use Rattle.console.proofs.answers.request_in.Tie as tie
@@ -61,6 +61,9 @@ line11 c = line10 (c .before .before .before)
 abbrev line12 : tie.Else12 → List ℕ
 line12 c = line11 (c .before .before .before)
 
+abbrev line13 : tie.Else13 → List ℕ
+line13 c = line12 (c .before .before .before)
+
 not-topology : (c : tie.Else1) → NoneOf 1 (line1 c)
 unfolding requestIn forms topologyWord
 not-topology c = has-not _ _ _ (sym (c .before .asks .ensures) ∙ c .if1 .left)
@@ -109,168 +112,107 @@ not-walk : (c : tie.Else12) → NoneOf 12 (line12 c)
 unfolding requestIn forms walkWord
 not-walk c = not-hop (c .before .before .before) ∙ has-not _ _ _ (sym (c .before .asks12 .ensures) ∙ c .if12 .left)
 
-slice-aggregate-asks : tie.Need-slice-aggregate-asks
-slice-aggregate-asks c = search needs
-
-asks-requires : tie.Need-asks-requires
-asks-requires c κs = search needs
+not-listing : (c : tie.Else13) → NoneOf 13 (line13 c)
+unfolding requestIn forms listingWord
+not-listing c = not-walk (c .before .before .before) ∙ has-not _ _ _ (sym (c .before .asks13 .ensures) ∙ c .if13 .left)
 
 returns : tie.Need-returns
 unfolding requestIn forms topologyWord
 returns c = sym (has _ _ _ (sym (c .before .asks .ensures) ∙ c .if1 .taken))
 
-slice-aggregate-asks-2 : tie.Need-slice-aggregate-asks-2
-slice-aggregate-asks-2 c = search needs
-
-asks-requires-2 : tie.Need-asks-requires-2
-asks-requires-2 c κs = search needs
-
 returns-2 : tie.Need-returns-2
 unfolding requestIn forms writeWord
 returns-2 c = sym (not-topology (c .before .before .before) ∙ has _ _ _ (sym (c .before .asks2 .ensures) ∙ c .if2 .taken))
-
-slice-aggregate-asks-3 : tie.Need-slice-aggregate-asks-3
-slice-aggregate-asks-3 c = search needs
-
-asks-requires-3 : tie.Need-asks-requires-3
-asks-requires-3 c κs = search needs
 
 returns-3 : tie.Need-returns-3
 unfolding requestIn forms orderWord
 returns-3 c = sym (not-write (c .before .before .before) ∙ has _ _ _ (sym (c .before .asks3 .ensures) ∙ c .if3 .taken))
 
-slice-aggregate-asks-4 : tie.Need-slice-aggregate-asks-4
-slice-aggregate-asks-4 c = search needs
-
-asks-requires-4 : tie.Need-asks-requires-4
-asks-requires-4 c κs = search needs
-
 returns-4 : tie.Need-returns-4
 unfolding requestIn forms checkOrderWord
 returns-4 c = sym (not-order (c .before .before .before) ∙ has _ _ _ (sym (c .before .asks4 .ensures) ∙ c .if4 .taken))
-
-slice-aggregate-asks-5 : tie.Need-slice-aggregate-asks-5
-slice-aggregate-asks-5 c = search needs
-
-asks-requires-5 : tie.Need-asks-requires-5
-asks-requires-5 c κs = search needs
 
 returns-5 : tie.Need-returns-5
 unfolding requestIn forms fillWord
 returns-5 c = sym (not-check-order (c .before .before .before) ∙ has _ _ _ (sym (c .before .asks5 .ensures) ∙ c .if5 .taken))
 
-slice-aggregate-asks-6 : tie.Need-slice-aggregate-asks-6
-slice-aggregate-asks-6 c = search needs
-
-asks-requires-6 : tie.Need-asks-requires-6
-asks-requires-6 c κs = search needs
-
 returns-6 : tie.Need-returns-6
 unfolding requestIn forms loadTableWord
 returns-6 c = sym (not-fill (c .before .before .before) ∙ has _ _ _ (sym (c .before .asks6 .ensures) ∙ c .if6 .taken))
-
-slice-aggregate-asks-7 : tie.Need-slice-aggregate-asks-7
-slice-aggregate-asks-7 c = search needs
-
-asks-requires-7 : tie.Need-asks-requires-7
-asks-requires-7 c κs = search needs
 
 returns-7 : tie.Need-returns-7
 unfolding requestIn forms checkTableWord
 returns-7 c = sym (not-load-table (c .before .before .before) ∙ has _ _ _ (sym (c .before .asks7 .ensures) ∙ c .if7 .taken))
 
-slice-aggregate-asks-8 : tie.Need-slice-aggregate-asks-8
-slice-aggregate-asks-8 c = search needs
-
-asks-requires-8 : tie.Need-asks-requires-8
-asks-requires-8 c κs = search needs
-
 returns-8 : tie.Need-returns-8
 unfolding requestIn forms greatestWord
 returns-8 c = sym (not-check-table (c .before .before .before) ∙ has _ _ _ (sym (c .before .asks8 .ensures) ∙ c .if8 .taken))
-
-slice-aggregate-asks-9 : tie.Need-slice-aggregate-asks-9
-slice-aggregate-asks-9 c = search needs
-
-asks-requires-9 : tie.Need-asks-requires-9
-asks-requires-9 c κs = search needs
 
 returns-9 : tie.Need-returns-9
 unfolding requestIn forms loadPacketWord
 returns-9 c = sym (not-greatest (c .before .before .before) ∙ has _ _ _ (sym (c .before .asks9 .ensures) ∙ c .if9 .taken))
 
-slice-aggregate-asks-10 : tie.Need-slice-aggregate-asks-10
-slice-aggregate-asks-10 c = search needs
-
-asks-requires-10 : tie.Need-asks-requires-10
-asks-requires-10 c κs = search needs
-
 returns-10 : tie.Need-returns-10
 unfolding requestIn forms setWord
 returns-10 c = sym (not-load-packet (c .before .before .before) ∙ has _ _ _ (sym (c .before .asks10 .ensures) ∙ c .if10 .taken))
 
-slice-aggregate-asks-11 : tie.Need-slice-aggregate-asks-11
-slice-aggregate-asks-11 c = search needs
-
-asks-requires-11 : tie.Need-asks-requires-11
-asks-requires-11 c κs = search needs
-
 returns-11 : tie.Need-returns-11
 unfolding requestIn forms hopWord
 returns-11 c = sym (not-set (c .before .before .before) ∙ has _ _ _ (sym (c .before .asks11 .ensures) ∙ c .if11 .taken))
-
-slice-aggregate-asks-12 : tie.Need-slice-aggregate-asks-12
-slice-aggregate-asks-12 c = search needs
-
-asks-requires-12 : tie.Need-asks-requires-12
-asks-requires-12 c κs = search needs
 
 returns-12 : tie.Need-returns-12
 unfolding requestIn forms walkWord
 returns-12 c = sym (not-hop (c .before .before .before) ∙ has _ _ _ (sym (c .before .asks12 .ensures) ∙ c .if12 .taken))
 
 returns-13 : tie.Need-returns-13
-unfolding forms formed
-returns-13 c = sym (not-walk c)
+unfolding requestIn forms listingWord
+returns-13 c = sym (not-walk (c .before .before .before) ∙ has _ _ _ (sym (c .before .asks13 .ensures) ∙ c .if13 .taken))
+
+returns-14 : tie.Need-returns-14
+unfolding formed forms
+returns-14 c = sym (not-listing c)
 
 pub request-in-spec : {M : Type 1} → statement M
 request-in-spec =
     tie.close
     (tie.spec
-    slice-aggregate-asks
-    asks-requires
+    (λ c. search needs)
+    (λ c κs. search needs)
     returns
-    slice-aggregate-asks-2
-    asks-requires-2
+    (λ c. search needs)
+    (λ c κs. search needs)
     returns-2
-    slice-aggregate-asks-3
-    asks-requires-3
+    (λ c. search needs)
+    (λ c κs. search needs)
     returns-3
-    slice-aggregate-asks-4
-    asks-requires-4
+    (λ c. search needs)
+    (λ c κs. search needs)
     returns-4
-    slice-aggregate-asks-5
-    asks-requires-5
+    (λ c. search needs)
+    (λ c κs. search needs)
     returns-5
-    slice-aggregate-asks-6
-    asks-requires-6
+    (λ c. search needs)
+    (λ c κs. search needs)
     returns-6
-    slice-aggregate-asks-7
-    asks-requires-7
+    (λ c. search needs)
+    (λ c κs. search needs)
     returns-7
-    slice-aggregate-asks-8
-    asks-requires-8
+    (λ c. search needs)
+    (λ c κs. search needs)
     returns-8
-    slice-aggregate-asks-9
-    asks-requires-9
+    (λ c. search needs)
+    (λ c κs. search needs)
     returns-9
-    slice-aggregate-asks-10
-    asks-requires-10
+    (λ c. search needs)
+    (λ c κs. search needs)
     returns-10
-    slice-aggregate-asks-11
-    asks-requires-11
+    (λ c. search needs)
+    (λ c κs. search needs)
     returns-11
-    slice-aggregate-asks-12
-    asks-requires-12
+    (λ c. search needs)
+    (λ c κs. search needs)
     returns-12
-    returns-13)
+    (λ c. search needs)
+    (λ c κs. search needs)
+    returns-13
+    returns-14)

@@ -19,12 +19,6 @@ step-requires c κs =
     let entry = c .before .before .before .before .before .before .before in
     (entry .pre .0, omega (arith, length-take-le (entry .args .count) (entry .args .line .now) (omega arith)), entry .pre .2)
 
-same-length : tie.Need-same-length
-same-length c = search needs
-
-same-length-2 : tie.Need-same-length-2
-same-length-2 c = search needs
-
 returns : tie.Need-returns
 unfolding answerHeld
 returns c =
@@ -40,4 +34,4 @@ returns-2 c =
 pub step-held-spec : {M : Type 1} → statement M
 step-held-spec =
     tie.close
-    (tie.spec slice-aggregate-step step-requires same-length same-length-2 returns returns-2)
+    (tie.spec slice-aggregate-step step-requires (λ c. search needs) (λ c. search needs) returns returns-2)

@@ -10,12 +10,6 @@ use Rattle.report.proofs.InTurn.{put-length, put-byte}
 use Rattle.report.proofs.printing.put_field.Statement.{statement}
 use Rattle.report.proofs.printing.put_field.Tie as tie
 
-slice-write-out : tie.Need-slice-write-out
-slice-write-out c = search needs
-
-add-put-small : tie.Need-add-put-small
-add-put-small c = search needs
-
 put-small-requires : tie.Need-put-small-requires
 put-small-requires c κs = (c .before .before .pre .0, simp length-set (omega arith))
 
@@ -26,4 +20,4 @@ returns : tie.Need-returns
 returns c = behind (put-byte _ _ space) (c .before .before .put-small .ensures)
 
 pub put-field-spec : {M : Type 1} → statement M
-put-field-spec = tie.close (tie.spec slice-write-out add-put-small put-small-requires same-length returns)
+put-field-spec = tie.close (tie.spec (λ c. search needs) (λ c. search needs) put-small-requires same-length returns)

@@ -10,9 +10,6 @@ use Rattle.report.proofs.Fields.{field-length}
 use Rattle.report.proofs.printing.put_front.Statement.{statement}
 use Rattle.report.proofs.printing.put_front.Tie as tie
 
-put-small-requires : tie.Need-put-small-requires
-put-small-requires c κs = search needs
-
 put-field-requires : tie.Need-put-field-requires
 put-field-requires c κs =
     let small = c .before .before .before .before .before .before .pre .0 in
@@ -44,9 +41,6 @@ put-field-requires-3 c κs =
       ),
     )
 
-same-length : tie.Need-same-length
-same-length c = search needs
-
 returns : tie.Need-returns
 unfolding frontText
 returns c =
@@ -58,4 +52,4 @@ returns c =
     (behind (three .before .before .before .put-field2 .ensures) (c .before .before .put-field3 .ensures)))
 
 pub put-front-spec : {M : Type 1} → statement M
-put-front-spec = tie.close (tie.spec put-small-requires put-field-requires put-field-requires-2 put-field-requires-3 same-length returns)
+put-front-spec = tie.close (tie.spec (λ c κs. search needs) put-field-requires put-field-requires-2 put-field-requires-3 (λ c. search needs) returns)

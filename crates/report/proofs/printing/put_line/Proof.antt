@@ -12,9 +12,6 @@ use Rattle.report.proofs.Fields.{front-length, row-length, line-fields}
 use Rattle.report.proofs.printing.put_line.Statement.{statement}
 use Rattle.report.proofs.printing.put_line.Tie as tie
 
-put-front-requires : tie.Need-put-front-requires
-put-front-requires c κs = search needs
-
 put-row-requires : tie.Need-put-row-requires
 put-row-requires c κs =
     let s = c .before .before .before .before .before .before .before in
@@ -46,4 +43,4 @@ returns c =
     rw (line-fields) (behind (front .put-front .ensures) (behind (c .before .before .put-row .ensures) (put-byte _ _ newline)))
 
 pub put-line-spec : {M : Type 1} → statement M
-put-line-spec = tie.close (tie.spec put-front-requires put-row-requires slice-write-out add-result same-length returns)
+put-line-spec = tie.close (tie.spec (λ c κs. search needs) put-row-requires slice-write-out add-result same-length returns)

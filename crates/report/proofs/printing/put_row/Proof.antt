@@ -20,9 +20,6 @@ abbrev μ-loop : tie.MeasureT-loop
 slice-aggregate-put : tie.Need-slice-aggregate-put Inv-loop μ-loop
 slice-aggregate-put c = refl
 
-put-requires : tie.Need-put-requires Inv-loop μ-loop
-put-requires c κs = omega arith
-
 same-length : tie.Need-same-length Inv-loop μ-loop
 same-length c = put-length (c .before .before .put .ensures)
 
@@ -32,9 +29,6 @@ returns c =
 
 loop-holds : tie.Need-loop-holds Inv-loop μ-loop
 loop-holds c = (omega arith, none field 3)
-
-shared-slice-read-put-field : tie.Need-shared-slice-read-put-field Inv-loop μ-loop
-shared-slice-read-put-field c = omega arith
 
 put-field-requires : tie.Need-put-field-requires Inv-loop μ-loop
 put-field-requires c κs =
@@ -76,11 +70,11 @@ put-row-spec =
     Inv-loop
     μ-loop
     slice-aggregate-put
-    put-requires
+    (λ c κs. omega arith)
     same-length
     returns
     loop-holds
-    shared-slice-read-put-field
+    (λ c. omega arith)
     put-field-requires
     add-i
     loop-less

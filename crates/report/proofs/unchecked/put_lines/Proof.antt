@@ -21,20 +21,11 @@ mul-length c = omega (arith, sound-exact _ .0 (c .before .pre .0) .routers-most)
 add-length : tie.Need-add-length
 add-length c = omega (arith, sound-exact _ .0 (c .before .pre .0) .routers-most)
 
-room-for-table-requires : tie.Need-room-for-table-requires
-room-for-table-requires c κs = search needs
-
-slice-aggregate-build : tie.Need-slice-aggregate-build
-slice-aggregate-build c = search needs
-
 build-requires : tie.Need-build-requires
 unfolding rowStart
 build-requires c κs =
     let s = c .before .before .before in
     (s .pre .0, s .pre .1, s .pre .2, omega (arith, sound-exact _ .0 (s .pre .0) .routers-most, c .before .room-for-table .ensures))
-
-room-for-hops-requires : tie.Need-room-for-hops-requires
-room-for-hops-requires c κs = search needs
 
 -- the first bytes are the destination's table
 module _ (c : tie.After-build) where
@@ -57,9 +48,6 @@ array-share-prefix-table c = let b = c .before .before in omega (arith, all b, s
 slice-aggregate-greatest-hops : tie.Need-slice-aggregate-greatest-hops
 slice-aggregate-greatest-hops c = let b = c .before .before .before in sym (ap length (front b) ∙ size b)
 
-slice-aggregate-greatest-hops-2 : tie.Need-slice-aggregate-greatest-hops-2
-slice-aggregate-greatest-hops-2 c = search needs
-
 greatest-hops-requires : tie.Need-greatest-hops-requires
 greatest-hops-requires c κs = let b = c .before .before .before .before in (start b .pre .0, rw (front b) (accepted _ (start b .pre .0) _ (start b .pre .2)), omega (arith, c .before .before .room-for-hops .ensures, sound-exact _ .0 (start b .pre .0) .routers-most))
 
@@ -69,18 +57,12 @@ array-share-prefix-table-2 c = let b = c .before .before .before .before .before
 slice-aggregate-put-table : tie.Need-slice-aggregate-put-table
 slice-aggregate-put-table c = let b = c .before .before .before .before .before .before .before .before in sym (ap length (front b) ∙ size b)
 
-slice-aggregate-put-table-2 : tie.Need-slice-aggregate-put-table-2
-slice-aggregate-put-table-2 c = search needs
-
 put-table-requires : tie.Need-put-table-requires
 put-table-requires c κs =
     let b = c .before .before .before .before .before .before .before .before .before in
     let is = rw (front b) at (c .before .before .before .before .greatest-hops .ensures) in
     let most = sound-exact _ .0 (start b .pre .0) .routers-most in
     (rw (front b) (listable _ (start b .pre .0) _ (start b .pre .2) _ _ is), omega (arith, start b .pre .3, most))
-
-same-length : tie.Need-same-length
-same-length c = search needs
 
 returns : tie.Need-returns
 returns c =
@@ -94,17 +76,17 @@ put-lines-spec =
     (tie.spec
     mul-length
     add-length
-    room-for-table-requires
-    slice-aggregate-build
+    (λ c κs. search needs)
+    (λ c. search needs)
     build-requires
-    room-for-hops-requires
+    (λ c κs. search needs)
     array-share-prefix-table
     slice-aggregate-greatest-hops
-    slice-aggregate-greatest-hops-2
+    (λ c. search needs)
     greatest-hops-requires
     array-share-prefix-table-2
     slice-aggregate-put-table
-    slice-aggregate-put-table-2
+    (λ c. search needs)
     put-table-requires
-    same-length
+    (λ c. search needs)
     returns)

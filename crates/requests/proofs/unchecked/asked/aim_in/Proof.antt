@@ -5,18 +5,9 @@ use borrow.Author.Needs.{needs}
 use Rattle.requests.proofs.unchecked.asked.aim_in.Statement.{statement}
 use Rattle.requests.proofs.unchecked.asked.aim_in.Tie as tie
 
-field-requires : tie.Need-field-requires
-field-requires c κs = search needs
-
-field-requires-2 : tie.Need-field-requires-2
-field-requires-2 c κs = search needs
-
-aim-of-requires : tie.Need-aim-of-requires
-aim-of-requires c κs = search needs
-
 returns : tie.Need-returns
 unfolding aimIn
 returns c = rw (← c .before .before .field .ensures, ← c .before .field2 .ensures) (c .aim-of .ensures)
 
 pub aim-in-spec : {M : Type 1} → statement M
-aim-in-spec = tie.close (tie.spec field-requires field-requires-2 aim-of-requires returns)
+aim-in-spec = tie.close (tie.spec (λ c κs. search needs) (λ c κs. search needs) (λ c κs. search needs) returns)

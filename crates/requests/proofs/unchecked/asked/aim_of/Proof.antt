@@ -21,26 +21,11 @@ held c = sym (c .before .before .before .number .ensures) ∙ c .before .d .give
 within : (c : tie.After-known-told) → c .before .d .given .0 .0 ≤ mostByte
 within c = number-bound mostByte _ _ (held c)
 
-number-requires : tie.Need-number-requires
-number-requires c κs = search needs
-
-enum-known-d : tie.Need-enum-known-d
-enum-known-d c = search needs
-
-enum-told : tie.Need-enum-told
-enum-told c = search needs
-
 returns : tie.Need-returns
 unfolding aimOf
 returns c =
     let e : number mostByte (c .before .before .before .before .before .args .destination .now) ≡ Wrong = sym (c .before .before .number .ensures) ∙ c .enum-told .given .1 in
     rw (e)
-
-slice-aggregate-same : tie.Need-slice-aggregate-same
-slice-aggregate-same c = search needs
-
-same-requires : tie.Need-same-requires
-same-requires c κs = search needs
 
 cast-t10 : tie.Need-cast-t10
 cast-t10 c = omega (arith, within (c .before .before .before))
@@ -50,12 +35,6 @@ unfolding aimOf shortestWord freeWord
 returns-2 c =
     let first : sameNumbers (c .before .before .before .before .before .before .before .before .before .args .mode .now) shortestWord ≡ true = sym (c .before .same .ensures) ∙ c .if1 .taken in
     rw (held (c .before .before .before), first)
-
-slice-aggregate-same-2 : tie.Need-slice-aggregate-same-2
-slice-aggregate-same-2 c = search needs
-
-same-requires-2 : tie.Need-same-requires-2
-same-requires-2 c κs = search needs
 
 cast-t16 : tie.Need-cast-t16
 cast-t16 c = omega (arith, within (c .before .before .before .before .before .before))
@@ -80,16 +59,16 @@ pub aim-of-spec : {M : Type 1} → statement M
 aim-of-spec =
     tie.close
     (tie.spec
-    number-requires
-    enum-known-d
-    enum-told
+    (λ c κs. search needs)
+    (λ c. search needs)
+    (λ c. search needs)
     returns
-    slice-aggregate-same
-    same-requires
+    (λ c. search needs)
+    (λ c κs. search needs)
     cast-t10
     returns-2
-    slice-aggregate-same-2
-    same-requires-2
+    (λ c. search needs)
+    (λ c κs. search needs)
     cast-t16
     returns-3
     returns-4)

@@ -11,16 +11,10 @@ use borrow.Author.Needs.{needs}
 use Rattle.requests.proofs.unchecked.asked.bytes_in.Statement.{statement}
 use Rattle.requests.proofs.unchecked.asked.bytes_in.Tie as tie
 
-field-requires : tie.Need-field-requires
-field-requires c κs = search needs
-
 bytes-requires : tie.Need-bytes-requires
 bytes-requires c κs =
     let line = c .before .before .before .before .args .line .now in
     omega (arith, ap length (c .before .field .ensures), field-length (c .before .before .before .before .args .k) line)
-
-same-length : tie.Need-same-length
-same-length c = search needs
 
 returns : tie.Need-returns
 returns c =
@@ -37,4 +31,4 @@ returns c =
     }
 
 pub bytes-in-spec : {M : Type 1} → statement M
-bytes-in-spec = tie.close (tie.spec field-requires bytes-requires same-length returns)
+bytes-in-spec = tie.close (tie.spec (λ c κs. search needs) bytes-requires (λ c. search needs) returns)

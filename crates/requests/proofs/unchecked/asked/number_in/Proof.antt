@@ -6,14 +6,8 @@ use borrow.Author.Needs.{needs}
 use Rattle.requests.proofs.unchecked.asked.number_in.Statement.{statement}
 use Rattle.requests.proofs.unchecked.asked.number_in.Tie as tie
 
-field-requires : tie.Need-field-requires
-field-requires c κs = search needs
-
-number-requires : tie.Need-number-requires
-number-requires c κs = search needs
-
 returns : tie.Need-returns
 returns c = c .number .ensures ∙ ap (number _) (c .before .field .ensures)
 
 pub number-in-spec : {M : Type 1} → statement M
-number-in-spec = tie.close (tie.spec field-requires number-requires returns)
+number-in-spec = tie.close (tie.spec (λ c κs. search needs) (λ c κs. search needs) returns)

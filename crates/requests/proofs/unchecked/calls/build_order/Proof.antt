@@ -26,29 +26,11 @@ held c = sym (c .before .before .before .number-in .ensures) ∙ c .before .n .g
 within : (c : tie.After-known-told2) → c .before .n .given .0 .0 ≤ mostRoom
 within c = number-bound mostRoom _ _ (held c)
 
-aim-in-requires : tie.Need-aim-in-requires
-aim-in-requires c κs = search needs
-
-enum-known-destination : tie.Need-enum-known-destination
-enum-known-destination c = search needs
-
-enum-told : tie.Need-enum-told
-enum-told c = search needs
-
 returns : tie.Need-returns
 unfolding orderIn orderBy
 returns c =
     let e : aimIn (c .before .before .before .before .before .args .line .now) ≡ aim.Wrong = sym (c .before .before .aim-in .ensures) ∙ c .enum-told .given .1 in
     rw (e) error-reply
-
-number-in-requires : tie.Need-number-in-requires
-number-in-requires c κs = search needs
-
-enum-known-n : tie.Need-enum-known-n
-enum-known-n c = search needs
-
-enum-told-2 : tie.Need-enum-told-2
-enum-told-2 c = search needs
 
 returns-2 : tie.Need-returns-2
 unfolding orderIn orderBy
@@ -61,12 +43,6 @@ slice-relend-prefix-build c = start-within _ _ (within c) (c .before .before .be
 
 slice-aggregate-build : tie.Need-slice-aggregate-build
 slice-aggregate-build c = sym (start-size _ _ (within (c .before)) (c .before .before .before .before .before .before .before .before .before .before .before .pre))
-
-build-requires : tie.Need-build-requires
-build-requires c κs = search needs
-
-same-length : tie.Need-same-length
-same-length c = search needs
 
 returns-3 : tie.Need-returns-3
 unfolding orderIn orderBy
@@ -82,16 +58,16 @@ pub build-order-spec : {M : Type 1} → statement M
 build-order-spec =
     tie.close
     (tie.spec
-    aim-in-requires
-    enum-known-destination
-    enum-told
+    (λ c κs. search needs)
+    (λ c. search needs)
+    (λ c. search needs)
     returns
-    number-in-requires
-    enum-known-n
-    enum-told-2
+    (λ c κs. search needs)
+    (λ c. search needs)
+    (λ c. search needs)
     returns-2
     slice-relend-prefix-build
     slice-aggregate-build
-    build-requires
-    same-length
+    (λ c κs. search needs)
+    (λ c. search needs)
     returns-3)

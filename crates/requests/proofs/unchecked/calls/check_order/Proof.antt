@@ -22,35 +22,11 @@ aimed c = sym (c .before .before .before .aim-in .ensures) ∙ c .before .destin
 held : (c : tie.After-known-told2) → byteCount (field 3 (c .before .before .before .before .before .before .before .before .before .before .before .before .args .line .now)) ≡ Is (c .before .n .given .0 .0)
 held c = sym (c .before .before .before .before .bytes-in .ensures .counted) ∙ c .before .n .given .1
 
-room-for-bytes-requires : tie.Need-room-for-bytes-requires
-room-for-bytes-requires c κs = search needs
-
-aim-in-requires : tie.Need-aim-in-requires
-aim-in-requires c κs = search needs
-
-enum-known-destination : tie.Need-enum-known-destination
-enum-known-destination c = search needs
-
-enum-told : tie.Need-enum-told
-enum-told c = search needs
-
 returns : tie.Need-returns
 unfolding checkOrderIn checkOrderBy
 returns c buffer =
     let e : aimIn (c .before .before .before .before .before .args .line .now) ≡ aim.Wrong = sym (c .before .before .aim-in .ensures) ∙ c .enum-told .given .1 in
     rw (e) error-reply
-
-slice-aggregate-bytes-in : tie.Need-slice-aggregate-bytes-in
-slice-aggregate-bytes-in c = search needs
-
-bytes-in-requires : tie.Need-bytes-in-requires
-bytes-in-requires c κs = search needs
-
-enum-known-n : tie.Need-enum-known-n
-enum-known-n c = search needs
-
-enum-told-2 : tie.Need-enum-told-2
-enum-told-2 c = search needs
 
 returns-2 : tie.Need-returns-2
 unfolding checkOrderIn checkOrderBy
@@ -63,9 +39,6 @@ array-share-prefix-bytes c = c .before .before .before .before .bytes-in .ensure
 
 slice-aggregate-check : tie.Need-slice-aggregate-check
 slice-aggregate-check c = sym (length-take-le _ _ (c .before .before .before .before .before .bytes-in .ensures .start _ (held (c .before)) .1))
-
-check-requires : tie.Need-check-requires
-check-requires c κs = search needs
 
 returns-3 : tie.Need-returns-3
 unfolding checkOrderIn checkOrderBy
@@ -80,17 +53,17 @@ pub check-order-spec : {M : Type 1} → statement M
 check-order-spec =
     tie.close
     (tie.spec
-    room-for-bytes-requires
-    aim-in-requires
-    enum-known-destination
-    enum-told
+    (λ c κs. search needs)
+    (λ c κs. search needs)
+    (λ c. search needs)
+    (λ c. search needs)
     returns
-    slice-aggregate-bytes-in
-    bytes-in-requires
-    enum-known-n
-    enum-told-2
+    (λ c. search needs)
+    (λ c κs. search needs)
+    (λ c. search needs)
+    (λ c. search needs)
     returns-2
     array-share-prefix-bytes
     slice-aggregate-check
-    check-requires
+    (λ c κs. search needs)
     returns-3)

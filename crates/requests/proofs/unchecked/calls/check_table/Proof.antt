@@ -13,12 +13,9 @@ use Rattle.requests.proofs.unchecked.calls.check_table.Tie as tie
 slice-aggregate-check : tie.Need-slice-aggregate-check
 slice-aggregate-check c = sym (length-take-le _ _ (omega arith))
 
-check-requires : tie.Need-check-requires
-check-requires c κs = search needs
-
 returns : tie.Need-returns
 unfolding checkTable heldIn
 returns c buffer = answer-reply (c .check .ensures)
 
 pub check-table-spec : {M : Type 1} → statement M
-check-table-spec = tie.close (tie.spec slice-aggregate-check check-requires returns)
+check-table-spec = tie.close (tie.spec slice-aggregate-check (λ c κs. search needs) returns)

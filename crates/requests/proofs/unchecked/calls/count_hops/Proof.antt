@@ -23,15 +23,6 @@ held c = sym (c .before .before .before .number-in .ensures) ∙ c .before .n .g
 within : (c : tie.After-known-told) → c .before .n .given .0 .0 ≤ mostRoom
 within c = number-bound mostRoom _ _ (held c)
 
-number-in-requires : tie.Need-number-in-requires
-number-in-requires c κs = search needs
-
-enum-known-n : tie.Need-enum-known-n
-enum-known-n c = search needs
-
-enum-told : tie.Need-enum-told
-enum-told c = search needs
-
 returns : tie.Need-returns
 unfolding countIn countBy
 returns c =
@@ -47,12 +38,6 @@ slice-relend-prefix-greatest-hops c = start-within _ _ (within (c .before)) (c .
 slice-aggregate-greatest-hops-2 : tie.Need-slice-aggregate-greatest-hops-2
 slice-aggregate-greatest-hops-2 c = sym (start-size _ _ (within (c .before .before)) (c .before .before .before .before .before .before .before .before .before .before .pre .1))
 
-greatest-hops-requires : tie.Need-greatest-hops-requires
-greatest-hops-requires c κs = search needs
-
-same-length : tie.Need-same-length
-same-length c = search needs
-
 returns-2 : tie.Need-returns-2
 unfolding countIn countBy heldIn
 returns-2 c =
@@ -67,13 +52,13 @@ pub count-hops-spec : {M : Type 1} → statement M
 count-hops-spec =
     tie.close
     (tie.spec
-    number-in-requires
-    enum-known-n
-    enum-told
+    (λ c κs. search needs)
+    (λ c. search needs)
+    (λ c. search needs)
     returns
     slice-aggregate-greatest-hops
     slice-relend-prefix-greatest-hops
     slice-aggregate-greatest-hops-2
-    greatest-hops-requires
-    same-length
+    (λ c κs. search needs)
+    (λ c. search needs)
     returns-2)

@@ -31,50 +31,17 @@ held c = sym (c .before .before .before .number-in2 .ensures) ∙ c .before .n .
 within : (c : tie.After-known-told3) → c .before .n .given .0 .0 ≤ mostRoom
 within c = number-bound mostRoom _ _ (held c)
 
-room-for-bytes-requires : tie.Need-room-for-bytes-requires
-room-for-bytes-requires c κs = search needs
-
-number-in-requires : tie.Need-number-in-requires
-number-in-requires c κs = search needs
-
-enum-known-d : tie.Need-enum-known-d
-enum-known-d c = search needs
-
-enum-told : tie.Need-enum-told
-enum-told c = search needs
-
 returns : tie.Need-returns
 unfolding fillIn fillBy
 returns c =
     let e : number mostByte (field 1 (c .before .before .before .before .before .before .args .line .now)) ≡ Wrong = sym (c .before .before .number-in .ensures) ∙ c .enum-told .given .1 in
     rw (e) error-reply
 
-slice-aggregate-bytes-in : tie.Need-slice-aggregate-bytes-in
-slice-aggregate-bytes-in c = search needs
-
-bytes-in-requires : tie.Need-bytes-in-requires
-bytes-in-requires c κs = search needs
-
-enum-known-k : tie.Need-enum-known-k
-enum-known-k c = search needs
-
-enum-told-2 : tie.Need-enum-told-2
-enum-told-2 c = search needs
-
 returns-2 : tie.Need-returns-2
 unfolding fillIn fillBy
 returns-2 c =
     let e : byteCount (field 2 (c .before .before .before .before .before .before .before .before .before .before .before .before .args .line .now)) ≡ Wrong = sym (c .before .before .before .bytes-in .ensures .counted) ∙ c .enum-told2 .given .1 in
     rw (aimed (c .before .before .before .before .before), e) error-reply
-
-number-in-requires-2 : tie.Need-number-in-requires-2
-number-in-requires-2 c κs = search needs
-
-enum-known-n : tie.Need-enum-known-n
-enum-known-n c = search needs
-
-enum-told-3 : tie.Need-enum-told-3
-enum-told-3 c = search needs
 
 returns-3 : tie.Need-returns-3
 unfolding fillIn fillBy
@@ -97,12 +64,6 @@ slice-relend-prefix-fill c = start-within _ _ (within (c .before)) (c .before .b
 slice-aggregate-fill-2 : tie.Need-slice-aggregate-fill-2
 slice-aggregate-fill-2 c = sym (start-size _ _ (within (c .before .before)) (c .before .before .before .before .before .before .before .before .before .before .before .before .before .before .before .before .before .before .before .pre .1))
 
-fill-requires : tie.Need-fill-requires
-fill-requires c κs = search needs
-
-same-length : tie.Need-same-length
-same-length c = search needs
-
 returns-4 : tie.Need-returns-4
 unfolding fillIn fillBy
 returns-4 c =
@@ -118,25 +79,25 @@ pub fill-spec : {M : Type 1} → statement M
 fill-spec =
     tie.close
     (tie.spec
-    room-for-bytes-requires
-    number-in-requires
-    enum-known-d
-    enum-told
+    (λ c κs. search needs)
+    (λ c κs. search needs)
+    (λ c. search needs)
+    (λ c. search needs)
     returns
-    slice-aggregate-bytes-in
-    bytes-in-requires
-    enum-known-k
-    enum-told-2
+    (λ c. search needs)
+    (λ c κs. search needs)
+    (λ c. search needs)
+    (λ c. search needs)
     returns-2
-    number-in-requires-2
-    enum-known-n
-    enum-told-3
+    (λ c κs. search needs)
+    (λ c. search needs)
+    (λ c. search needs)
     returns-3
     cast-t15
     array-share-prefix-bytes
     slice-aggregate-fill
     slice-relend-prefix-fill
     slice-aggregate-fill-2
-    fill-requires
-    same-length
+    (λ c κs. search needs)
+    (λ c. search needs)
     returns-4)

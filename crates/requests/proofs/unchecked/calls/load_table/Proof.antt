@@ -11,18 +11,6 @@ use borrow.Author.Needs.{needs}
 use Rattle.requests.proofs.unchecked.calls.load_table.Statement.{statement}
 use Rattle.requests.proofs.unchecked.calls.load_table.Tie as tie
 
-bytes-in-requires : tie.Need-bytes-in-requires
-bytes-in-requires c κs = search needs
-
-enum-known-n : tie.Need-enum-known-n
-enum-known-n c = search needs
-
-enum-told : tie.Need-enum-told
-enum-told c = search needs
-
-same-length : tie.Need-same-length
-same-length c = search needs
-
 returns : tie.Need-returns
 unfolding loadIn loadBy
 returns c buffer =
@@ -30,9 +18,6 @@ returns c buffer =
     let entry = c .before .before .before .before .before .before .before .before in
     let e : byteCount (field 1 (entry .args .line .now)) ≡ Wrong = sym (called .counted) ∙ c .enum-told .given .1 in
     rw (e, called .stays e) (error-step (entry .pre .0 .size))
-
-same-length-2 : tie.Need-same-length-2
-same-length-2 c = search needs
 
 returns-2 : tie.Need-returns-2
 unfolding loadIn loadBy heldIn answerOf
@@ -46,4 +31,4 @@ returns-2 c buffer =
 pub load-table-spec : {M : Type 1} → statement M
 load-table-spec =
     tie.close
-    (tie.spec bytes-in-requires enum-known-n enum-told same-length returns same-length-2 returns-2)
+    (tie.spec (λ c κs. search needs) (λ c. search needs) (λ c. search needs) (λ c. search needs) returns (λ c. search needs) returns-2)

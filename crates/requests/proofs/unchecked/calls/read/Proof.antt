@@ -17,21 +17,6 @@ use Rattle.requests.proofs.unchecked.calls.read.Tie as tie
 held : (c : tie.After-known-told) → byteCount (field 1 (c .before .before .before .before .before .before .before .before .args .line .now)) ≡ Is (c .before .n .given .0 .0)
 held c = sym (c .before .before .before .before .bytes-in .ensures .counted) ∙ c .before .n .given .1
 
-room-for-bytes-requires : tie.Need-room-for-bytes-requires
-room-for-bytes-requires c κs = search needs
-
-slice-aggregate-bytes-in : tie.Need-slice-aggregate-bytes-in
-slice-aggregate-bytes-in c = search needs
-
-bytes-in-requires : tie.Need-bytes-in-requires
-bytes-in-requires c κs = search needs
-
-enum-known-n : tie.Need-enum-known-n
-enum-known-n c = search needs
-
-enum-told : tie.Need-enum-told
-enum-told c = search needs
-
 returns : tie.Need-returns
 unfolding readIn readBy
 returns c table buffer h =
@@ -44,9 +29,6 @@ array-share-prefix-bytes c = c .before .before .before .before .bytes-in .ensure
 slice-aggregate-read : tie.Need-slice-aggregate-read
 slice-aggregate-read c = sym (length-take-le _ _ (c .before .before .before .before .before .bytes-in .ensures .start _ (held (c .before)) .1))
 
-read-requires : tie.Need-read-requires
-read-requires c κs = search needs
-
 returns-2 : tie.Need-returns-2
 unfolding readIn readBy readAnswer heldIn
 returns-2 c table buffer h =
@@ -58,13 +40,13 @@ pub read-spec : {M : Type 1} → statement M
 read-spec =
     tie.close
     (tie.spec
-    room-for-bytes-requires
-    slice-aggregate-bytes-in
-    bytes-in-requires
-    enum-known-n
-    enum-told
+    (λ c κs. search needs)
+    (λ c. search needs)
+    (λ c κs. search needs)
+    (λ c. search needs)
+    (λ c. search needs)
     returns
     array-share-prefix-bytes
     slice-aggregate-read
-    read-requires
+    (λ c κs. search needs)
     returns-2)

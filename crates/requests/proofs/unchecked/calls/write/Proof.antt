@@ -20,15 +20,6 @@ held c = sym (c .before .before .before .number-in .ensures) ∙ c .before .n .g
 within : (c : tie.After-known-told) → c .before .n .given .0 .0 ≤ mostRoom
 within c = number-bound mostRoom _ _ (held c)
 
-number-in-requires : tie.Need-number-in-requires
-number-in-requires c κs = search needs
-
-enum-known-n : tie.Need-enum-known-n
-enum-known-n c = search needs
-
-enum-told : tie.Need-enum-told
-enum-told c = search needs
-
 returns : tie.Need-returns
 unfolding writeIn writeBy
 returns c =
@@ -40,12 +31,6 @@ slice-relend-prefix-write c = start-within _ _ (within c) (c .before .before .be
 
 slice-aggregate-write : tie.Need-slice-aggregate-write
 slice-aggregate-write c = sym (start-size _ _ (within (c .before)) (c .before .before .before .before .before .before .before .pre))
-
-write-requires : tie.Need-write-requires
-write-requires c κs = search needs
-
-same-length : tie.Need-same-length
-same-length c = search needs
 
 returns-2 : tie.Need-returns-2
 unfolding writeIn writeBy
@@ -59,12 +44,12 @@ pub write-spec : {M : Type 1} → statement M
 write-spec =
     tie.close
     (tie.spec
-    number-in-requires
-    enum-known-n
-    enum-told
+    (λ c κs. search needs)
+    (λ c. search needs)
+    (λ c. search needs)
     returns
     slice-relend-prefix-write
     slice-aggregate-write
-    write-requires
-    same-length
+    (λ c κs. search needs)
+    (λ c. search needs)
     returns-2)

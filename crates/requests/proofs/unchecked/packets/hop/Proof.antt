@@ -25,21 +25,6 @@ said c =
     let known = c .before .before .before .before .before in
     rw (held known, ← known .before .before .before .before .bytes-in .ensures .start _ (held known) .0, ← c .lend-to-hop .ensures)
 
-room-for-bytes-requires : tie.Need-room-for-bytes-requires
-room-for-bytes-requires c κs = search needs
-
-slice-aggregate-bytes-in : tie.Need-slice-aggregate-bytes-in
-slice-aggregate-bytes-in c = search needs
-
-bytes-in-requires : tie.Need-bytes-in-requires
-bytes-in-requires c κs = search needs
-
-enum-known-n : tie.Need-enum-known-n
-enum-known-n c = search needs
-
-enum-told : tie.Need-enum-told
-enum-told c = search needs
-
 returns : tie.Need-returns
 unfolding hopIn hopBy
 returns c buffer =
@@ -54,33 +39,6 @@ array-share-prefix-bytes c = c .before .before .before .before .before .before .
 
 slice-aggregate-lend-to-hop-2 : tie.Need-slice-aggregate-lend-to-hop-2
 slice-aggregate-lend-to-hop-2 c = sym (length-take-le _ _ (c .before .before .before .before .before .before .before .before .bytes-in .ensures .start _ (held (c .before .before .before .before)) .1))
-
-lend-to-hop-requires : tie.Need-lend-to-hop-requires
-lend-to-hop-requires c κs = search needs
-
-enum-told-2 : tie.Need-enum-told-2
-enum-told-2 c = search needs
-
-carry-requires : tie.Need-carry-requires
-carry-requires c κs = search needs
-
-enum-told-3 : tie.Need-enum-told-3
-enum-told-3 c = search needs
-
-carry-requires-2 : tie.Need-carry-requires-2
-carry-requires-2 c κs = search needs
-
-enum-told-4 : tie.Need-enum-told-4
-enum-told-4 c = search needs
-
-carry-requires-3 : tie.Need-carry-requires-3
-carry-requires-3 c κs = search needs
-
-enum-known-answer : tie.Need-enum-known-answer
-enum-known-answer c = search needs
-
-carry-requires-4 : tie.Need-carry-requires-4
-carry-requires-4 c κs = search needs
 
 returns-2 : tie.Need-returns-2
 unfolding hopAnswer hopText hopSays heldIn replyText roomOf
@@ -114,24 +72,24 @@ pub hop-spec : {M : Type 1} → statement M
 hop-spec =
     tie.close
     (tie.spec
-    room-for-bytes-requires
-    slice-aggregate-bytes-in
-    bytes-in-requires
-    enum-known-n
-    enum-told
+    (λ c κs. search needs)
+    (λ c. search needs)
+    (λ c κs. search needs)
+    (λ c. search needs)
+    (λ c. search needs)
     returns
     slice-aggregate-lend-to-hop
     array-share-prefix-bytes
     slice-aggregate-lend-to-hop-2
-    lend-to-hop-requires
-    enum-told-2
-    carry-requires
-    enum-told-3
-    carry-requires-2
-    enum-told-4
-    carry-requires-3
-    enum-known-answer
-    carry-requires-4
+    (λ c κs. search needs)
+    (λ c. search needs)
+    (λ c κs. search needs)
+    (λ c. search needs)
+    (λ c κs. search needs)
+    (λ c. search needs)
+    (λ c κs. search needs)
+    (λ c. search needs)
+    (λ c κs. search needs)
     returns-2
     returns-3
     returns-4

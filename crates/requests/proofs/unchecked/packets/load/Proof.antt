@@ -21,29 +21,11 @@ station c = sym (c .before .before .before .number-in .ensures) ∙ c .before .u
 hops : (c : tie.After-known-told2) → number mostByte (field 2 (c .before .before .before .before .before .before .before .before .before .args .line .now)) ≡ Is (c .before .k .given .0 .0)
 hops c = sym (c .before .before .before .number-in2 .ensures) ∙ c .before .k .given .1
 
-number-in-requires : tie.Need-number-in-requires
-number-in-requires c κs = search needs
-
-enum-known-u : tie.Need-enum-known-u
-enum-known-u c = search needs
-
-enum-told : tie.Need-enum-told
-enum-told c = search needs
-
 returns : tie.Need-returns
 unfolding loadPacketIn loadPacketBy
 returns c table buffer h =
     let e : number mostByte (field 1 (c .before .before .before .before .args .line .now)) ≡ Wrong = sym (c .before .before .number-in .ensures) ∙ c .enum-told .given .1 in
     rw (e) (error-step h)
-
-number-in-requires-2 : tie.Need-number-in-requires-2
-number-in-requires-2 c κs = search needs
-
-enum-known-k : tie.Need-enum-known-k
-enum-known-k c = search needs
-
-enum-told-2 : tie.Need-enum-told-2
-enum-told-2 c = search needs
 
 returns-2 : tie.Need-returns-2
 unfolding loadPacketIn loadPacketBy
@@ -57,9 +39,6 @@ cast-t10 c = omega (arith, number-bound mostByte _ _ (station (c .before .before
 cast-t12 : tie.Need-cast-t12
 cast-t12 c = omega (arith, number-bound mostByte _ _ (hops c))
 
-carry-requires : tie.Need-carry-requires
-carry-requires c κs = search needs
-
 returns-3 : tie.Need-returns-3
 unfolding loadPacketIn loadPacketBy packetIn answerOf
 returns-3 c table buffer h =
@@ -69,15 +48,15 @@ pub load-spec : {M : Type 1} → statement M
 load-spec =
     tie.close
     (tie.spec
-    number-in-requires
-    enum-known-u
-    enum-told
+    (λ c κs. search needs)
+    (λ c. search needs)
+    (λ c. search needs)
     returns
-    number-in-requires-2
-    enum-known-k
-    enum-told-2
+    (λ c κs. search needs)
+    (λ c. search needs)
+    (λ c. search needs)
     returns-2
     cast-t10
     cast-t12
-    carry-requires
+    (λ c κs. search needs)
     returns-3)

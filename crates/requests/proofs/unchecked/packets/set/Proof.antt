@@ -26,15 +26,6 @@ said : (c : tie.After-lend-to-set) (table : List ℕ) → let a = c .before .bef
 unfolding setIn setBy heldIn
 said c table = rw (held (c .before .before .before), ← c .lend-to-set .ensures)
 
-number-in-requires : tie.Need-number-in-requires
-number-in-requires c κs = search needs
-
-enum-known-u : tie.Need-enum-known-u
-enum-known-u c = search needs
-
-enum-told : tie.Need-enum-told
-enum-told c = search needs
-
 returns : tie.Need-returns
 unfolding setIn setBy
 returns c table buffer h =
@@ -43,21 +34,6 @@ returns c table buffer h =
 
 cast-t12 : tie.Need-cast-t12
 cast-t12 c = omega (arith, number-bound mostByte _ _ (held (c .before .before)))
-
-lend-to-set-requires : tie.Need-lend-to-set-requires
-lend-to-set-requires c κs = search needs
-
-enum-told-2 : tie.Need-enum-told-2
-enum-told-2 c = search needs
-
-carry-requires : tie.Need-carry-requires
-carry-requires c κs = search needs
-
-enum-known-answer : tie.Need-enum-known-answer
-enum-known-answer c = search needs
-
-carry-requires-2 : tie.Need-carry-requires-2
-carry-requires-2 c κs = search needs
 
 returns-2 : tie.Need-returns-2
 unfolding setAnswer setText settingSays heldIn replyText roomOf
@@ -77,15 +53,15 @@ pub set-spec : {M : Type 1} → statement M
 set-spec =
     tie.close
     (tie.spec
-    number-in-requires
-    enum-known-u
-    enum-told
+    (λ c κs. search needs)
+    (λ c. search needs)
+    (λ c. search needs)
     returns
     cast-t12
-    lend-to-set-requires
-    enum-told-2
-    carry-requires
-    enum-known-answer
-    carry-requires-2
+    (λ c κs. search needs)
+    (λ c. search needs)
+    (λ c κs. search needs)
+    (λ c. search needs)
+    (λ c κs. search needs)
     returns-2
     returns-3)

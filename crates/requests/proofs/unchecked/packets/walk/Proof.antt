@@ -32,35 +32,11 @@ said c =
     let known = c .before .before .before in
     rw (start (known .before .before .before .before .before .before), held known, ← known .before .before .before .before .bytes-in .ensures .start _ (held known) .0, c .walk .ensures)
 
-room-for-bytes-requires : tie.Need-room-for-bytes-requires
-room-for-bytes-requires c κs = search needs
-
-number-in-requires : tie.Need-number-in-requires
-number-in-requires c κs = search needs
-
-enum-known-u : tie.Need-enum-known-u
-enum-known-u c = search needs
-
-enum-told : tie.Need-enum-told
-enum-told c = search needs
-
 returns : tie.Need-returns
 unfolding walkIn walkBy
 returns c buffer =
     let e : number mostByte (field 1 (c .before .before .before .before .before .before .before .args .line .now)) ≡ Wrong = sym (c .before .before .number-in .ensures) ∙ c .enum-told .given .1 in
     rw (e) error-reply
-
-slice-aggregate-bytes-in : tie.Need-slice-aggregate-bytes-in
-slice-aggregate-bytes-in c = search needs
-
-bytes-in-requires : tie.Need-bytes-in-requires
-bytes-in-requires c κs = search needs
-
-enum-known-n : tie.Need-enum-known-n
-enum-known-n c = search needs
-
-enum-told-2 : tie.Need-enum-told-2
-enum-told-2 c = search needs
 
 returns-2 : tie.Need-returns-2
 unfolding walkIn walkBy
@@ -80,18 +56,6 @@ array-share-prefix-bytes c = c .before .before .before .before .before .bytes-in
 slice-aggregate-walk-2 : tie.Need-slice-aggregate-walk-2
 slice-aggregate-walk-2 c = sym (length-take-le _ _ (c .before .before .before .before .before .before .bytes-in .ensures .start _ (held (c .before .before)) .1))
 
-walk-requires : tie.Need-walk-requires
-walk-requires c κs = search needs
-
-enum-known-walked : tie.Need-enum-known-walked
-enum-known-walked c = search needs
-
-enum-known-walked-2 : tie.Need-enum-known-walked-2
-enum-known-walked-2 c = search needs
-
-enum-known-walked-3 : tie.Need-enum-known-walked-3
-enum-known-walked-3 c = search needs
-
 returns-3 : tie.Need-returns-3
 unfolding walkText walkSays replyText roomOf
 returns-3 c buffer = rw (said (c .before .before .before), c .before .walked .given .1) (plain-reply refl)
@@ -108,24 +72,24 @@ pub walk-spec : {M : Type 1} → statement M
 walk-spec =
     tie.close
     (tie.spec
-    room-for-bytes-requires
-    number-in-requires
-    enum-known-u
-    enum-told
+    (λ c κs. search needs)
+    (λ c κs. search needs)
+    (λ c. search needs)
+    (λ c. search needs)
     returns
-    slice-aggregate-bytes-in
-    bytes-in-requires
-    enum-known-n
-    enum-told-2
+    (λ c. search needs)
+    (λ c κs. search needs)
+    (λ c. search needs)
+    (λ c. search needs)
     returns-2
     slice-aggregate-walk
     cast-t20
     array-share-prefix-bytes
     slice-aggregate-walk-2
-    walk-requires
-    enum-known-walked
-    enum-known-walked-2
-    enum-known-walked-3
+    (λ c κs. search needs)
+    (λ c. search needs)
+    (λ c. search needs)
+    (λ c. search needs)
     returns-3
     returns-4
     returns-5)

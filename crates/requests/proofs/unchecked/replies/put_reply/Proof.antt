@@ -24,21 +24,6 @@ within c = rw (c .before .reply2 .given .1) at (c .before .before .before .befor
 word-fits : (word : List ℕ) (number at : ℕ) → length word ≤ 9 → length (wordLine word number at) ≤ mostAnswer
 word-fits word number at h = omega (arith, word-line-length word number at)
 
-enum-told : tie.Need-enum-told
-enum-told c = search needs
-
-put-error-requires : tie.Need-put-error-requires
-put-error-requires c κs = search needs
-
-enum-known-reply : tie.Need-enum-known-reply
-enum-known-reply c = search needs
-
-put-answer-line-requires : tie.Need-put-answer-line-requires
-put-answer-line-requires c κs = search needs
-
-enum-known-reply-2 : tie.Need-enum-known-reply-2
-enum-known-reply-2 c = search needs
-
 slice-aggregate-put-buffer-line : tie.Need-slice-aggregate-put-buffer-line
 slice-aggregate-put-buffer-line c = sym (length-take-le _ _ (within (c .before .before)))
 
@@ -48,69 +33,15 @@ put-buffer-line-requires c κs =
     let size = length-take-le (known .before .reply2 .given .0 .1 .0) (c .before .before .before .before .before .before .before .args .buffer .now) (within known) in
     omega (arith, within known, c .before .before .before .before .before .before .before .pre .1, c .before .before .before .before .before .before .before .pre .2)
 
-enum-known-reply-3 : tie.Need-enum-known-reply-3
-enum-known-reply-3 c = search needs
-
-slice-aggregate-put-packet : tie.Need-slice-aggregate-put-packet
-slice-aggregate-put-packet c = search needs
-
-put-packet-requires : tie.Need-put-packet-requires
-put-packet-requires c κs = search needs
-
-enum-known-reply-4 : tie.Need-enum-known-reply-4
-enum-known-reply-4 c = search needs
-
-slice-aggregate-put-packet-2 : tie.Need-slice-aggregate-put-packet-2
-slice-aggregate-put-packet-2 c = search needs
-
-put-packet-requires-2 : tie.Need-put-packet-requires-2
-put-packet-requires-2 c κs = search needs
-
-enum-known-reply-5 : tie.Need-enum-known-reply-5
-enum-known-reply-5 c = search needs
-
-slice-aggregate-put-packet-3 : tie.Need-slice-aggregate-put-packet-3
-slice-aggregate-put-packet-3 c = search needs
-
-put-packet-requires-3 : tie.Need-put-packet-requires-3
-put-packet-requires-3 c κs = search needs
-
-enum-known-reply-6 : tie.Need-enum-known-reply-6
-enum-known-reply-6 c = search needs
-
-slice-aggregate-put-packet-4 : tie.Need-slice-aggregate-put-packet-4
-slice-aggregate-put-packet-4 c = search needs
-
-put-packet-requires-4 : tie.Need-put-packet-requires-4
-put-packet-requires-4 c κs = search needs
-
-enum-known-reply-7 : tie.Need-enum-known-reply-7
-enum-known-reply-7 c = search needs
-
-slice-aggregate-put-word-line : tie.Need-slice-aggregate-put-word-line
-slice-aggregate-put-word-line c = search needs
-
-put-word-line-requires : tie.Need-put-word-line-requires
-put-word-line-requires c κs = search needs
-
-same-length : tie.Need-same-length
-same-length c = search needs
-
 returns : tie.Need-returns
 unfolding replyText errorLine
 returns c = rw (c .before .before .before .before .enum-told .given .1) (omega arith, c .before .before .put-error .ensures)
-
-same-length-2 : tie.Need-same-length-2
-same-length-2 c = search needs
 
 returns-2 : tie.Need-returns-2
 unfolding replyText answerOf
 returns-2 c =
     let r = c .before .before .before .before .before .reply .given in
     rw (r .1) (omega (arith, answer-line-length (r .0 .0 .number) (r .0 .0 .at)), c .before .before .put-answer-line .ensures)
-
-same-length-3 : tie.Need-same-length-3
-same-length-3 c = search needs
 
 returns-3 : tie.Need-returns-3
 unfolding replyText
@@ -122,17 +53,11 @@ returns-3 c =
     let short = buffer-line-length (r .0 .0 .number) (r .0 .0 .at) (take (r .0 .1 .0) buffer) in
     rw (r .1) (omega (arith, within known, short, c .before .before .before .before .before .before .before .before .before .before .pre .1), c .before .before .put-buffer-line .ensures)
 
-same-length-4 : tie.Need-same-length-4
-same-length-4 c = search needs
-
 returns-4 : tie.Need-returns-4
 unfolding replyText packetLine packetIn setWord
 returns-4 c =
     let r = c .before .before .before .before .before .before .reply3 .given in
     rw (r .1) (word-fits setWord (r .0 .0 .station .0) (r .0 .0 .hops) (omega arith), c .before .before .put-packet .ensures)
-
-same-length-5 : tie.Need-same-length-5
-same-length-5 c = search needs
 
 returns-5 : tie.Need-returns-5
 unfolding replyText packetLine packetIn deliveredWord
@@ -140,26 +65,17 @@ returns-5 c =
     let r = c .before .before .before .before .before .before .reply4 .given in
     rw (r .1) (word-fits deliveredWord (r .0 .0 .station .0) (r .0 .0 .hops) (omega arith), c .before .before .put-packet2 .ensures)
 
-same-length-6 : tie.Need-same-length-6
-same-length-6 c = search needs
-
 returns-6 : tie.Need-returns-6
 unfolding replyText packetLine packetIn movedWord
 returns-6 c =
     let r = c .before .before .before .before .before .before .reply5 .given in
     rw (r .1) (word-fits movedWord (r .0 .0 .station .0) (r .0 .0 .hops) (omega arith), c .before .before .put-packet3 .ensures)
 
-same-length-7 : tie.Need-same-length-7
-same-length-7 c = search needs
-
 returns-7 : tie.Need-returns-7
 unfolding replyText packetLine packetIn droppedWord
 returns-7 c =
     let r = c .before .before .before .before .before .before .reply6 .given in
     rw (r .1) (word-fits droppedWord (r .0 .0 .station .0) (r .0 .0 .hops) (omega arith), c .before .before .put-packet4 .ensures)
-
-same-length-8 : tie.Need-same-length-8
-same-length-8 c = search needs
 
 returns-8 : tie.Need-returns-8
 unfolding replyText refusedWord
@@ -171,41 +87,41 @@ pub put-reply-spec : {M : Type 1} → statement M
 put-reply-spec =
     tie.close
     (tie.spec
-    enum-told
-    put-error-requires
-    enum-known-reply
-    put-answer-line-requires
-    enum-known-reply-2
+    (λ c. search needs)
+    (λ c κs. search needs)
+    (λ c. search needs)
+    (λ c κs. search needs)
+    (λ c. search needs)
     slice-aggregate-put-buffer-line
     put-buffer-line-requires
-    enum-known-reply-3
-    slice-aggregate-put-packet
-    put-packet-requires
-    enum-known-reply-4
-    slice-aggregate-put-packet-2
-    put-packet-requires-2
-    enum-known-reply-5
-    slice-aggregate-put-packet-3
-    put-packet-requires-3
-    enum-known-reply-6
-    slice-aggregate-put-packet-4
-    put-packet-requires-4
-    enum-known-reply-7
-    slice-aggregate-put-word-line
-    put-word-line-requires
-    same-length
+    (λ c. search needs)
+    (λ c. search needs)
+    (λ c κs. search needs)
+    (λ c. search needs)
+    (λ c. search needs)
+    (λ c κs. search needs)
+    (λ c. search needs)
+    (λ c. search needs)
+    (λ c κs. search needs)
+    (λ c. search needs)
+    (λ c. search needs)
+    (λ c κs. search needs)
+    (λ c. search needs)
+    (λ c. search needs)
+    (λ c κs. search needs)
+    (λ c. search needs)
     returns
-    same-length-2
+    (λ c. search needs)
     returns-2
-    same-length-3
+    (λ c. search needs)
     returns-3
-    same-length-4
+    (λ c. search needs)
     returns-4
-    same-length-5
+    (λ c. search needs)
     returns-5
-    same-length-6
+    (λ c. search needs)
     returns-6
-    same-length-7
+    (λ c. search needs)
     returns-7
-    same-length-8
+    (λ c. search needs)
     returns-8)
