@@ -1,0 +1,106 @@
+//! The lines of one destination in plain Rust by other ways to the same, where those are faster: Dijkstra for the distances, sets of routers as bits, and each
+//! row sorted when its router is placed, with no table between.
+use crate::plain::{Arcs, Topology, NEIGHBOURS, ROUTERS};
+
+/// The places of a set of bits.
+fn places(set: u64) -> impl Iterator<Item = usize> {
+    let mut rest = set;
+    std::iter::from_fn(move || {
+        let first = rest.trailing_zeros() as usize;
+        (rest != 0).then(|| {
+            rest &= rest - 1;
+            first % ROUTERS
+        })
+    })
+}
+
+/// The arcs of the router at u: place and cost.
+fn arcs(a: &Arcs, u: usize) -> impl Iterator<Item = (usize, u32)> + '_ {
+    let slots = u * NEIGHBOURS..u * NEIGHBOURS + a.count[u] as usize;
+    a.to[slots.clone()].iter().zip(&a.cost[slots]).map(|(&v, &cost)| (v as usize % ROUTERS, cost as u32))
+}
+
+/// What is known of one destination.
+pub struct Lines {
+    pub rank: [u8; ROUTERS],
+    pub greatest: [u8; ROUTERS],
+    pub count: [u8; ROUTERS],
+    pub row: [[u8; NEIGHBOURS]; ROUTERS],
+}
+
+impl Lines {
+    pub fn blank() -> Lines {
+        Lines { rank: [0; ROUTERS], greatest: [0; ROUTERS], count: [0; ROUTERS], row: [[0; NEIGHBOURS]; ROUTERS] }
+    }
+}
+
+/// The distances, and how many shortest next hops each router has: all of them are done before it is the nearest.
+fn distances(a: &Arcs, d: usize) -> ([u32; ROUTERS], [u8; ROUTERS]) {
+    let mut ds = [u32::MAX; ROUTERS];
+    let mut left = [0; ROUTERS];
+    ds[d] = 0;
+    let mut open = 1u64 << d;
+    while open != 0 {
+        let (mut u, mut nearest) = (0, u32::MAX);
+        for v in places(open) {
+            if ds[v] < nearest {
+                (u, nearest) = (v, ds[v]);
+            }
+        }
+        open ^= 1 << u;
+        for (v, cost) in arcs(a, u) {
+            let through = nearest + cost;
+            if through < ds[v] {
+                ds[v] = through;
+                left[v] = 1;
+                open |= 1 << v;
+            } else if through == ds[v] {
+                left[v] += 1;
+            }
+        }
+    }
+    (ds, left)
+}
+
+/// Fills in the lines of a destination.
+pub fn fill(t: &Topology, a: &Arcs, d: usize, lines: &mut Lines) {
+    let (ds, mut left) = distances(a, d);
+    let mut weight: [u64; ROUTERS] = std::array::from_fn(|u| t.id[u] as u64);
+    let mut keys = [0; NEIGHBOURS];
+    let (mut placed, mut ready, mut next) = (0u64, 0u64, d);
+    for rank in 0..t.routers {
+        let u = next;
+        let mut n = 0;
+        for (v, cost) in arcs(a, u) {
+            if placed >> v & 1 == 1 {
+                let mut carried = ((cost + ds[v]) as u64) << 40 | ((u32::MAX - t.id[v]) as u64) << 8 | v as u64;
+                for here in &mut keys[..n] {
+                    (*here, carried) = ((*here).min(carried), (*here).max(carried));
+                }
+                keys[n] = carried;
+                n += 1;
+            } else {
+                weight[v] += 1 << 32;
+                if ds[u] + cost == ds[v] {
+                    left[v] -= 1;
+                    ready |= u64::from(left[v] == 0) << v;
+                }
+            }
+        }
+        let n = n.min(t.limit as usize);
+        let mut greatest = 0;
+        for (entry, key) in lines.row[u].iter_mut().zip(&keys[..n]) {
+            *entry = *key as u8;
+            greatest = greatest.max(lines.greatest[*key as usize % ROUTERS] + 1);
+        }
+        (lines.rank[u], lines.greatest[u], lines.count[u]) = (rank as u8, greatest, n as u8);
+        placed |= 1 << u;
+        ready &= !(1 << u);
+        let mut most = 0;
+        for v in places(ready) {
+            if weight[v] >= most {
+                (next, most) = (v, weight[v]);
+            }
+        }
+    }
+}
