@@ -1,0 +1,121 @@
+"""The listing, written from the words of the rules alone: slow and short, to check programs by."""
+
+from math import inf
+
+BODY = {1: 4, 2: 4, 3: 0, 8: 1}
+
+
+class Refused(Exception):
+    """A number and where it points."""
+
+
+def fault_of_router(ids, new):
+    return 3 if new in ids else 4 if len(ids) == 64 else 0
+
+
+def fault_of_link(ids, links, a, b, cost):
+    def neighbours(u):
+        return sum(u in link[:2] for link in links)
+
+    if a >= len(ids) or b >= len(ids):
+        return 5
+    if a == b:
+        return 6
+    if cost == 0:
+        return 7
+    if any({a, b} == set(link[:2]) for link in links):
+        return 8
+    if len(links) == 256:
+        return 9
+    return 10 if 16 in (neighbours(a), neighbours(b)) else 0
+
+
+def apart(ids, links):
+    """The places without a path to place 0."""
+    reached = {0}
+    for _ in ids:
+        reached |= {v for a, b, _ in links for v in (a, b) if a in reached or b in reached}
+    return [u for u in range(len(ids)) if u not in reached]
+
+
+def read(stream):
+    """IDs by place, links by number, and K."""
+    ids, links, limit, at = [], [], 16, 0
+    while at < len(stream):
+        kind, fault = stream[at], 0
+        if kind not in BODY:
+            raise Refused(2, at)
+        after = at + 1 + BODY[kind]
+        if after > len(stream):
+            raise Refused(1, at)
+        body = stream[at + 1 : after]
+        if kind == 1:
+            new = int.from_bytes(body, "big")
+            fault = fault_of_router(ids, new)
+            ids.append(new)
+        elif kind == 2:
+            new = body[0], body[1], int.from_bytes(body[2:], "big")
+            fault = fault_of_link(ids, links, *new)
+            links.append(new)
+        elif kind == 8:
+            limit = body[0]
+            fault = 0 if 1 <= limit <= 16 else 16
+        elif after < len(stream):
+            raise Refused(11, after)
+        elif not ids:
+            raise Refused(12, at)
+        elif apart(ids, links):
+            raise Refused(13, apart(ids, links)[0])
+        else:
+            return ids, links, limit
+        if fault:
+            raise Refused(fault, at)
+        at = after
+    raise Refused(1, len(stream))
+
+
+def distances(cost, d):
+    found = [inf] * len(cost)
+    found[d] = 0
+    for _ in cost:
+        for u, arcs in enumerate(cost):
+            found[u] = min([found[u]] + [c + found[v] for v, c in arcs.items()])
+    return found
+
+
+def order(ids, cost, dist, d):
+    """The order in shortest-path mode."""
+    placed = [d]
+    while len(placed) < len(ids):
+        candidates = [
+            u
+            for u, arcs in enumerate(cost)
+            if u not in placed and all(v in placed for v, c in arcs.items() if c + dist[v] == dist[u])
+        ]
+        placed.append(max(candidates, key=lambda u: (sum(v in placed for v in cost[u]), ids[u])))
+    return placed
+
+
+def lines(ids, cost, limit, d):
+    """The lines of one destination."""
+    dist = distances(cost, d)
+    ranked = order(ids, cost, dist, d)
+    rank = {u: r for r, u in enumerate(ranked)}
+    row, greatest = {}, {}
+    for u in ranked:
+        full = sorted((c + dist[v], -ids[v], v) for v, c in cost[u].items() if rank[v] < rank[u])
+        row[u] = [v for _, _, v in full[:limit]]
+        greatest[u] = max((1 + greatest[v] for v in row[u]), default=0)
+    return [f"{d} {u} {rank[u]} {greatest[u]} {' '.join(map(str, row[u])) or '-'}\n" for u in range(len(ids))]
+
+
+def listing(stream):
+    """What the listing program prints for this input."""
+    try:
+        ids, links, limit = read(stream[:65536])
+    except Refused as refused:
+        return "refused %d %d\n" % refused.args
+    cost = [{} for _ in ids]
+    for a, b, c in links:
+        cost[a][b] = cost[b][a] = c
+    return "".join(line for d in range(len(ids)) for line in lines(ids, cost, limit, d))
