@@ -76,6 +76,15 @@ hub n = inSequence (λ place. 2 ∷ 0 ∷ place ∷ 0 ∷ 1 ∷ []) (numbersFrom
 unfoldable pub ring : List ℕ
 ring = inSequence (λ place. inSequence (λ step. 2 ∷ place ∷ (place + step) % 64 ∷ 0 ∷ 1 ∷ []) (numbersFrom 1 8)) (below 64)
 
+-- By number of the refusal: what comes after 64 routers and 256 links.
+unfoldable pub atLimits : List Fact
+atLimits =
+    reads (routers 64 ++ (take 1280 ring ++ (2 ∷ 31 ∷ 50 ∷ 0 ∷ 0 ∷ []))) (refused 7 1600)
+    ∷ reads (routers 64 ++ (take 1280 ring ++ (2 ∷ 0 ∷ 1 ∷ 0 ∷ 1 ∷ []))) (refused 8 1600)
+    ∷ reads (routers 64 ++ take 1285 ring) (refused 9 1600)
+    ∷ reads (routers 64 ++ (take 1280 ring ++ (2 ∷ 31 ∷ 50 ∷ 0 ∷ 1 ∷ []))) (refused 9 1600)
+    ∷ []
+
 -- By number of the refusal, then what is returned. Where a stream has two faults, the one that is tested first is met.
 unfoldable pub facts : List Fact
 facts =
@@ -98,13 +107,9 @@ facts =
     ∷ reads (one ++ (2 ∷ 0 ∷ 0 ∷ 0 ∷ 0 ∷ [])) (refused 6 5)
     ∷ reads (two ++ (2 ∷ 0 ∷ 1 ∷ 0 ∷ 0 ∷ [])) (refused 7 10)
     ∷ reads (two ++ (2 ∷ 0 ∷ 1 ∷ 0 ∷ 1 ∷ 2 ∷ 0 ∷ 1 ∷ 0 ∷ 0 ∷ [])) (refused 7 15)
-    ∷ reads (routers 64 ++ (take 1280 ring ++ (2 ∷ 31 ∷ 50 ∷ 0 ∷ 0 ∷ []))) (refused 7 1600)
     ∷ reads (two ++ (2 ∷ 0 ∷ 1 ∷ 0 ∷ 1 ∷ 2 ∷ 1 ∷ 0 ∷ 0 ∷ 1 ∷ [])) (refused 8 15)
     ∷ reads (two ++ (2 ∷ 0 ∷ 1 ∷ 0 ∷ 1 ∷ 2 ∷ 0 ∷ 1 ∷ 0 ∷ 1 ∷ [])) (refused 8 15)
-    ∷ reads (routers 64 ++ (take 1280 ring ++ (2 ∷ 0 ∷ 1 ∷ 0 ∷ 1 ∷ []))) (refused 8 1600)
     ∷ reads (routers 18 ++ (hub 16 ++ (2 ∷ 1 ∷ 0 ∷ 0 ∷ 1 ∷ []))) (refused 8 170)
-    ∷ reads (routers 64 ++ take 1285 ring) (refused 9 1600)
-    ∷ reads (routers 64 ++ (take 1280 ring ++ (2 ∷ 31 ∷ 50 ∷ 0 ∷ 1 ∷ []))) (refused 9 1600)
     ∷ reads (routers 18 ++ hub 17) (refused 10 170)
     ∷ reads (routers 18 ++ (hub 16 ++ (2 ∷ 17 ∷ 0 ∷ 0 ∷ 1 ∷ []))) (refused 10 170)
     ∷ reads (T-stream ++ (0 ∷ [])) (refused 11 31)
@@ -131,6 +136,6 @@ facts =
     (returned (1 ∷ 2 ∷ 3 ∷ []) ((0, 1, 1) ∷ (1, 2, 1) ∷ []) 5)
     ∷ []
 
--- The one statement: every fact of the list holds, by computing it.
+-- The one statement: every fact of the two lists holds, by computing it.
 abbrev pub FactsHold : Type 0
-FactsHold = T (every holds facts)
+FactsHold = T (every holds (atLimits ++ facts))
