@@ -28,19 +28,21 @@ Bytes s = (b : ℕ) → List·Memᴰ b s → b < 256
 abbrev pub success : Topology → Reading
 success t = record { answer = answer 0 0; topology = t }
 
+-- 01, Refusals: the topology of all zeros
+abbrev pub allZeros : Topology
+allZeros = record {
+  routers = 0;
+  links = 0;
+  limit = 0;
+  id = replicate 64 0;
+  link = replicate 256 (record { first = record { 0 = 0 }; second = record { 0 = 0 }; cost = 0 });
+}
+
 -- A reading with number 0 has at 0 and a sound topology; any other has the topology of all zeros.
 pub record Read (r : Reading) : Type 0 where
   pub at-none : r .answer .number ≡ 0 → r .answer .at ≡ 0
   pub is-sound : r .answer .number ≡ 0 → T (sound (r .topology))
-  pub zeros : r .answer .number ≢ 0 →
-      r .topology
-      ≡ record {
-        routers = 0;
-        links = 0;
-        limit = 0;
-        id = replicate 64 0;
-        link = replicate 256 (record { first = record { 0 = 0 }; second = record { 0 = 0 }; cost = 0 });
-      }
+  pub zeros : r .answer .number ≢ 0 → r .topology ≡ allZeros
 
 abbrev pub ReadsSound : Type 0
 ReadsSound = (s : List ℕ) → Bytes s → Read (reading s)
@@ -137,16 +139,7 @@ pub data Lists : List ℕ → Contents → Type 0 where
 
 -- 01, Refusals: what a refused reading returns
 abbrev pub refused : ℕ → ℕ → Reading
-refused number at = record {
-  answer = answer number at;
-  topology = record {
-    routers = 0;
-    links = 0;
-    limit = 0;
-    id = replicate 64 0;
-    link = replicate 256 (record { first = record { 0 = 0 }; second = record { 0 = 0 }; cost = 0 });
-  };
-}
+refused number at = record { answer = answer number at; topology = allZeros }
 
 -- 01, Refusals: records are taken in turn and the first fault ends the reading, at its record. Bytes that list contents go on in one of these ways:
 -- they end (1), or the next record is of an unknown kind (2), is cut short (1), has a fault, or is the end record.
