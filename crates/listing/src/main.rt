@@ -10,7 +10,7 @@ ghost use lib.ListN.{length};
 ghost use Rattle.text.specs.Lines.{Put};
 ghost use Rattle.listing.specs.Output.{output};
 
-// The bytes of the longest output: 3,840 for each of 64 destinations.
+// Room for every output: 3,840 bytes for each of 64 destinations.
 const OUTPUT: usize = 245760;
 
 // An array that comes out of a function is known by what the function ensures.
@@ -34,6 +34,8 @@ fn put_output(stream: &[u8], out: &mut [u8]) -> usize
     report::unchecked::put_all(t, arcs::unchecked::of(t), out)
 }
 
+// What is read and written no contract says. That the bytes are the first 65,536 of standard input, and that their output goes to standard output once, is
+// read here, and tried by examples/edges.
 fn main() {
     let mut input = io::large_buffer();
     let n = io::read_full(STDIN_FILENO, &mut input);

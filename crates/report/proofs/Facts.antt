@@ -19,7 +19,7 @@ use Rattle.forwarding.specs.Calls.{figure}
 use Rattle.text.specs.Hex.{none}
 use Rattle.text.specs.Numbers.{lastDigits, numberText}
 use Rattle.report.specs.Listing.{spaced, rowFields, lineText, tableFor, lineFor, linesFor, allLines, listing}
-use Rattle.report.specs.Facts.{holds, T-0, T-1, T-2, F-0, F-0-limited, lone-0, room, facts, FactsHold}
+use Rattle.report.specs.Facts.{holds, T-0, T-1, T-2, F-0, F-0-limited, eleven, eleven-10, lone-0, room, facts, FactsHold}
 
 pub facts-hold : FactsHold
 unfolding numbersFrom below keep every any leastBy greatestBy ahead foremost insert sort member distinct sameNumbers wins
@@ -32,5 +32,5 @@ unfolding numbersFrom below keep every any leastBy greatestBy ahead foremost ins
     joinedOver answers link T-topology rowBytes headerBytes rowOf rowsBytes tableBytes rowStart
     destinationIn rankIn placesIn arcsTo entriesIn listed lone F-links F-topology figure
     none lastDigits numberText spaced rowFields lineText tableFor lineFor linesFor allLines listing
-    holds T-0 T-1 T-2 F-0 F-0-limited lone-0 room facts
+    holds T-0 T-1 T-2 F-0 F-0-limited eleven eleven-10 lone-0 room facts
 facts-hold = tt

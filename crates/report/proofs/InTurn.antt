@@ -1,7 +1,7 @@
 -- Texts put one behind the other are one text, and where each has at most so many bytes it ends where room was asked for.
 -- Assumes nothing.
 use Prim.Native.Nat.{ℕ, suc, _+_, _*_, _≤_}
-use mathlib.Core.List.{List, [], _∷_, _++_, append-assoc, append-nil, List·Memᴰ, List·Memᴰ·head, List·Memᴰ·tail}
+use mathlib.Core.List.{List, [], _∷_, _++_, List·Memᴰ, List·Memᴰ·head, List·Memᴰ·tail}
 use mathlib.Core.Path.{_≡_, refl, ap, sym, _∙_}
 use native.Mathlib.Nat.{add-zero, zero-add, mul-suc}
 use native.Mathlib.Numerals.{add-one}
@@ -9,6 +9,7 @@ use native.Mathlib.Omega.{arith}
 use lib.ListN.{length, set, drop, length-append}
 use lib.Seq.{sets-eq, length-sets}
 use Rattle.topology.specs.Written.{joinedOver}
+use Rattle.topology.proofs.Joined.{joined-last}
 use Rattle.text.specs.Lines.{Put}
 use Rattle.text.proofs.Stores.{behind}
 
@@ -31,11 +32,6 @@ pub put-byte : (b : List ℕ) (at x : ℕ) → Put b at (x ∷ []) (at + 1) (set
 put-byte b at x = record { after = refl; stored = refl }
 
 module _ {A : Type 0} (f : A → List ℕ) where
-  joined-last : (xs : List A) (x : A) → joinedOver f (xs ++ (x ∷ [])) ≡ joinedOver f xs ++ f x
-  unfolding joinedOver
-  joined-last [] x = append-nil (f x)
-  joined-last (y ∷ ys) x = rw (joined-last ys x, append-assoc)
-
   -- texts of at most so many bytes each
   pub joined-most : (most : ℕ) (xs : List A) → ((x : A) → List·Memᴰ x xs → length (f x) ≤ most) → length (joinedOver f xs) ≤ most * length xs
   unfolding joinedOver
@@ -61,7 +57,7 @@ module _ {A : Type 0} (f : A → List ℕ) where
     more {xs} {i} s x few p e =
         let wide : most * (i + 1) ≡ most * i + most = rw add-one (mul-suc most i) in
         record {
-          put = rw (e, joined-last) (behind (s .put) p);
+          put = rw (e, joined-last f) (behind (s .put) p);
           ends = omega (arith, p .after, s .ends);
           long = put-length p ∙ s .long;
         }

@@ -7,7 +7,7 @@ use mathlib.Core.Path.{_≡_, refl, sym, ap, _∙_}
 use native.Mathlib.Omega.{arith}
 use borrow.Author.Tests.{lt-ltb, le-ltb}
 use lib.Dec.{T}
-use lib.ListN.{length, getD}
+use lib.ListN.{length, getD, drop}
 use Rattle.network.specs.Network.{Arc, size}
 use Rattle.network.specs.Distance.{distances}
 use Rattle.network.specs.Order.{shortest-path, build}
@@ -16,7 +16,7 @@ use Rattle.network.proofs.Below.{getD-below}
 use Rattle.network.proofs.Build.{built-by-rule}
 use Rattle.network.proofs.Tests.{as-true, as-false}
 use Rattle.stations.specs.declared.Topology.{Topology}
-use Rattle.stations.specs.Outcome.{given, turnedAway}
+use Rattle.stations.specs.Outcome.{answer, given, turnedAway}
 use Rattle.stations.specs.Topology.{networkOf}
 use Rattle.soundness.specs.Sound.{sound}
 use Rattle.soundness.proofs.Sound.{sound-networks}
@@ -28,16 +28,16 @@ use Rattle.table.proofs.Ordered.{at-rank}
 use Rattle.forwarding.specs.Calls.{figure, figures}
 use Rattle.forwarding.proofs.Figures.{figures-exact}
 use Rattle.text.specs.Numbers.{numberText}
-use Rattle.text.proofs.Texts.{one-digit, two-digits}
+use Rattle.text.proofs.Texts.{one-digit, more-digits}
 use Rattle.report.specs.declared.printing.Front.{Front}
-use Rattle.report.specs.Listing.{tableFor, lineFor, linesFor, listing}
+use Rattle.report.specs.Listing.{tableFor, lineFor, linesFor, allLines, listing}
 use Rattle.report.specs.Inner.{lineOf, frontText, rowText}
-use Rattle.report.specs.Theorems.{NumbersSpelled, lineWith, LineIs, ListsRight, ListingRefuses}
+use Rattle.report.specs.Theorems.{NumbersSpelled, lineWith, LineIs, ListsRight, ListingRefuses, AllRight}
 use Rattle.report.proofs.Fields.{field, row-none, row-some, line-fields}
 use Rattle.report.proofs.Tables.{given as its-given, accepted, ranks, hop-counts}
 
 pub numbers-spelled : NumbersSpelled
-numbers-spelled n = record { one = one-digit n; two = two-digits n }
+numbers-spelled n = record { one = one-digit n; more = more-digits n }
 
 -- the row's fields, entry by entry
 joined-entries : (entries : List Arc) → joinedOver field (map (λ a. a .to) entries) ≡ joinedOver (λ (b : Arc). 32 ∷ numberText (b .to)) entries
@@ -107,6 +107,12 @@ module _ (t : Topology) (good : T (sound t)) (d : ℕ) (place : d < t .routers) 
           if-not = λ a rest e. rw (some-row a rest e) at fields;
         }
 
+-- the lines are given to a buffer that they fit
+fits : (t : Topology) → T (sound t) → (d : ℕ) → d < t .routers → (buffer : List ℕ) → length (linesFor t d) ≤ length buffer →
+    listing t d buffer ≡ record { answer = answer 0 (length (linesFor t d)); buffer = linesFor t d ++ drop (length (linesFor t d)) buffer }
+unfolding listing given
+fits t good d place buffer h = rw (as-true (sound t) good, lt-ltb d (t .routers) place, le-ltb (length buffer) (length (linesFor t d)) h)
+
 pub lists-right : ListsRight
 unfolding listing given turnedAway linesFor
 lists-right t good d place buffer =
@@ -121,7 +127,7 @@ lists-right t good d place buffer =
       lines = line-is t good d place;
       text = linesFor t d;
       text-is = refl;
-      success = λ h. rw (as-true (sound t) good, lt-ltb d (t .routers) place, le-ltb (length buffer) (length (linesFor t d)) h);
+      success = fits t good d place buffer;
       no-room = λ h. rw (as-true (sound t) good, lt-ltb d (t .routers) place, lt-ltb (length buffer) (length (linesFor t d)) h);
     }
 
@@ -132,3 +138,7 @@ listing-refuses t d buffer =
       not-sound = λ out. rw (as-false (sound t) out);
       no-place = λ good past. rw (as-true (sound t) good, le-ltb d (t .routers) past);
     }
+
+pub all-right : AllRight
+unfolding allLines
+all-right t good = record { text = linesFor t; each = fits t good; all = refl }

@@ -8,8 +8,8 @@ use lib.Dec.{T}
 use lib.ListN.{replicate}
 use Rattle.network.specs.Lists.{every, sameNumbers}
 use Rattle.stations.specs.declared.Topology.{Topology}
-use Rattle.stations.specs.Topology.{zeros}
-use Rattle.order.specs.Table.{answers, T-topology}
+use Rattle.stations.specs.Topology.{held, zeros}
+use Rattle.order.specs.Table.{answers, link, T-topology}
 use Rattle.table.specs.Facts.{lone, F-topology}
 use Rattle.report.specs.Listing.{listing, allLines}
 
@@ -64,6 +64,31 @@ F-0-limited =
     ∷ 48 ∷ 32 ∷ 52 ∷ 32 ∷ 51 ∷ 32 ∷ 50 ∷ 32 ∷ 50 ∷ 10
     ∷ 48 ∷ 32 ∷ 53 ∷ 32 ∷ 53 ∷ 32 ∷ 51 ∷ 32 ∷ 52 ∷ 10 ∷ []
 
+-- eleven routers in a line, so that two digits stand in every kind of field
+unfoldable pub eleven : Topology
+eleven =
+    held (record {
+      ids = 1 ∷ 2 ∷ 3 ∷ 4 ∷ 5 ∷ 6 ∷ 7 ∷ 8 ∷ 9 ∷ 10 ∷ 11 ∷ [];
+      links =
+          link 0 1 1 ∷ link 1 2 1 ∷ link 2 3 1 ∷ link 3 4 1 ∷ link 4 5 1 ∷ link 5 6 1 ∷ link 6 7 1 ∷ link 7 8 1 ∷ link 8 9 1 ∷ link 9 10 1 ∷ [];
+      limit = 16;
+    })
+
+-- its lines for the last of them
+unfoldable pub eleven-10 : List ℕ
+eleven-10 =
+    49 ∷ 48 ∷ 32 ∷ 48 ∷ 32 ∷ 49 ∷ 48 ∷ 32 ∷ 49 ∷ 48 ∷ 32 ∷ 49 ∷ 10
+    ∷ 49 ∷ 48 ∷ 32 ∷ 49 ∷ 32 ∷ 57 ∷ 32 ∷ 57 ∷ 32 ∷ 50 ∷ 10
+    ∷ 49 ∷ 48 ∷ 32 ∷ 50 ∷ 32 ∷ 56 ∷ 32 ∷ 56 ∷ 32 ∷ 51 ∷ 10
+    ∷ 49 ∷ 48 ∷ 32 ∷ 51 ∷ 32 ∷ 55 ∷ 32 ∷ 55 ∷ 32 ∷ 52 ∷ 10
+    ∷ 49 ∷ 48 ∷ 32 ∷ 52 ∷ 32 ∷ 54 ∷ 32 ∷ 54 ∷ 32 ∷ 53 ∷ 10
+    ∷ 49 ∷ 48 ∷ 32 ∷ 53 ∷ 32 ∷ 53 ∷ 32 ∷ 53 ∷ 32 ∷ 54 ∷ 10
+    ∷ 49 ∷ 48 ∷ 32 ∷ 54 ∷ 32 ∷ 52 ∷ 32 ∷ 52 ∷ 32 ∷ 55 ∷ 10
+    ∷ 49 ∷ 48 ∷ 32 ∷ 55 ∷ 32 ∷ 51 ∷ 32 ∷ 51 ∷ 32 ∷ 56 ∷ 10
+    ∷ 49 ∷ 48 ∷ 32 ∷ 56 ∷ 32 ∷ 50 ∷ 32 ∷ 50 ∷ 32 ∷ 57 ∷ 10
+    ∷ 49 ∷ 48 ∷ 32 ∷ 57 ∷ 32 ∷ 49 ∷ 32 ∷ 49 ∷ 32 ∷ 49 ∷ 48 ∷ 10
+    ∷ 49 ∷ 48 ∷ 32 ∷ 49 ∷ 48 ∷ 32 ∷ 48 ∷ 32 ∷ 48 ∷ 32 ∷ 45 ∷ 10 ∷ []
+
 -- one router alone
 unfoldable pub lone-0 : List ℕ
 lone-0 = 48 ∷ 32 ∷ 48 ∷ 32 ∷ 48 ∷ 32 ∷ 48 ∷ 32 ∷ 45 ∷ 10 ∷ []
@@ -71,7 +96,7 @@ lone-0 = 48 ∷ 32 ∷ 48 ∷ 32 ∷ 48 ∷ 32 ∷ 48 ∷ 32 ∷ 45 ∷ 10 ∷ [
 unfoldable pub room : ℕ → List ℕ
 room n = replicate n 170
 
--- T's whole output, F's lines for destination 0, one router alone; then 14, 15 and 24, each beside what is tested later, and a buffer with a byte to spare
+-- T's whole output, F's lines for destination 0, one router alone, eleven in a line; then 14, 15 and 24, each beside what is tested later, and a buffer with a byte to spare
 unfoldable pub facts : List Fact
 facts =
     all T-topology (T-0 ++ (T-1 ++ T-2))
@@ -80,6 +105,7 @@ facts =
     ∷ lists T-topology 1 (room 33) 0 32 (T-1 ++ (170 ∷ []))
     ∷ lists (F-topology 16) 0 (room 66) 0 66 F-0
     ∷ lists (F-topology 1) 0 (room 60) 0 60 F-0-limited
+    ∷ lists eleven 10 (room 125) 0 125 eleven-10
     ∷ lists zeros 0 (room 3) 14 0 (room 3)
     ∷ lists zeros 5 [] 14 0 []
     ∷ lists T-topology 3 (room 99) 15 3 (room 99)

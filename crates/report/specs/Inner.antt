@@ -1,4 +1,5 @@
--- What the inner functions ask of the bytes that they print, and what they make of them; no open contract rests on it.
+-- What the inner functions ask of the bytes that they print, and what they make of them; of the open contracts only those of `unchecked` name it, for
+-- the room that they ask for.
 -- Assumes nothing.
 use Prim.Native.Nat.{ℕ, _+_, _≤_, _<_}
 use mathlib.Core.List.{List, _∷_, _++_}
@@ -14,11 +15,11 @@ use Rattle.text.specs.Numbers.{numberText}
 use Rattle.report.specs.declared.printing.Front.{Front}
 use Rattle.report.specs.Listing.{rowFields, lineText}
 
--- the most bytes of a line: four numbers of two digits, each with what parts it, and at most 16 entries
+-- room for a line: four numbers of two digits, at most 16 entries, the space before each but the first, and the line's end
 abbrev pub mostLine : ℕ
 mostLine = 60
 
--- of the lines of a destination
+-- room for the lines of a destination
 abbrev pub mostLines : ℕ
 mostLines = 3840
 

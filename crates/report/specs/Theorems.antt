@@ -1,7 +1,7 @@
--- What is proved of the listing: what stands in each field of each line, in the terms of 01, for every sound topology, destination and buffer; and what
--- is refused.
+-- What is proved of the listing: what stands in each field of each line, in the terms of 01, for every sound topology, destination and buffer; what is
+-- refused; and what the lines of all destinations are.
 -- Assumes nothing.
-use Prim.Native.Nat.{ℕ, _+_, _/_, _%_, _≤_, _<_}
+use Prim.Native.Nat.{ℕ, _+_, _/_, _%_, _^_, _≤_, _<_}
 use mathlib.Core.List.{List, [], _∷_, _++_}
 use mathlib.Core.Path.{_≡_}
 use lib.Dec.{T}
@@ -14,6 +14,7 @@ use Rattle.network.specs.Row.{row}
 use Rattle.network.specs.Forwarding.{Walk, packetOf}
 use Rattle.network.specs.Theorems.Order.{ByRule}
 use Rattle.stations.specs.declared.Topology.{Topology}
+use Rattle.stations.specs.Outcome.{answer, turnedAway}
 use Rattle.stations.specs.Topology.{networkOf}
 use Rattle.soundness.specs.Sound.{sound}
 use Rattle.topology.specs.Written.{joinedOver}
@@ -21,12 +22,12 @@ use Rattle.table.specs.Calls.{tableChecking}
 use Rattle.table.specs.Theorems.{GivenBy}
 use Rattle.forwarding.specs.Calls.{done, walking}
 use Rattle.text.specs.Numbers.{numberText}
-use Rattle.report.specs.Listing.{listing}
+use Rattle.report.specs.Listing.{allLines, listing}
 
--- a number of one digit or two, in decimal; every number of a listing is below 64
+-- a number in decimal: one digit, or the digits of its tenth part and the last; no number that is printed is larger
 pub record Spelled (n : ℕ) : Type 0 where
   pub one : n < 10 → numberText n ≡ (48 + n) ∷ []
-  pub two : 10 ≤ n → n < 100 → numberText n ≡ (48 + n / 10) ∷ (48 + n % 10) ∷ []
+  pub more : 10 ≤ n → n < 2 ^ 64 → numberText n ≡ numberText (n / 10) ++ ((48 + n % 10) ∷ [])
 
 abbrev pub NumbersSpelled : Type 0
 NumbersSpelled = (n : ℕ) → Spelled n
@@ -60,23 +61,32 @@ pub record Lists (t : Topology) (d : ℕ) (buffer : List ℕ) : Type 0 where
   pub by-rule : ByRule (networkOf t) d shortest-path order
   pub table : List ℕ
   pub given : GivenBy t table d (t .limit) order
-  pub accepted : tableChecking t table ≡ record { number = 0; at = 0 }
+  pub accepted : tableChecking t table ≡ answer 0 0
   pub line : ℕ → List ℕ
   pub lines : (u : ℕ) → u < t .routers → LineIs t d order table u (line u)
   pub text : List ℕ
   pub text-is : text ≡ joinedOver line (below (t .routers))
   pub success : length text ≤ length buffer →
-      listing t d buffer ≡ record { answer = record { number = 0; at = length text }; buffer = text ++ drop (length text) buffer }
-  pub no-room : length buffer < length text →
-      listing t d buffer ≡ record { answer = record { number = 24; at = length text }; buffer = buffer }
+      listing t d buffer ≡ record { answer = answer 0 (length text); buffer = text ++ drop (length text) buffer }
+  pub no-room : length buffer < length text → listing t d buffer ≡ turnedAway 24 (length text) buffer
 
 abbrev pub ListsRight : Type 0
 ListsRight = (t : Topology) → T (sound t) → (d : ℕ) → d < t .routers → (buffer : List ℕ) → Lists t d buffer
 
 -- 01, Refusals, 14 and 15: each with the buffer as it was; all else is `ListsRight`.
 pub record Refuses (t : Topology) (d : ℕ) (buffer : List ℕ) : Type 0 where
-  pub not-sound : (T (sound t) → ⊥) → listing t d buffer ≡ record { answer = record { number = 14; at = 0 }; buffer = buffer }
-  pub no-place : T (sound t) → t .routers ≤ d → listing t d buffer ≡ record { answer = record { number = 15; at = d }; buffer = buffer }
+  pub not-sound : (T (sound t) → ⊥) → listing t d buffer ≡ turnedAway 14 0 buffer
+  pub no-place : T (sound t) → t .routers ≤ d → listing t d buffer ≡ turnedAway 15 d buffer
 
 abbrev pub ListingRefuses : Type 0
 ListingRefuses = (t : Topology) (d : ℕ) (buffer : List ℕ) → Refuses t d buffer
+
+-- 01, Two networks by hand: the lines of all destinations are those that listing each destination writes, destination by destination, by place.
+pub record ListsAll (t : Topology) : Type 0 where
+  pub text : ℕ → List ℕ
+  pub each : (d : ℕ) → d < t .routers → (buffer : List ℕ) → length (text d) ≤ length buffer →
+      listing t d buffer ≡ record { answer = answer 0 (length (text d)); buffer = text d ++ drop (length (text d)) buffer }
+  pub all : allLines t ≡ joinedOver text (below (t .routers))
+
+abbrev pub AllRight : Type 0
+AllRight = (t : Topology) → T (sound t) → ListsAll t

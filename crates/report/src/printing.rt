@@ -16,7 +16,7 @@ ghost use Rattle.text.specs.Lines.{Put};
 ghost use Rattle.text.specs.Numbers.{numberText};
 ghost use Rattle.report.specs.Inner.{mostLine, mostLines, rowText, frontText, lineOf, Row, Small, Listable, tableText};
 
-// The most bytes of a line, and of the lines of a destination.
+// Room for a line, and for the lines of a destination.
 const LINE: usize = 12 + 3 * ENTRIES;
 
 pub(crate) const LINES: usize = LINE * ROUTERS;

@@ -19,16 +19,17 @@ use Rattle.network.proofs.Lists.{any-some, some-any, member-mem, mem-member}
 use Rattle.network.proofs.SoundLinks.{pair-fact}
 use Rattle.stations.specs.declared.Answer.{Answer}
 use Rattle.stations.specs.declared.Link.{Link}
-use Rattle.stations.specs.Topology.{Contents, seen, networkIn}
+use Rattle.stations.specs.Topology.{Contents, padded, noLink, held, seen, networkIn}
 use Rattle.stations.specs.Outcome.{answer}
 use Rattle.soundness.specs.Apart.{apart}
 use Rattle.soundness.specs.Sound.{within}
 use Rattle.soundness.specs.Theorems.{plain, Lowest}
 use Rattle.soundness.proofs.Sound.{none-apart}
 use Rattle.soundness.proofs.FirstApart.{lowest-apart}
+use Rattle.stream.specs.declared.Reading.{Reading}
 use Rattle.stream.specs.Reading.{refusal, accepted, routerFault, crowded, linkFault, fault, joined, ended}
 use Rattle.stream.specs.Theorems.{RouterFaults, linkedIn, neighbours, PairLinked, BothListed, Differing, Costing, Unlinked, WithRoom, LinkFaults}
-use Rattle.stream.specs.Theorems.{LimitFaults, EndFaults, FaultsEach}
+use Rattle.stream.specs.Theorems.{listedIn, LimitFaults, EndFaults, FaultsEach}
 use Rattle.stream.proofs.Faults.{from-6, from-7, from-8, from-9, from-10}
 
 -- what a test says where it holds, and where it fails
@@ -259,6 +260,20 @@ module _ (c : Contents) (p : ℕ) where
   unfolding ended
   end-faults follows at = by-tests at (follows-test follows) none-test
 
+-- a reading that is not refused passed every test, and returns what is listed
+module _ (c : Contents) (at : ℕ) where
+  by-cases : (follows none : Bool) (us : List ℕ) (r : Reading) → r ≡ cond follows (refusal 11 (at + 1)) (cond none (refusal 12 at) (joined c us)) →
+      r .answer .number ≡ 0 → r .topology ≡ listedIn c
+  unfolding refusal joined accepted held padded noLink
+  by-cases true none us r e z = absurd (omega (arith, ap (λ (x : Reading). x .answer .number) e))
+  by-cases false true us r e z = absurd (omega (arith, ap (λ (x : Reading). x .answer .number) e))
+  by-cases false false [] r e z = ap (λ (x : Reading). x .topology) e
+  by-cases false false (u ∷ us) r e z = absurd (omega (arith, ap (λ (x : Reading). x .answer .number) e))
+
+  returned : (follows : Bool) → ended follows at c .answer .number ≡ 0 → ended follows at c .topology ≡ listedIn c
+  unfolding ended
+  returned follows z = by-cases follows (eqb (length (c .ids)) 0) (apart c) _ refl z
+
 pub faults-each : FaultsEach
 unfolding fault
 faults-each c =
@@ -269,4 +284,5 @@ faults-each c =
       refused = λ number. refl;
       end = refl;
       at-end = λ follows at p. end-faults c p follows at;
+      returns = λ follows at. returned c at follows;
     }

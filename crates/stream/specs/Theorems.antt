@@ -1,6 +1,6 @@
 -- What is proved of reading, over all bytes.
 -- Assumes nothing.
-use Prim.Native.Nat.{ℕ, suc, _+_, _*_, _≤_, _<_}
+use Prim.Native.Nat.{ℕ, suc, _+_, _-_, _*_, _≤_, _<_}
 use mathlib.Core.Bool.{Bool, true, false}
 use mathlib.Core.List.{List, [], _∷_, _++_, List·Memᴰ, map}
 use mathlib.Core.Logic.{_↔_, _≢_, _⊎_}
@@ -36,6 +36,16 @@ allZeros = record {
   limit = 0;
   id = replicate 64 0;
   link = replicate 256 (record { first = record { 0 = 0 }; second = record { 0 = 0 }; cost = 0 });
+}
+
+-- 01, Topology stream: the topology of what is listed, routers by place and links by number; slots that are not used are zero
+abbrev pub listedIn : Contents → Topology
+listedIn c = record {
+  routers = length (c .ids);
+  links = length (c .links);
+  limit = c .limit;
+  id = c .ids ++ replicate (64 - length (c .ids)) 0;
+  link = c .links ++ replicate (256 - length (c .links)) (record { first = record { 0 = 0 }; second = record { 0 = 0 }; cost = 0 });
 }
 
 -- A reading with number 0 has at 0 and a sound topology; any other has the topology of all zeros.
@@ -115,6 +125,8 @@ pub record Faults (c : Contents) : Type 0 where
   pub refused : (number : ℕ) → fault c (record-of.Refused number) ≡ number
   pub end : fault c record-of.End ≡ 0
   pub at-end : (follows : Bool) (at p : ℕ) → EndFaults c follows at p (ended follows at c .answer)
+  -- a reading that is not refused returns what is listed, the slots behind it zero
+  pub returns : (follows : Bool) (at : ℕ) → ended follows at c .answer .number ≡ 0 → ended follows at c .topology ≡ listedIn c
 
 abbrev pub FaultsEach : Type 0
 FaultsEach = (c : Contents) → Faults c

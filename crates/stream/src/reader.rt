@@ -11,7 +11,7 @@ pub(crate) struct Reader<'a> {
     pub at: usize,
 }
 
-// Takes the next record: the reader has then reached the offset past it, or stays where the record is refused.
+// Takes the next record: the reader has then reached the offset past it, or stays where a refusal, 1 or 2, stands in its place.
 fn next_record<'s, 'a>(reader: &'s mut Reader<'a>) -> Record
     ensures { λ found. ⌜ record { found = found; reader = now (reader .exit) } ≡ next (now (reader .entry)) ⌝ }
 {

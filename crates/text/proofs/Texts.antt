@@ -114,6 +114,21 @@ few k n h g = cases (decLt 20 k)
         let m : 10 ^ 20 ≤ 10 ^ (k - 1) = pow-le-pow-right (omega arith) {i = 20} {j = k - 1} (omega arith) in
         absurd (omega (arith, g (omega arith)))
 
+-- room for one digit more than a number has changes nothing
+enough : (m n : ℕ) → n < 10 ^ suc m → lastDigits (suc (suc m)) n ≡ lastDigits (suc m) n
+unfolding lastDigits
+enough zero n h = rw (lt-ltb n 10 h)
+enough (suc m) n h = cases (decLt n 10) (λ o. enough m (n / 10) (omega (arith, pow-suc 10 (suc m))))
+  where
+    cases : Dec (n < 10) → (10 ≤ n → lastDigits (suc (suc m)) (n / 10) ≡ lastDigits (suc m) (n / 10)) →
+        lastDigits (suc (suc (suc m))) n ≡ lastDigits (suc (suc m)) n
+    cases (yes l) shorter = rw (lt-ltb n 10 l)
+    cases (no o) shorter = let more : 10 ≤ n = omega arith in rw (le-ltb n 10 more, shorter more)
+
+pub more-digits : (n : ℕ) → 10 ≤ n → n < 2 ^ 64 → numberText n ≡ numberText (n / 10) ++ ((48 + n % 10) ∷ [])
+unfolding numberText lastDigits
+more-digits n h k = let short = enough 18 (n / 10) (omega arith) in rw (le-ltb n 10 h, short)
+
 pub number-digits : (k n : ℕ) → 1 ≤ k → n < 10 ^ k → (1 < k → 10 ^ (k - 1) ≤ n) → k ≤ 20 → numberText n ≡ digits 10 k n
 unfolding numberText
 number-digits k n l h g m = fewest k 20 n l h g m

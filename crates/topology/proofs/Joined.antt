@@ -23,7 +23,7 @@ unfolding linkBytes inBytes
 link-five l = refl
 
 module _ {A : Type 0} (f : A → List ℕ) where
-  joined-last : (xs : List A) (x : A) → joinedOver f (xs ++ (x ∷ [])) ≡ joinedOver f xs ++ f x
+  pub joined-last : (xs : List A) (x : A) → joinedOver f (xs ++ (x ∷ [])) ≡ joinedOver f xs ++ f x
   unfolding joinedOver
   joined-last [] x = append-nil (f x)
   joined-last (y ∷ ys) x = rw (joined-last ys x, append-assoc)
