@@ -43,12 +43,6 @@ module _ {A : Type 0} {make : List ℕ → A} {s : List ℕ} {i : ℕ} {whole : 
   pub end : length s ≤ i → make [] ≡ whole
   end h = rw (no-rest s i h) at (l .makes)
 
-pub and-no : (a b : Bool) → a ≡ false → (a && b) ≡ false
-and-no a b e = rw (e)
-
-pub and-yes : (a b : Bool) → a ≡ true → (a && b) ≡ b
-and-yes a b e = rw (e)
-
 pub and-left : (a b : Bool) → (a && b) ≡ true → a ≡ true
 and-left true b e = refl
 and-left false b e = e
