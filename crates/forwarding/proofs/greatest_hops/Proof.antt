@@ -17,9 +17,6 @@ use Rattle.forwarding.proofs.Returned.{passed-table}
 use Rattle.forwarding.proofs.greatest_hops.Statement.{statement}
 use Rattle.forwarding.proofs.greatest_hops.Tie as tie
 
-check-requires : tie.Need-check-requires
-check-requires c κs = search needs
-
 returns : tie.Need-returns
 unfolding countingHops unlessRefused turnedAway
 returns c = rw (← c .before .before .check .ensures, ne-eqb _ _ (c .if1 .taken))
@@ -43,9 +40,6 @@ returns-2 c = rw (whole (c .before), long (c .before), lt-ltb _ _ (c .if2 .taken
 greatest-hops-requires : tie.Need-greatest-hops-requires
 greatest-hops-requires c κs = (passed (c .before .before), whole (c .before .before), c .before .if2 .left)
 
-same-length : tie.Need-same-length
-same-length c = search needs
-
 returns-3 : tie.Need-returns-3
 unfolding countingHops unlessRefused given
 returns-3 c =
@@ -56,9 +50,9 @@ pub greatest-hops-spec : {M : Type 1} → statement M
 greatest-hops-spec =
     tie.close
     (tie.spec
-    check-requires
+    (λ c κs. search needs)
     returns
     returns-2
     greatest-hops-requires
-    same-length
+    (λ c. search needs)
     returns-3)

@@ -14,15 +14,9 @@ use Rattle.forwarding.proofs.Returned.{judged-checked, passed-table, po
 use Rattle.forwarding.proofs.hop.Statement.{statement}
 use Rattle.forwarding.proofs.hop.Tie as tie
 
-is-sound-requires : tie.Need-is-sound-requires
-is-sound-requires c κs = search needs
-
 returns : tie.Need-returns
 unfolding hopping hopSays tested
 returns c = rw (sym (c .before .is-sound .ensures) ∙ not-true _ (c .if1 .taken))
-
-cast-station : tie.Need-cast-station
-cast-station c = search needs
 
 -- the topology is sound
 good : (c : tie.Else1) → sound (c .before .before .before .before .args .t) ≡ true
@@ -34,9 +28,6 @@ passed c = rw (good c) tt
 returns-2 : tie.Need-returns-2
 unfolding hopping hopSays tested packetIn
 returns-2 c = rw (good (c .before .before), le-ltb _ _ (c .if2 .taken))
-
-cast-hops : tie.Need-cast-hops
-cast-hops c = search needs
 
 returns-3 : tie.Need-returns-3
 unfolding hopping hopSays tested packetIn
@@ -76,9 +67,6 @@ returns-5 c =
     let f : tie.Else4 = c .before .before in
     let e : tie.Else3 = f .before .before .before .before in
     rw (good (e .before .before .before .before), lt-ltb _ _ (e .before .before .if2 .left), lt-ltb _ _ (e .if3 .left), whole f, ne-eqb _ _ (c .if5 .taken))
-
-first-over-requires : tie.Need-first-over-requires
-first-over-requires c κs = search needs
 
 returns-6 : tie.Need-returns-6
 unfolding hopping hopSays tested testedBy packetIn
@@ -120,17 +108,17 @@ pub hop-spec : {M : Type 1} → statement M
 hop-spec =
     tie.close
     (tie.spec
-    is-sound-requires
+    (λ c κs. search needs)
     returns
-    cast-station
+    (λ c. search needs)
     returns-2
-    cast-hops
+    (λ c. search needs)
     returns-3
     of-requires
     check-requires
     returns-4
     returns-5
-    first-over-requires
+    (λ c κs. search needs)
     returns-6
     hop-by-requires
     returns-7)

@@ -11,15 +11,9 @@ use Rattle.forwarding.specs.Calls.{packetIn, settingSays, tested, settin
 use Rattle.forwarding.proofs.set.Statement.{statement}
 use Rattle.forwarding.proofs.set.Tie as tie
 
-is-sound-requires : tie.Need-is-sound-requires
-is-sound-requires c κs = search needs
-
 returns : tie.Need-returns
 unfolding settingAt settingSays tested
 returns c = rw (sym (c .before .is-sound .ensures) ∙ not-true _ (c .if1 .taken))
-
-index-requires : tie.Need-index-requires
-index-requires c κs = search needs
 
 -- the topology is sound
 good : (c : tie.Else1) → sound (c .before .before .args .t) ≡ true
@@ -40,4 +34,4 @@ returns-3 c =
     rw (good (i .before), lt-ltb (a .start .0) (a .t .routers) (omega (arith, i .index .ensures, c .if2 .left)))
 
 pub set-spec : {M : Type 1} → statement M
-set-spec = tie.close (tie.spec is-sound-requires returns index-requires returns-2 returns-3)
+set-spec = tie.close (tie.spec (λ c κs. search needs) returns (λ c κs. search needs) returns-2 returns-3)

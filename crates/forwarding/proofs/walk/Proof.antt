@@ -19,15 +19,9 @@ use Rattle.forwarding.proofs.Returned.{judged-checked, passed-table, po
 use Rattle.forwarding.proofs.walk.Statement.{statement}
 use Rattle.forwarding.proofs.walk.Tie as tie
 
-is-sound-requires : tie.Need-is-sound-requires
-is-sound-requires c κs = search needs
-
 returns : tie.Need-returns
 unfolding walking walkSays tested
 returns c = rw (sym (c .before .is-sound .ensures) ∙ not-true _ (c .if1 .taken))
-
-index-requires : tie.Need-index-requires
-index-requires c κs = search needs
 
 -- the topology is sound
 good : (c : tie.Else1) → sound (c .before .before .before .before .args .t) ≡ true
@@ -83,9 +77,6 @@ rows : (c : tie.Else4) → let a = c .before .before .before .before .before .be
     soundLength (a .t .routers) (a .t .links) (length (now (a .schedule))) ≡ true
 rows c = sym (c .before .is-whole .ensures) ∙ not-false _ (c .if4 .left)
 
-first-over-requires : tie.Need-first-over-requires
-first-over-requires c κs = search needs
-
 returns-5 : tie.Need-returns-5
 unfolding walking walkSays tested testedBy
 returns-5 c =
@@ -117,16 +108,16 @@ pub walk-spec : {M : Type 1} → statement M
 walk-spec =
     tie.close
     (tie.spec
-    is-sound-requires
+    (λ c κs. search needs)
     returns
-    index-requires
+    (λ c κs. search needs)
     returns-2
     of-requires
     check-requires
     returns-3
     is-whole-requires
     returns-4
-    first-over-requires
+    (λ c κs. search needs)
     returns-5
     walk-by-requires
     returns-6)

@@ -95,9 +95,6 @@ loop-holds c =
     let row = c .before .pre .0 in
     (omega (arith, places-long (whole-fits row)), none-left (args .table .now) (args .u) row (args .t2 .by))
 
-sub-i : tie.Need-sub-i Inv-loop μ-loop
-sub-i c = search needs
-
 add-v : tie.Need-add-v Inv-loop μ-loop
 add-v c = omega (arith, c .before .before .before .pre .0 .place)
 
@@ -117,15 +114,9 @@ add-longer : tie.Need-add-longer Inv-loop μ-loop
 unfolding boundOf
 add-longer c = omega (arith, known (c .before .before .before))
 
-loop-less : tie.Need-loop-less Inv-loop μ-loop
-loop-less c = search needs
-
 loop-again : tie.Need-loop-again Inv-loop μ-loop
 unfolding boundOf
 loop-again c = (omega arith, omega (arith, best-next (c .before .before .before .before)))
-
-loop-less-2 : tie.Need-loop-less-2 Inv-loop μ-loop
-loop-less-2 c = search needs
 
 loop-again-2 : tie.Need-loop-again-2 Inv-loop μ-loop
 unfolding boundOf
@@ -149,15 +140,15 @@ greatest-of-spec =
     shared-slice-read-i
     cast-i
     loop-holds
-    sub-i
+    (λ c. search needs)
     add-v
     add-v-2
     shared-slice-read-v
     cast-v
     element-copy-out-bound
     add-longer
-    loop-less
+    (λ c. search needs)
     loop-again
-    loop-less-2
+    (λ c. search needs)
     loop-again-2
     returns)

@@ -16,25 +16,13 @@ returns c =
     let start = c .before .before .before .before in
     rw (arrives (start .pre .0) _ (packetIn (start .args .packet)) (c .if1 .taken))
 
-cast-u : tie.Need-cast-u
-cast-u c = search needs
-
 element-copy-out-count : tie.Need-element-copy-out-count
 element-copy-out-count c = let start = c .before .before .before .before in omega (arith, few-routers (start .pre .0), start .pre .1)
-
-cast-count : tie.Need-cast-count
-cast-count c = search needs
 
 next-of-requires : tie.Need-next-of-requires
 next-of-requires c κs =
     let start = c .before .before .before .before .before .before .before .before in
     (link-slots (start .pre .0) _ (start .pre .1) _ (start .pre .3), row-of (start .pre .0) _ (start .pre .1))
-
-enum-known-place : tie.Need-enum-known-place
-enum-known-place c = search needs
-
-enum-told : tie.Need-enum-told
-enum-told c = search needs
 
 returns-2 : tie.Need-returns-2
 unfolding hopSays packetIn
@@ -65,12 +53,12 @@ hop-by-spec =
     (tie.spec
     shared-slice-read-if1
     returns
-    cast-u
+    (λ c. search needs)
     element-copy-out-count
-    cast-count
+    (λ c. search needs)
     next-of-requires
-    enum-known-place
-    enum-told
+    (λ c. search needs)
+    (λ c. search needs)
     returns-2
     add-t12
     returns-3)

@@ -33,21 +33,6 @@ loop-holds : tie.Need-loop-holds Inv-loop μ-loop
 unfolding any
 loop-holds c = (omega arith, rw down-none refl)
 
-sub-j : tie.Need-sub-j Inv-loop μ-loop
-sub-j c = omega arith
-
-add-if1 : tie.Need-add-if1 Inv-loop μ-loop
-add-if1 c = omega arith
-
-element-copy-out-if1 : tie.Need-element-copy-out-if1 Inv-loop μ-loop
-element-copy-out-if1 c = omega arith
-
-add-number : tie.Need-add-number Inv-loop μ-loop
-add-number c = omega arith
-
-element-copy-out-number : tie.Need-element-copy-out-number Inv-loop μ-loop
-element-copy-out-number c = omega arith
-
 cast-number : tie.Need-cast-number Inv-loop μ-loop
 cast-number c =
     let at = c .before .before .before .before in
@@ -65,9 +50,6 @@ returns c =
     let at = leads .before .before .before in
     sym (any-at _ (at .before .args .count) (at .loop .j - 1) (omega arith) (rw (eq-eqb _ _ (leads .if1 .taken), eq-eqb _ _ (c .if2 .taken))))
 
-loop-less : tie.Need-loop-less Inv-loop μ-loop
-loop-less c = omega arith
-
 loop-again : tie.Need-loop-again Inv-loop μ-loop
 unfolding slotUp slotTo up
 loop-again c =
@@ -77,9 +59,6 @@ loop-again c =
       passed _ (at .loop .j) (at .before .args .count) (omega arith) (omega arith)
           (rw (eq-eqb _ _ (leads .if1 .taken), ne-eqb _ _ (c .if2 .left))) (at .loop .inv .1),
     )
-
-loop-less-2 : tie.Need-loop-less-2 Inv-loop μ-loop
-loop-less-2 c = omega arith
 
 loop-again-2 : tie.Need-loop-again-2 Inv-loop μ-loop
 unfolding slotUp slotTo up
@@ -101,16 +80,16 @@ is-up-spec =
     μ-loop
     mul-first
     loop-holds
-    sub-j
-    add-if1
-    element-copy-out-if1
-    add-number
-    element-copy-out-number
+    (λ c. omega arith)
+    (λ c. omega arith)
+    (λ c. omega arith)
+    (λ c. omega arith)
+    (λ c. omega arith)
     cast-number
     shared-slice-read-if2
     returns
-    loop-less
+    (λ c. omega arith)
     loop-again
-    loop-less-2
+    (λ c. omega arith)
     loop-again-2
     returns-2)

@@ -67,9 +67,6 @@ add-i : tie.Need-add-i Inv-loop μ-loop
 unfolding rowStart
 add-i c = omega (arith, c .before .before .before .before .before .before .before .before .pre .1)
 
-loop-less : tie.Need-loop-less Inv-loop μ-loop
-loop-less c = omega arith
-
 loop-again : tie.Need-loop-again Inv-loop μ-loop
 unfolding firstUp firstOf keep
 loop-again c =
@@ -105,6 +102,6 @@ next-of-spec =
     is-up-requires
     returns
     add-i
-    loop-less
+    (λ c. omega arith)
     loop-again
     returns-2)

@@ -45,12 +45,6 @@ cast-count c =
     let start = at .before .before .before .before in
     omega (arith, few-slots (start .pre .0) _ (at .loop .inv .inside))
 
-sub-next-of : tie.Need-sub-next-of Inv-loop μ-loop
-sub-next-of c = omega arith
-
-part-next-of-start : tie.Need-part-next-of-start Inv-loop μ-loop
-part-next-of-start c = omega arith
-
 part-next-of-end : tie.Need-part-next-of-end Inv-loop μ-loop
 part-next-of-end c =
     let turn = c .before .before .before .before .before in
@@ -67,12 +61,6 @@ next-of-requires c κs =
           (part-long (start .pre .0) (start .pre .2) (at .loop .inv) (turn .loop-test .taken)),
       row-of (start .pre .0) _ (at .loop .inv .inside),
     )
-
-enum-known-place : tie.Need-enum-known-place Inv-loop μ-loop
-enum-known-place c = search needs
-
-enum-told : tie.Need-enum-told Inv-loop μ-loop
-enum-told c = search needs
 
 returns : tie.Need-returns Inv-loop μ-loop
 unfolding walkSays packetIn
@@ -129,12 +117,12 @@ walk-by-spec =
     cast-u
     element-copy-out-count
     cast-count
-    sub-next-of
-    part-next-of-start
+    (λ c. omega arith)
+    (λ c. omega arith)
     part-next-of-end
     next-of-requires
-    enum-known-place
-    enum-told
+    (λ c. search needs)
+    (λ c. search needs)
     returns
     add-hops
     loop-less

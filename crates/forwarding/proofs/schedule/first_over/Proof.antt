@@ -29,9 +29,6 @@ Inv-loop states i₀ i = (i ≤ length states) × ((k : ℕ) → k < i → over 
 abbrev μ-loop : tie.MeasureT-loop
 μ-loop states i₀ i = length states - i
 
-highest-requires : tie.Need-highest-requires Inv-loop μ-loop
-highest-requires c κs = search needs
-
 returns : tie.Need-returns Inv-loop μ-loop
 unfolding wrongStates firstOr
 returns c =
@@ -42,9 +39,6 @@ returns c =
 loop-holds : tie.Need-loop-holds Inv-loop μ-loop
 loop-holds c = (omega arith, λ k h. absurd (omega arith))
 
-shared-slice-read-if2 : tie.Need-shared-slice-read-if2 Inv-loop μ-loop
-shared-slice-read-if2 c = search needs
-
 returns-2 : tie.Need-returns-2 Inv-loop μ-loop
 unfolding wrongStates
 returns-2 c =
@@ -52,12 +46,6 @@ returns-2 c =
     let at = turn .before .loop in
     let states = turn .before .before .before .before .before .args .states .now in
     sym (first-below (over states) (length states) (at .i) _ (turn .loop-test .taken) (at .inv .1) (rw (lt-leb _ _ (c .if2 .taken))))
-
-add-i : tie.Need-add-i Inv-loop μ-loop
-add-i c = search needs
-
-loop-less : tie.Need-loop-less Inv-loop μ-loop
-loop-less c = search needs
 
 loop-again : tie.Need-loop-again Inv-loop μ-loop
 loop-again c =
@@ -79,12 +67,12 @@ first-over-spec =
     (tie.spec
     Inv-loop
     μ-loop
-    highest-requires
+    (λ c κs. search needs)
     returns
     loop-holds
-    shared-slice-read-if2
+    (λ c. search needs)
     returns-2
-    add-i
-    loop-less
+    (λ c. search needs)
+    (λ c. search needs)
     loop-again
     returns-3)

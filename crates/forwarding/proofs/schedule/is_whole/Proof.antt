@@ -76,9 +76,6 @@ returns-2 c =
 loop-holds : tie.Need-loop-holds Inv-loop μ-loop
 loop-holds c = (sym (zero-mul (c .before .args .links)), omega arith, omega arith)
 
-sub-if3 : tie.Need-sub-if3 Inv-loop μ-loop
-sub-if3 c = search needs
-
 returns-3 : tie.Need-returns-3 Inv-loop μ-loop
 returns-3 c =
     let at = c .before .before in
@@ -90,23 +87,11 @@ returns-3 c =
     let less : k < suc rows = lt-of-mul-lt-mul-right (args .links) (omega (arith, suc-mul rows (args .links))) in
     omega arith))
 
-add-at : tie.Need-add-at Inv-loop μ-loop
-add-at c = search needs
-
-add-rows : tie.Need-add-rows Inv-loop μ-loop
-add-rows c = search needs
-
-loop-less : tie.Need-loop-less Inv-loop μ-loop
-loop-less c = search needs
-
 loop-again : tie.Need-loop-again Inv-loop μ-loop
 loop-again c =
     let at = c .before .before in
     let links = at .before .before .args .links in
     (rw add-one (omega (arith, suc-mul (at .loop .rows) links)), omega arith, omega arith)
-
-sub-result : tie.Need-sub-result Inv-loop μ-loop
-sub-result c = search needs
 
 returns-4 : tie.Need-returns-4 Inv-loop μ-loop
 returns-4 c =
@@ -125,11 +110,11 @@ is-whole-spec =
     returns
     returns-2
     loop-holds
-    sub-if3
+    (λ c. search needs)
     returns-3
-    add-at
-    add-rows
-    loop-less
+    (λ c. search needs)
+    (λ c. search needs)
+    (λ c. search needs)
     loop-again
-    sub-result
+    (λ c. search needs)
     returns-4)

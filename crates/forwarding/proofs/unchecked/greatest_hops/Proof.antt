@@ -13,9 +13,6 @@ use Rattle.forwarding.specs.Inner.{boundOf}
 use Rattle.forwarding.proofs.unchecked.greatest_hops.Statement.{statement}
 use Rattle.forwarding.proofs.unchecked.greatest_hops.Tie as tie
 
-bounds-of-requires : tie.Need-bounds-of-requires
-bounds-of-requires c κs = search needs
-
 put-bounds-requires : tie.Need-put-bounds-requires
 put-bounds-requires c κs = let pre = c .before .before .before .before .pre in (sound-exact _ .0 (pre .0) .routers-most, pre .2)
 
@@ -25,11 +22,8 @@ same : (c : tie.After-bounds-of) → let a = c .before .before .before .args in
 unfolding figures
 same c = map-same _ _ _ (λ u m. c .bounds-of .ensures .each u (below-lt _ m))
 
-same-length : tie.Need-same-length
-same-length c = search needs
-
 returns : tie.Need-returns
 returns c = rw (← same (c .before .before .before .before)) (c .before .before .put-bounds .ensures)
 
 pub greatest-hops-spec : {M : Type 1} → statement M
-greatest-hops-spec = tie.close (tie.spec bounds-of-requires put-bounds-requires same-length returns)
+greatest-hops-spec = tie.close (tie.spec (λ c κs. search needs) put-bounds-requires (λ c. search needs) returns)

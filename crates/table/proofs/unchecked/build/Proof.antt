@@ -15,12 +15,6 @@ use Rattle.table.proofs.Calling.{fillable, built-free}
 use Rattle.table.proofs.unchecked.build.Statement.{statement}
 use Rattle.table.proofs.unchecked.build.Tie as tie
 
-distances-requires : tie.Need-distances-requires
-distances-requires c κs = search needs
-
-slice-aggregate-build : tie.Need-slice-aggregate-build
-slice-aggregate-build c = search needs
-
 build-requires : tie.Need-build-requires
 build-requires c κs =
     let pre = c .before .before .before .pre in (
@@ -65,9 +59,6 @@ fill-requires c κs =
       s .pre .3,
     )
 
-same-length : tie.Need-same-length
-same-length c = search needs
-
 returns : tie.Need-returns
 returns c = let b = c .before .before .before .before .before .before in rw (← front b) (c .before .before .fill .ensures)
 
@@ -75,11 +66,11 @@ pub build-spec : {M : Type 1} → statement M
 build-spec =
     tie.close
     (tie.spec
-    distances-requires
-    slice-aggregate-build
+    (λ c κs. search needs)
+    (λ c. search needs)
     build-requires
     array-share-prefix-order
     slice-aggregate-fill
     fill-requires
-    same-length
+    (λ c. search needs)
     returns)

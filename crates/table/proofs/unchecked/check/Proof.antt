@@ -37,9 +37,6 @@ returns : tie.Need-returns
 unfolding rowStart
 returns c = wrong-length _ _ (c .if1 .taken)
 
-header-is-sound-requires : tie.Need-header-is-sound-requires
-header-is-sound-requires c κs = search needs
-
 returns-2 : tie.Need-returns-2
 unfolding rowStart
 returns-2 c =
@@ -57,9 +54,6 @@ header c = rw (sym (c .before .header-is-sound .ensures) ∙ not-false _ (c .if2
 order-of-requires : tie.Need-order-of-requires
 unfolding rowStart
 order-of-requires c κs = (few (c .before .before .before .before), c .before .before .if1 .left)
-
-shared-slice-read-t15 : tie.Need-shared-slice-read-t15
-shared-slice-read-t15 c = search needs
 
 array-share-prefix-order : tie.Need-array-share-prefix-order
 array-share-prefix-order c = begins-with _ _ _ (c .before .order-of .ensures)
@@ -134,10 +128,10 @@ check-spec =
     mul-if1
     add-if1
     returns
-    header-is-sound-requires
+    (λ c κs. search needs)
     returns-2
     order-of-requires
-    shared-slice-read-t15
+    (λ c. search needs)
     array-share-prefix-order
     slice-aggregate-judge
     judge-requires

@@ -51,17 +51,11 @@ distances-requires : tie.Need-distances-requires
 distances-requires c κs =
     let s = c .before .before .before in (s .pre .on-sound, s .pre .holds, start s .destination)
 
-room-for-table-requires : tie.Need-room-for-table-requires
-room-for-table-requires c κs = search needs
-
 array-share-prefix-order : tie.Need-array-share-prefix-order
 array-share-prefix-order c = fits (c .before .before .before .before .before)
 
 slice-aggregate-fill : tie.Need-slice-aggregate-fill
 slice-aggregate-fill c = let s = c .before .before .before .before .before .before in sym (length-take-le _ _ (fits s))
-
-slice-aggregate-fill-2 : tie.Need-slice-aggregate-fill-2
-slice-aggregate-fill-2 c = search needs
 
 fill-requires : tie.Need-fill-requires
 unfolding rowStart
@@ -108,10 +102,10 @@ first-wrong-spec =
     shared-slice-read-limit
     shared-slice-read-limit-2
     distances-requires
-    room-for-table-requires
+    (λ c κs. search needs)
     array-share-prefix-order
     slice-aggregate-fill
-    slice-aggregate-fill-2
+    (λ c. search needs)
     fill-requires
     array-share-prefix-room
     slice-aggregate-first-difference

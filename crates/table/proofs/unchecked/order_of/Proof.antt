@@ -32,15 +32,9 @@ Inv-loop n table none order₀ u₀ order u =
 abbrev μ-loop : tie.MeasureT-loop
 μ-loop n table none order₀ u₀ order u = u
 
-cast-none : tie.Need-cast-none Inv-loop μ-loop
-cast-none c = search needs
-
 loop-holds : tie.Need-loop-holds Inv-loop μ-loop
 unfolding keep firstOr
 loop-holds c = (omega arith, refl, λ r h. rw (down-none) (getD-replicate {A = ℕ} 64 r (c .args .n) 0 (omega (arith, c .pre .0))))
-
-sub-u : tie.Need-sub-u Inv-loop μ-loop
-sub-u c = search needs
 
 mul-rank : tie.Need-mul-rank Inv-loop μ-loop
 mul-rank c = omega (arith, c .before .before .pre .0, c .before .loop .inv .0)
@@ -58,12 +52,6 @@ shared-slice-read-rank c = omega (arith, c .before .before .before .pre .1, c .b
 cast-rank : tie.Need-cast-rank Inv-loop μ-loop
 cast-rank c = omega (arith, c .shared-slice-known .given (4 + 19 * (c .before .before .loop .u - 1) + 1))
 
-cast-order : tie.Need-cast-order Inv-loop μ-loop
-cast-order c = search needs
-
-array-write-order : tie.Need-array-write-order Inv-loop μ-loop
-array-write-order c = search needs
-
 -- a place more in front
 with-more : (n : ℕ) (table : List ℕ) (r u : ℕ) (us : List ℕ) → first-with n table r (u ∷ us) ≡ cond (eqb (rankIn table u) r) u (first-with n table r us)
 unfolding keep firstOr
@@ -73,9 +61,6 @@ with-more n table r u us = cases (eqb (rankIn table u) r)
         ≡ cond b u (firstOr n (keep (λ v. eqb (rankIn table v) r) us))
     cases true = refl
     cases false = refl
-
-loop-less : tie.Need-loop-less Inv-loop μ-loop
-loop-less c = search needs
 
 loop-again : tie.Need-loop-again Inv-loop μ-loop
 unfolding rankIn rowStart
@@ -93,9 +78,6 @@ loop-again c =
           (λ k. rw (down-more (at .loop .u) n h (at .loop .inv .0), with-more n table (rankIn table u) u passed, eq-eqb (rankIn table u) (rankIn table u) refl))
           (λ r apart k. rw (down-more (at .loop .u) n h (at .loop .inv .0), with-more n table r u passed, ne-eqb (rankIn table u) r (λ e. apart (sym e))) (at .loop .inv .2 r k)),
     )
-
-loop-less-2 : tie.Need-loop-less-2 Inv-loop μ-loop
-loop-less-2 c = search needs
 
 loop-again-2 : tie.Need-loop-again-2 Inv-loop μ-loop
 unfolding rankIn rowStart
@@ -129,18 +111,18 @@ order-of-spec =
     (tie.spec
     Inv-loop
     μ-loop
-    cast-none
+    (λ c. search needs)
     loop-holds
-    sub-u
+    (λ c. search needs)
     mul-rank
     add-rank
     add-rank-2
     shared-slice-read-rank
     cast-rank
-    cast-order
-    array-write-order
-    loop-less
+    (λ c. search needs)
+    (λ c. search needs)
+    (λ c. search needs)
     loop-again
-    loop-less-2
+    (λ c. search needs)
     loop-again-2
     returns)
