@@ -18,10 +18,11 @@ use Rattle.stream.specs.declared.Record.{Record}
 use Rattle.stream.specs.declared.Record.the-variants as record-of
 use Rattle.stream.specs.declared.Reading.{Reading}
 use Rattle.stream.specs.Stream.{recordIn, records}
-use Rattle.stream.specs.Reading.{refusal, accepted, fault, added, width, isEnd, ended, unless, inTurn, nothingListed, reading}
+use Rattle.stream.specs.Reading.{refusal, fault, added, width, isEnd, ended, unless, inTurn, nothingListed, reading}
 use Rattle.stream.specs.Inner.{Listed}
 use Rattle.stream.specs.Theorems.{Bytes}
 use Rattle.stream.proofs.Stream.{WholeRecord, whole-record, some-records}
+use Rattle.stream.proofs.Faults.{unless-fault}
 use Rattle.stream.proofs.Held.{contents-held}
 use Rattle.stream.proofs.Kept.{Good, good-nothing, kept, record-fits, good-listed}
 
@@ -43,26 +44,11 @@ pub turn-first : (s : List ℕ) → Turn s (held nothingListed) 0
 unfolding reading
 turn-first s = turn-holds s nothingListed 0 good-nothing (omega arith) refl
 
--- what a record without a fault, and one with a fault, make of it
-pub unless-none : (number at : ℕ) (r : Reading) → number ≡ 0 → unless number at r ≡ r
+-- a record without a fault goes on
+unless-none : (number at : ℕ) (r : Reading) → number ≡ 0 → unless number at r ≡ r
 unfolding unless
 unless-none zero at r e = refl
 unless-none (suc number) at r e = absurd (omega arith)
-
-unless-some : (number at : ℕ) (r q : Reading) → number ≢ 0 → unless number at r ≡ unless number at q
-unfolding unless
-unless-some zero at r q other = absurd (other refl)
-unless-some (suc number) at r q other = refl
-
--- what was taken, if it was
-taken-none : (number at : ℕ) (c : Contents) (r : Reading) → r ≡ unless number at (accepted c) → r .answer .number ≡ 0 → number ≡ 0
-unfolding unless refusal
-taken-none zero at c r e z = refl
-taken-none (suc number) at c r e z = absurd (omega (arith, ap (λ (q : Reading). q .answer .number) e))
-
-taken-held : (number at : ℕ) (c : Contents) (r : Reading) → r ≡ unless number at (accepted c) → number ≡ 0 → r .topology ≡ held c
-unfolding accepted
-taken-held number at c r e z = ap (λ (q : Reading). q .topology) (e ∙ unless-none number at (accepted c) z)
 
 -- past the end there is no record
 first-is : (s : List ℕ) → 0 < length s → (rest : List Record) × (records 0 s ≡ recordIn s ∷ rest)
@@ -95,12 +81,11 @@ module _ (s : List ℕ) (t : Topology) (at : ℕ) (turn : Turn s t at) where
       let w = whole-record (contents t) (drop at s) none in
       turn .goes-on ∙ rw (w .next, e, some-records, left-over)
 
-  turn-fault : at < length s → fault (contents t) (recordIn (drop at s)) ≢ 0 → (q : Reading) →
-      reading s ≡ unless (fault (contents t) (recordIn (drop at s))) at q
+  turn-fault : at < length s → fault (contents t) (recordIn (drop at s)) ≢ 0 → reading s ≡ refusal (fault (contents t) (recordIn (drop at s))) at
   unfolding inTurn
-  turn-fault h other q =
+  turn-fault h other =
       let (rest, e) = first-is (drop at s) (simp length-drop (omega arith)) in
-      turn .goes-on ∙ rw e (unless-some _ at _ q other)
+      turn .goes-on ∙ rw e (unless-fault _ at _ other)
 
   module _ (none : fault (contents t) (recordIn (drop at s)) ≡ 0) where
     w : WholeRecord (drop at s)
@@ -121,20 +106,15 @@ module _ (s : List ℕ) (t : Topology) (at : ℕ) (turn : Turn s t at) where
         (record-fits (drop at s) (λ b m. bytes b (rw take-append-drop at (Memᴰ·append-right (take at s) m))))) turn-fits
         (turn .goes-on ∙ rw (w .next) (unless-none _ at _ none ∙ rw (e, drop-drop)))
 
-  -- what taking the record gives, as the code has it: it is returned where it has a number, else the reading goes on
-  module _ (r : Record) (is : r ≡ recordIn (drop at s)) (q : Reading)
-      (gave : q ≡ unless (fault (contents t) r) at (accepted (added (contents t) r))) where
-    pub turn-refused : at < length s → q .answer .number ≢ 0 → q ≡ reading s
-    unfolding accepted
-    turn-refused h other =
-        let some : fault (contents t) r ≢ 0 = λ z. other (ap (λ (p : Reading). p .answer .number) (gave ∙ unless-none _ at _ z)) in
-        gave ∙ rw is (sym (turn-fault h (rw is at some) _))
+  -- the record as the code has it: its fault refuses, else the reading goes on
+  module _ (r : Record) (is : r ≡ recordIn (drop at s)) where
+    pub turn-refused : at < length s → fault (contents t) r ≢ 0 → refusal (fault (contents t) r) at ≡ reading s
+    turn-refused h other = rw is (sym (turn-fault h (rw is at other)))
 
-    pub turn-taken : q .answer .number ≡ 0 → isEnd r ≡ false → Bytes s → Turn s (q .topology) (at + width r) × (1 ≤ width r)
-    turn-taken z e bytes =
-        let none : fault (contents t) r ≡ 0 = taken-none (fault (contents t) r) at (added (contents t) r) q gave z in
+    pub turn-taken : fault (contents t) r ≡ 0 → isEnd r ≡ false → Bytes s → Turn s (held (added (contents t) r)) (at + width r) × (1 ≤ width r)
+    turn-taken none e bytes =
         let there : fault (contents t) (recordIn (drop at s)) ≡ 0 = rw is at none in
-        rw (taken-held (fault (contents t) r) at (added (contents t) r) q gave none, is) (turn-next there bytes (rw is at e), turn-more there)
+        rw is (turn-next there bytes (rw is at e), turn-more there)
 
 -- bytes, by their places
 pub each-byte : (s : List ℕ) → ((i : ℕ) → getD s i 0 < 256) → Bytes s

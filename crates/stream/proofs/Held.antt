@@ -1,10 +1,10 @@
 -- A topology that holds what has been listed and zeros behind it: its counts, and what a store at the first unused slot makes of it.
 -- Assumes nothing.
-use Prim.Native.Nat.{ℕ, suc, _+_, _-_, _<_}
+use Prim.Native.Nat.{ℕ, suc, _+_, _-_, _≤_, _<_}
 use mathlib.Core.List.{List, [], _∷_, _++_}
 use mathlib.Core.Path.{_≡_, ap, sym, _∙_}
 use native.Mathlib.Omega.{arith}
-use lib.ListN.{length, set, replicate, length-append}
+use lib.ListN.{length, set, replicate, length-append, length-replicate}
 use lib.Seq.{take-append-seam, set-append-seam, append-snoc}
 use Rattle.stations.specs.declared.Link.{Link}
 use Rattle.stations.specs.declared.Topology.{Topology}
@@ -24,6 +24,10 @@ contents-held c = λ i.
       limit = c .limit;
     }
 
+pub padded-length : {A : Type 0} (z : A) (slots : ℕ) (xs : List A) → length xs ≤ slots → length (padded z slots xs) ≡ slots
+unfolding padded
+padded-length z slots xs fit = simp (length-append, length-replicate) (omega arith)
+
 -- one element more goes where the first of the zeros stood
 pub store-padded : {A : Type 0} (z : A) (n : ℕ) (xs : List A) (x : A) → length xs < n →
     set (padded z n xs) (length xs) x ≡ padded z n (xs ++ (x ∷ []))
@@ -33,13 +37,13 @@ store-padded z n xs x h =
     rw left (set-append-seam xs z _ x ∙ sym (append-snoc xs x _))
 
 -- a topology with a router, or a link, stored in the first unused slot, or with another limit
-abbrev with-router : ℕ → Topology → Topology
+abbrev pub with-router : ℕ → Topology → Topology
 with-router id t = record { routers = t .routers + 1; links = t .links; limit = t .limit; id = set (t .id) (t .routers) id; link = t .link }
 
-abbrev with-link : Link → Topology → Topology
+abbrev pub with-link : Link → Topology → Topology
 with-link l t = record { routers = t .routers; links = t .links + 1; limit = t .limit; id = t .id; link = set (t .link) (t .links) l }
 
-abbrev with-limit : ℕ → Topology → Topology
+abbrev pub with-limit : ℕ → Topology → Topology
 with-limit k t = record { routers = t .routers; links = t .links; limit = k; id = t .id; link = t .link }
 
 router-held : (c : Contents) (id : ℕ) → length (c .ids) < mostRouters → with-router id (held c) ≡ held (added c (record-of.Router id))

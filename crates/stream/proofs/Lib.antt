@@ -5,6 +5,7 @@ pub mod Faults
 pub mod NoFault
 pub mod Kept
 pub mod AtTurn
+pub mod Standing
 pub mod Returned
 pub mod Verdicts
 pub mod Table

@@ -10,7 +10,7 @@ use mathlib.Core.Path.{_≡_, refl}
 use native.Mathlib.Omega.{arith}
 use borrow.Author.Tests.{eqb-false}
 use lib.Dec.{T, eqb}
-use lib.ListN.{length, drop, replicate, length-append, length-replicate}
+use lib.ListN.{length, drop, replicate}
 use lib.Seq.{drop-append-seam}
 use Rattle.network.specs.Network.{arcsOf}
 use Rattle.network.specs.Distance.{PathTo}
@@ -26,7 +26,7 @@ use Rattle.stream.specs.declared.Record.{Record}
 use Rattle.stream.specs.Stream.{bodyLength, records}
 use Rattle.stream.specs.Reading.{refusal, accepted, fault, added, width, isEnd, joined, ended, unless, some?, inTurn, nothingListed, reading}
 use Rattle.stream.specs.Theorems.{Bytes, Read, ReadsSound}
-use Rattle.stream.proofs.Held.{contents-held}
+use Rattle.stream.proofs.Held.{contents-held, padded-length}
 use Rattle.stream.proofs.Kept.{Good, good-nothing, Fitting, kept, record-fits}
 
 mem-replicate : {A : Type 0} (n : ℕ) (a : A) {b : A} → List·Memᴰ b (replicate n a) → b ≡ a
@@ -34,10 +34,6 @@ mem-replicate zero a m = absurd (List·Memᴰ·not-nil m)
 mem-replicate (suc n) a m = ⊎-elim (λ e. e) (mem-replicate n a) (List·Memᴰ·cases-cons m)
 
 module _ {A : Type 0} (z : A) (slots : ℕ) (xs : List A) (fit : length xs ≤ slots) where
-  padded-length : length (padded z slots xs) ≡ slots
-  unfolding padded
-  padded-length = simp (length-append, length-replicate) (omega arith)
-
   padded-rest : (x : A) → List·Memᴰ x (drop (length xs) (padded z slots xs)) → x ≡ z
   unfolding padded
   padded-rest x m = mem-replicate (slots - length xs) z (rw drop-append-seam at m)

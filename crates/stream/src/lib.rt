@@ -6,6 +6,7 @@ mod taking;
 use stations::Answer;
 use stations::Link;
 use stations::NEXT_HOPS;
+use stations::ROUTERS;
 use stations::Topology;
 ghost use mathlib.Core.Path.{_≡_};
 ghost use Rattle.stream.specs.Reading.{reading};
@@ -25,24 +26,42 @@ pub enum Record {
     Refused(u8),
 }
 
-// Reads a topology stream: refusals 1 to 13 and 16.
+// Reads a topology stream: refusals 1 to 13 and 16. Beside what is listed stand two tables for the links to come: whether the router at u is linked to
+// that at v, at u * ROUTERS + v, and how many neighbours each router has.
 pub fn read(stream: &[u8]) -> Reading
     ensures { λ r. ⌜ r ≡ reading (now (stream .entry)) ⌝ }
 {
     let mut t = taking::blank(NEXT_HOPS);
+    let mut linked = [false; ROUTERS * ROUTERS];
+    let mut count = [0usize; ROUTERS];
     let mut at: usize = 0;
     while at < stream.len() {
         let taken = reader::next_from(stream, at);
         let record = taken.found;
-        if let Record::End = record {
-            return taking::ended(t, at, stream.len());
-        }
-        let next = taking::with_record(t, record, at);
-        let number = next.answer.number;
+        let n = t.routers;
+        let m = t.links;
+        let number = taking::fault_of(&t.id, &linked, &count, n, m, record);
         if number != 0 {
-            return next;
+            return taking::refused(number, at);
         }
-        t = next.topology;
+        match record {
+            Record::Router(id) => {
+                t.id[n] = id;
+                t.routers = n + 1;
+            }
+            Record::Link(l) => {
+                t.link[m] = l;
+                t.links = m + 1;
+                taking::mark(&mut linked, &mut count, l.first.index(), l.second.index());
+            }
+            Record::Limit(k) => {
+                t.limit = k;
+            }
+            Record::End => {
+                return taking::ended(t, at, stream.len());
+            }
+            Record::Refused(_) => {}
+        }
         at = taken.at;
     }
     taking::refused(1, at)

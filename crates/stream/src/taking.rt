@@ -1,4 +1,4 @@
-// Taking the records of a topology stream in turn. Each function takes what is listed so far and gives it back with one record more, or refuses.
+// Taking the records of a topology stream in turn: what refuses a record, and what a link adds to the tables that the next links are looked up in.
 use super::Reading;
 use super::Record;
 use soundness::unchecked;
@@ -10,19 +10,18 @@ use stations::NEXT_HOPS;
 use stations::Place;
 use stations::ROUTERS;
 use stations::Topology;
+ghost use mathlib.Core.Bool.{cond};
 ghost use mathlib.Core.Path.{_≡_};
-ghost use mathlib.Core.List.{[], map};
-ghost use Prim.Native.Nat.{_+_, _<_};
+ghost use mathlib.Core.List.{[]};
+ghost use Prim.Native.Nat.{_+_, _<_, _≤_};
 ghost use lib.Dec.{ltb};
-ghost use lib.ListN.{length};
-ghost use Rattle.network.specs.Lists.{any};
-ghost use Rattle.network.specs.Network.{arcsAmong, samePair};
-ghost use Rattle.stations.specs.Topology.{contents, held, seen};
-ghost use Rattle.stations.specs.Inner.{Counted};
-ghost use Rattle.stream.specs.declared.Record.the-variants as «record-of»;
-ghost use Rattle.stream.specs.Reading.{refusal, accepted, unless, fault, added, routerFault, linkFault, width};
+ghost use lib.ListN.{length, take};
+ghost use Rattle.stations.specs.Limits.{mostRouters, mostNextHops};
+ghost use Rattle.stations.specs.Topology.{Contents, contents, held};
+ghost use Rattle.soundness.specs.Sound.{within};
+ghost use Rattle.stream.specs.Reading.{refusal, fault, routerFault, linkFault, width};
 ghost use Rattle.stream.specs.Reading as said;
-ghost use Rattle.stream.specs.Inner.{Listed};
+ghost use Rattle.stream.specs.Inner.{Listed, Indexed, Roomy, withPair, withNeighbours};
 
 // All zeros but for the next-hop limit.
 pub(crate) fn blank(limit: u8) -> Topology
@@ -64,95 +63,31 @@ fn taken(t: Topology) -> Reading
     }
 }
 
-// Whether the pair is linked already, in either order.
-fn is_linked(t: Topology, l: Link) -> bool
-    requires { ⌜ Counted t ⌝ }
-    ensures { λ r. ⌜ r ≡ any (samePair (seen l)) (map seen (contents t .links)) ⌝ }
+// Refusals 3 and 4: the number of the first test that the router fails, 0 if it fails none.
+fn router_fault(ids: &[u32; ROUTERS], n: usize, id: u32) -> u8
+    requires { ⌜ (n ≤ mostRouters) × (length (now ids) ≡ mostRouters) ⌝ }
+    ensures { λ r. ⌜ ((c : Contents) → c .ids ≡ take n (now (ids .entry)) → r ≡ routerFault c id) ⌝ }
 {
-    let links = t.links;
-    let first = l.first.0;
-    let second = l.second.0;
-    let mut i: usize = 0;
-    while i < links {
-        let k = t.link[i];
-        if first == k.first.0 {
-            if second == k.second.0 {
-                return true;
-            }
-        }
-        if first == k.second.0 {
-            if second == k.first.0 {
-                return true;
-            }
-        }
-        i += 1;
-    }
-    false
-}
-
-// How many neighbours the router at the place has.
-fn neighbours(t: Topology, place: Place) -> usize
-    requires { ⌜ Counted t ⌝ }
-    ensures { λ r. ⌜ r ≡ length (arcsAmong (place .0) 0 (map seen (contents t .links))) ⌝ }
-{
-    let links = t.links;
-    let at = place.0;
-    let mut count: usize = 0;
-    let mut i: usize = 0;
-    while i < links {
-        let k = t.link[i];
-        if k.first.0 == at {
-            count += 1;
-        } else {
-            if k.second.0 == at {
-                count += 1;
-            }
-        }
-        i += 1;
-    }
-    count
-}
-
-// Refusals 3 and 4.
-fn with_router(t: Topology, id: u32, at: usize) -> Reading
-    requires { ⌜ Listed t ⌝ }
-    ensures { λ r. ⌜ r ≡ unless (routerFault (contents t) id) at (accepted (added (contents t) («record-of».Router id))) ⌝ }
-{
-    let n = t.routers;
-    if unchecked::is_listed(&t.id, n, id) {
-        return refused(3, at);
+    if unchecked::is_listed(ids, n, id) {
+        return 3;
     }
     if ROUTERS <= n {
-        return refused(4, at);
+        return 4;
     }
-    let mut next = t;
-    next.id[n] = id;
-    next.routers = n + 1;
-    taken(next)
+    0
 }
 
-// Refusals 5 to 10.
-fn with_link(t: Topology, l: Link, at: usize) -> Reading
-    requires { ⌜ Listed t ⌝ }
-    ensures { λ r. ⌜ r ≡ unless (linkFault (contents t) l) at (accepted (added (contents t) («record-of».Link l))) ⌝ }
+// Refusals 5 to 10: the same of a link, with n routers and m links listed so far. A place is looked up only where it is listed.
+fn link_fault<'a>(
+    linked: &'a [bool; ROUTERS * ROUTERS],
+    count: &'a [usize; ROUTERS],
+    n: usize,
+    m: usize,
+    l: Link,
+) -> u8
+    requires { ⌜ n ≤ mostRouters ⌝ }
+    ensures { λ r. ⌜ ((c : Contents) → Indexed c n m (now (linked .entry)) (now (count .entry)) → r ≡ linkFault c l) ⌝ }
 {
-    let number = link_fault(t, l);
-    if number != 0 {
-        return refused(number, at);
-    }
-    let m = t.links;
-    let mut next = t;
-    next.link[m] = l;
-    next.links = m + 1;
-    taken(next)
-}
-
-// The number of the first test of 5 to 10 that the link fails, 0 if it fails none. A neighbour is counted before anything is stored.
-fn link_fault(t: Topology, l: Link) -> u8
-    requires { ⌜ Listed t ⌝ }
-    ensures { λ r. ⌜ r ≡ linkFault (contents t) l ⌝ }
-{
-    let n = t.routers;
     let first = l.first.index();
     let second = l.second.index();
     if n <= first {
@@ -167,55 +102,72 @@ fn link_fault(t: Topology, l: Link) -> u8
     if l.cost == 0 {
         return 7;
     }
-    if is_linked(t, l) {
+    if linked[first * ROUTERS + second] {
         return 8;
     }
-    if LINKS <= t.links {
+    if LINKS <= m {
         return 9;
     }
-    if NEIGHBOURS <= neighbours(t, l.first) {
+    if NEIGHBOURS <= count[first] {
         return 10;
     }
-    if NEIGHBOURS <= neighbours(t, l.second) {
+    if NEIGHBOURS <= count[second] {
         return 10;
     }
     0
 }
 
 // Refusal 16.
-fn with_limit(t: Topology, k: u8, at: usize) -> Reading
-    requires { ⌜ Listed t ⌝ }
-    ensures { λ r. ⌜ r ≡ unless (fault (contents t) («record-of».Limit k)) at (accepted (added (contents t) («record-of».Limit k))) ⌝ }
+fn limit_fault(k: u8) -> u8
+    ensures { λ r. ⌜ r ≡ cond (within mostNextHops k) 0 16 ⌝ }
 {
     if k < 1 {
-        return refused(16, at);
+        return 16;
     }
     if NEXT_HOPS < k {
-        return refused(16, at);
+        return 16;
     }
-    let mut next = t;
-    next.limit = k;
-    taken(next)
+    0
 }
 
-// One record more, or its refusal.
-pub(crate) fn with_record(t: Topology, record: Record, at: usize) -> Reading
-    requires { ⌜ Listed t ⌝ }
-    ensures { λ r. ⌜ r ≡ unless (fault (contents t) «record») at (accepted (added (contents t) «record»)) ⌝ }
+// The number of the first test that a record fails, 0 if it fails none: what is listed so far is given by the IDs, the linked pairs, the neighbours of
+// each place, and how many routers and links there are.
+pub(crate) fn fault_of<'a>(
+    ids: &'a [u32; ROUTERS],
+    linked: &'a [bool; ROUTERS * ROUTERS],
+    count: &'a [usize; ROUTERS],
+    n: usize,
+    m: usize,
+    record: Record,
+) -> u8
+    requires { ⌜ (n ≤ mostRouters) × (length (now ids) ≡ mostRouters) ⌝ }
+    ensures { λ r. ⌜ ((c : Contents) → c .ids ≡ take n (now (ids .entry)) → Indexed c n m (now (linked .entry)) (now (count .entry)) → r ≡ fault c «record») ⌝ }
 {
     match record {
-        Record::Router(id) => with_router(t, id, at),
-        Record::Link(l) => with_link(t, l, at),
-        Record::Limit(k) => with_limit(t, k, at),
-        Record::End => taken(t),
-        Record::Refused(number) => {
-            if number == 0 {
-                taken(t)
-            } else {
-                refused(number, at)
-            }
-        }
+        Record::Router(id) => router_fault(ids, n, id),
+        Record::Link(l) => link_fault(linked, count, n, m, l),
+        Record::Limit(k) => limit_fault(k),
+        Record::End => 0,
+        Record::Refused(number) => number,
     }
+}
+
+// A link more: its pair, in both orders, and a neighbour more at each end.
+pub(crate) fn mark<'a>(
+    linked: &'a mut [bool; ROUTERS * ROUTERS],
+    count: &'a mut [usize; ROUTERS],
+    first: usize,
+    second: usize,
+)
+    requires { ⌜ Roomy (now count) first × Roomy (now count) second ⌝ }
+    ensures { λ _. ⌜ (now (linked .exit) ≡ withPair (now (linked .entry)) first second) × (now (count .exit) ≡ withNeighbours (now (count .entry)) first second) ⌝ }
+{
+    linked[first * ROUTERS + second] = true;
+    linked[second * ROUTERS + first] = true;
+    let at_first = count[first];
+    let at_second = count[second];
+    count[first] = at_first + 1;
+    count[second] = at_second + 1;
 }
 
 // How many bytes the record takes.
