@@ -18,3 +18,4 @@ pub mod Turns
 pub mod Returned
 pub mod Meant
 pub mod Loan
+pub mod Unchanged

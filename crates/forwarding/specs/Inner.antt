@@ -1,8 +1,8 @@
--- What the private functions ask of the bytes and slots that they go through, and what they make of them; no open contract rests on it.
+-- What the private functions ask of the bytes and slots that they go through, and what they make of them and of a packet; no open contract rests on it.
 -- Router u has the slots from u * mostNeighbours on, and its row stands from 4 + 19u on in the table.
 -- Assumes nothing.
 use Prim.Native.Nat.{ℕ, _+_, _*_, _≤_, _<_}
-use mathlib.Core.Bool.{Bool, true, _&&_}
+use mathlib.Core.Bool.{Bool, true, false, _&&_}
 use mathlib.Core.List.{List, [], _∷_, List·Memᴰ}
 use mathlib.Core.Option.{Option, none, some}
 use mathlib.Core.Path.{_≡_}
@@ -10,6 +10,8 @@ use lib.Dec.{T, eqb}
 use lib.ListN.{length, getD}
 use Rattle.network.specs.Lists.{below, keep, any}
 use Rattle.network.specs.Routing.{up}
+use Rattle.network.specs.Forwarding as network
+use Rattle.network.specs.Forwarding.{Packet}
 use Rattle.stations.specs.declared.Rank.{Rank}
 use Rattle.stations.specs.declared.Topology.{Topology}
 use Rattle.stations.specs.Limits.{mostRouters, mostNeighbours, mostNextHops}
@@ -26,7 +28,8 @@ use Rattle.forwarding.specs.declared.moving.Next.{Next}
 use Rattle.forwarding.specs.declared.moving.Next.the-variants as next
 use Rattle.forwarding.specs.declared.counting.Bounds.{Bounds}
 use Rattle.forwarding.specs.Schedule.{soundLength, wrongStates}
-use Rattle.forwarding.specs.Calls.{figure}
+use Rattle.forwarding.specs.Calls.{Said, done, refused, figure, settingAt, hopping}
+use Rattle.forwarding.specs.Lent.{Left, settingPacket, hoppingPacket}
 
 -- the first slots of u are of links that have a state
 pub record LinkSlots (link : List ℕ) (states u count : ℕ) : Type 0 where
@@ -81,3 +84,26 @@ pub record Figures (t : Topology) (table : List ℕ) (r : Bounds) : Type 0 where
 pub record Scheduled (t : Topology) (schedule : List ℕ) : Type 0 where
   pub whole : soundLength (t .routers) (t .links) (length schedule) ≡ true
   pub states : wrongStates schedule ≡ []
+
+-- what a call leaves, and whether it changed the packet: only then is the packet stored
+pub record Change (A : Type 0) : Type 0 where
+  pub left : Left A
+  pub changed : Bool
+
+-- 01, Refusals: a refused setting writes to no packet
+unfoldable pub isSet : Said (Packet ℕ) → Bool
+isSet (done p) = true
+isSet (refused number at) = false
+
+-- 01, Packet, hop and schedule: only moved changes the packet
+unfoldable pub isMoved : Said (network.Hop ℕ) → Bool
+isMoved (done network.delivered) = false
+isMoved (done (network.moved p)) = true
+isMoved (done network.dropped) = false
+isMoved (refused number at) = false
+
+unfoldable pub settingChange : Topology → ℕ → Packet ℕ → Change (Packet ℕ)
+settingChange t u p = record { left = settingPacket t u p; changed = isSet (settingAt t u) }
+
+unfoldable pub hoppingChange : Topology → List ℕ → List ℕ → Packet ℕ → Change (network.Hop ℕ)
+hoppingChange t table states p = record { left = hoppingPacket t table states p; changed = isMoved (hopping t table states p) }

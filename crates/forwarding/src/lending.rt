@@ -7,6 +7,7 @@ use stations::Topology;
 ghost use mathlib.Core.Path.{_≡_};
 ghost use Rattle.forwarding.specs.Calls.{packetIn, settingSays, hopSays};
 ghost use Rattle.forwarding.specs.Lent.{afterSetting, afterHop, settingPacket, hoppingPacket};
+ghost use Rattle.forwarding.specs.Inner.{isSet, isMoved, settingChange, hoppingChange};
 
 // What a setting of a packet answers, and the packet as it leaves it.
 pub struct AfterSetting {
@@ -18,6 +19,42 @@ pub struct AfterSetting {
 pub struct AfterHop {
     pub answer: Hopped,
     pub packet: Packet,
+}
+
+// What a setting leaves, and whether it set the packet: only then is it stored.
+struct LeftBySetting {
+    answer: Setting,
+    packet: Packet,
+    set: bool,
+}
+
+// What a hop leaves, and whether it moved the packet: only then is it stored.
+struct LeftByHop {
+    answer: Hopped,
+    packet: Packet,
+    moved: bool,
+}
+
+// Whether a setting of this answer set the packet.
+fn is_set(answer: Setting) -> bool
+    ensures { λ r. ⌜ r ≡ isSet (settingSays answer) ⌝ }
+{
+    match answer {
+        Setting::Set(_) => true,
+        Setting::Refused(_) => false,
+    }
+}
+
+// Whether a hop of this answer moved the packet.
+fn is_moved(answer: Hopped) -> bool
+    ensures { λ r. ⌜ r ≡ isMoved (hopSays answer) ⌝ }
+{
+    match answer {
+        Hopped::Delivered => false,
+        Hopped::Moved(_) => true,
+        Hopped::Dropped => false,
+        Hopped::Refused(_) => false,
+    }
 }
 
 // A setting not refused leaves the packet that it set, a refused one the packet of before.
@@ -43,44 +80,52 @@ fn packet_after_hop(answer: Hopped, packet: Packet) -> Packet
 }
 
 // What a setting of this packet answers and leaves.
-fn left_by_setting(packet: Packet, t: Topology, start: Place) -> AfterSetting
-    ensures { λ r. ⌜ record { answer = settingSays (r .answer); packet = packetIn (r .packet) } ≡ settingPacket t (start .0) (packetIn packet) ⌝ }
+fn left_by_setting(packet: Packet, t: Topology, start: Place) -> LeftBySetting
+    ensures { λ r. ⌜ record { left = record { answer = settingSays (r .answer); packet = packetIn (r .packet) }; changed = r .set } ≡ settingChange t (start .0) (packetIn packet) ⌝ }
 {
     let answer = super::set(t, start);
     let after = packet_after_setting(answer, packet);
-    AfterSetting {
+    let set = is_set(answer);
+    LeftBySetting {
         answer: answer,
         packet: after,
+        set: set,
     }
 }
 
 // What a hop of this packet answers and leaves.
-fn left_by_hop(packet: Packet, t: Topology, table: &[u8], states: &[u8]) -> AfterHop
-    ensures { λ r. ⌜ record { answer = hopSays (r .answer); packet = packetIn (r .packet) } ≡ hoppingPacket t (now (table .entry)) (now (states .entry)) (packetIn packet) ⌝ }
+fn left_by_hop(packet: Packet, t: Topology, table: &[u8], states: &[u8]) -> LeftByHop
+    ensures { λ r. ⌜ record { left = record { answer = hopSays (r .answer); packet = packetIn (r .packet) }; changed = r .moved } ≡ hoppingChange t (now (table .entry)) (now (states .entry)) (packetIn packet) ⌝ }
 {
     let answer = super::hop(t, table, states, packet);
     let after = packet_after_hop(answer, packet);
-    AfterHop {
+    let moved = is_moved(answer);
+    LeftByHop {
         answer: answer,
         packet: after,
+        moved: moved,
     }
 }
 
-// Sets the packet, its old contents untested, to a start with 0 hops made: refusals 14 and 15, which leave it as it was.
+// Sets the packet, its old contents untested, to a start with 0 hops made: refusals 14 and 15, which store nothing to it.
 pub fn set_packet(packet: &mut Packet, t: Topology, start: Place) -> Setting
     ensures { λ r. ⌜ record { answer = settingSays r; packet = packetIn (now (packet .exit)) } ≡ settingPacket t (start .0) (packetIn (now (packet .entry))) ⌝ }
 {
     let left = left_by_setting(*packet, t, start);
-    *packet = left.packet;
+    if left.set {
+        *packet = left.packet;
+    }
     left.answer
 }
 
-// Makes one hop of the packet under a row of link states: refusals 14, 15 and 21 to 23, which leave it as it was.
+// Makes one hop of the packet under a row of link states, and stores to it only where it moved: refusals 14, 15 and 21 to 23.
 pub fn hop_packet(packet: &mut Packet, t: Topology, table: &[u8], states: &[u8]) -> Hopped
     ensures { λ r. ⌜ record { answer = hopSays r; packet = packetIn (now (packet .exit)) } ≡ hoppingPacket t (now (table .entry)) (now (states .entry)) (packetIn (now (packet .entry))) ⌝ }
 {
     let left = left_by_hop(*packet, t, table, states);
-    *packet = left.packet;
+    if left.moved {
+        *packet = left.packet;
+    }
     left.answer
 }
 
