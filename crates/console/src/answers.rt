@@ -37,47 +37,39 @@ pub struct Turn {
     pub count: usize,
 }
 
+// The number of fields after the first word, and the request.
+struct Shape(usize, Request);
+
+// In the order of the words in `request_in`.
+const SHAPES: [Shape; 13] = [
+    Shape(1, Request::Topology),
+    Shape(1, Request::Write),
+    Shape(3, Request::Order),
+    Shape(3, Request::CheckOrder),
+    Shape(3, Request::Fill),
+    Shape(1, Request::LoadTable),
+    Shape(0, Request::CheckTable),
+    Shape(1, Request::Greatest),
+    Shape(2, Request::LoadPacket),
+    Shape(1, Request::Set),
+    Shape(1, Request::Hop),
+    Shape(2, Request::Walk),
+    Shape(2, Request::Listing),
+];
+
 fn request_in(line: &[u8]) -> Request
     ensures { λ r. ⌜ r ≡ requestIn (now (line .entry)) ⌝ }
 {
-    if fields::asks(line, b"topology", 1) {
-        return Request::Topology;
-    }
-    if fields::asks(line, b"write", 1) {
-        return Request::Write;
-    }
-    if fields::asks(line, b"order", 3) {
-        return Request::Order;
-    }
-    if fields::asks(line, b"check-order", 3) {
-        return Request::CheckOrder;
-    }
-    if fields::asks(line, b"fill", 3) {
-        return Request::Fill;
-    }
-    if fields::asks(line, b"load-table", 1) {
-        return Request::LoadTable;
-    }
-    if fields::asks(line, b"check-table", 0) {
-        return Request::CheckTable;
-    }
-    if fields::asks(line, b"greatest", 1) {
-        return Request::Greatest;
-    }
-    if fields::asks(line, b"load-packet", 2) {
-        return Request::LoadPacket;
-    }
-    if fields::asks(line, b"set", 1) {
-        return Request::Set;
-    }
-    if fields::asks(line, b"hop", 1) {
-        return Request::Hop;
-    }
-    if fields::asks(line, b"walk", 2) {
-        return Request::Walk;
-    }
-    if fields::asks(line, b"listing", 2) {
-        return Request::Listing;
+    let words =
+        b"topology write order check-order fill load-table check-table greatest load-packet set hop walk listing";
+    let shapes = SHAPES;
+    let mut k: usize = 0;
+    while k < shapes.len() {
+        let shape = shapes[k];
+        if fields::asks(line, fields::field(words, k), shape.0) {
+            return shape.1;
+        }
+        k += 1;
     }
     Request::Unknown
 }

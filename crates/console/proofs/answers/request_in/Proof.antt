@@ -1,218 +1,83 @@
--- The forms are tried one after the other.
+-- The forms are tried one after the other: those that are left have the words of the text and the shapes from k on.
 -- Assumes nothing.
-use Prim.Native.Nat.{ℕ}
-use mathlib.Core.Bool.{true, false}
-use mathlib.Core.List.{List, _∷_}
-use mathlib.Core.Path.{_≡_, sym, _∙_}
-use lib.ListN.{drop}
-use Rattle.text.specs.Fields.{asks}
+use Prim.Native.Nat.{ℕ, suc, _+_, _-_, _≤_, _<_}
+use mathlib.Core.Bool.{Bool, cond}
+use mathlib.Core.List.{List, [], _∷_}
+use mathlib.Core.Path.{_≡_, refl, sym, _∙_}
+use native.Mathlib.Omega.{arith}
+use native.Mathlib.Numerals.{add-one}
+use lib.ListN.{length, drop, getD}
+use lib.Seq.{drop-length, drop-cons}
+use Rattle.text.specs.Fields.{before, after, field, asks}
 use Rattle.requests.specs.Requests.{setWord}
+use Rattle.console.specs.declared.answers.Shape.{Shape}
+use Rattle.console.specs.declared.answers.Request.{Request}
+use Rattle.console.specs.declared.answers.Request.the-variants.{Unknown}
 use Rattle.console.specs.Answers.{topologyWord, writeWord, orderWord, checkOrderWord, fillWord, loadTableWord, checkTableWord, greatestWord, loadPacketWord, hopWord, walkWord, listingWord, Form, forms, formed, requestIn}
 use borrow.Author.Needs.{needs}
 use Rattle.console.proofs.answers.request_in.Statement.{statement}
 use Rattle.console.proofs.answers.request_in.Tie as tie
 
-module _ (f : Form) (fs : List Form) (line : List ℕ) where
-  has : asks (f .word) (f .fields) line ≡ true → formed (f ∷ fs) line ≡ f .request
-  unfolding formed
-  has e = rw (e)
+-- the forms of these shapes, whose words are the fields of a text from k on
+made : List ℕ → ℕ → List Shape → List Form
+made words k [] = []
+made words k (s ∷ ss) = record { word = field k words; fields = s .0; request = s .1 } ∷ made words (suc k) ss
 
-  has-not : asks (f .word) (f .fields) line ≡ false → formed (f ∷ fs) line ≡ formed fs line
-  unfolding formed
-  has-not e = rw (e)
+-- those from k on
+left : List ℕ → List Shape → ℕ → List Form
+left words shapes k = made words k (drop k shapes)
 
--- the line has none of the first forms
-abbrev NoneOf : ℕ → List ℕ → Type 0
-NoneOf k line = requestIn line ≡ formed (drop k forms) line
+-- the first of them is tried
+tried : (line words : List ℕ) (shapes : List Shape) (k : ℕ) (d : Shape) {r : Request} {word : List ℕ} {has : Bool} →
+    r ≡ formed (left words shapes k) line → k < length shapes → word ≡ field k words → has ≡ asks word (getD shapes k d .0) line →
+    r ≡ cond has (getD shapes k d .1) (formed (left words shapes (k + 1)) line)
+unfolding left made formed
+tried line words shapes k d e h w q = e ∙ rw (add-one, drop-cons shapes k d h, q, w)
 
-abbrev line1 : tie.Else1 → List ℕ
-line1 c = c .before .before .before .before .args .line .now
+-- none is left
+finished : (line words : List ℕ) (shapes : List Shape) (k : ℕ) {r : Request} → r ≡ formed (left words shapes k) line → k ≡ length shapes → r ≡ Unknown
+unfolding left made formed
+finished line words shapes k e h = e ∙ rw (h, drop-length)
 
-abbrev line2 : tie.Else2 → List ℕ
-line2 c = line1 (c .before .before .before)
+abbrev Inv-loop : tie.InvT-loop
+Inv-loop line words shapes k₀ k = (k ≤ length shapes) × (requestIn line ≡ formed (left words shapes k) line)
 
-abbrev line3 : tie.Else3 → List ℕ
-line3 c = line2 (c .before .before .before)
+abbrev μ-loop : tie.MeasureT-loop
+μ-loop line words shapes k₀ k = length shapes - k
 
-abbrev line4 : tie.Else4 → List ℕ
-line4 c = line3 (c .before .before .before)
+-- the words and the shapes make the forms
+loop-holds : tie.Need-loop-holds Inv-loop μ-loop
+unfolding requestIn forms left made field before after topologyWord writeWord orderWord checkOrderWord fillWord loadTableWord checkTableWord greatestWord loadPacketWord setWord hopWord walkWord listingWord
+loop-holds c = (omega arith, refl)
 
-abbrev line5 : tie.Else5 → List ℕ
-line5 c = line4 (c .before .before .before)
+returns : tie.Need-returns Inv-loop μ-loop
+returns c =
+    let l = c .before .before .before .before .before .before .loop in
+    sym (tried _ _ _ (l .k) _ (l .inv .1) (omega arith) (c .before .before .field .ensures) (c .before .asks .ensures) ∙ rw (c .if1 .taken))
 
-abbrev line6 : tie.Else6 → List ℕ
-line6 c = line5 (c .before .before .before)
+loop-again : tie.Need-loop-again Inv-loop μ-loop
+loop-again c =
+    let l = c .before .before .before .before .before .before .loop in (
+      omega arith,
+      tried _ _ _ (l .k) _ (l .inv .1) (omega arith) (c .before .before .field .ensures) (c .before .asks .ensures) ∙ rw (c .if1 .left),
+    )
 
-abbrev line7 : tie.Else7 → List ℕ
-line7 c = line6 (c .before .before .before)
-
-abbrev line8 : tie.Else8 → List ℕ
-line8 c = line7 (c .before .before .before)
-
-abbrev line9 : tie.Else9 → List ℕ
-line9 c = line8 (c .before .before .before)
-
-abbrev line10 : tie.Else10 → List ℕ
-line10 c = line9 (c .before .before .before)
-
-abbrev line11 : tie.Else11 → List ℕ
-line11 c = line10 (c .before .before .before)
-
-abbrev line12 : tie.Else12 → List ℕ
-line12 c = line11 (c .before .before .before)
-
-abbrev line13 : tie.Else13 → List ℕ
-line13 c = line12 (c .before .before .before)
-
-not-topology : (c : tie.Else1) → NoneOf 1 (line1 c)
-unfolding requestIn forms topologyWord
-not-topology c = has-not _ _ _ (sym (c .before .asks .ensures) ∙ c .if1 .left)
-
-not-write : (c : tie.Else2) → NoneOf 2 (line2 c)
-unfolding requestIn forms writeWord
-not-write c = not-topology (c .before .before .before) ∙ has-not _ _ _ (sym (c .before .asks2 .ensures) ∙ c .if2 .left)
-
-not-order : (c : tie.Else3) → NoneOf 3 (line3 c)
-unfolding requestIn forms orderWord
-not-order c = not-write (c .before .before .before) ∙ has-not _ _ _ (sym (c .before .asks3 .ensures) ∙ c .if3 .left)
-
-not-check-order : (c : tie.Else4) → NoneOf 4 (line4 c)
-unfolding requestIn forms checkOrderWord
-not-check-order c = not-order (c .before .before .before) ∙ has-not _ _ _ (sym (c .before .asks4 .ensures) ∙ c .if4 .left)
-
-not-fill : (c : tie.Else5) → NoneOf 5 (line5 c)
-unfolding requestIn forms fillWord
-not-fill c = not-check-order (c .before .before .before) ∙ has-not _ _ _ (sym (c .before .asks5 .ensures) ∙ c .if5 .left)
-
-not-load-table : (c : tie.Else6) → NoneOf 6 (line6 c)
-unfolding requestIn forms loadTableWord
-not-load-table c = not-fill (c .before .before .before) ∙ has-not _ _ _ (sym (c .before .asks6 .ensures) ∙ c .if6 .left)
-
-not-check-table : (c : tie.Else7) → NoneOf 7 (line7 c)
-unfolding requestIn forms checkTableWord
-not-check-table c = not-load-table (c .before .before .before) ∙ has-not _ _ _ (sym (c .before .asks7 .ensures) ∙ c .if7 .left)
-
-not-greatest : (c : tie.Else8) → NoneOf 8 (line8 c)
-unfolding requestIn forms greatestWord
-not-greatest c = not-check-table (c .before .before .before) ∙ has-not _ _ _ (sym (c .before .asks8 .ensures) ∙ c .if8 .left)
-
-not-load-packet : (c : tie.Else9) → NoneOf 9 (line9 c)
-unfolding requestIn forms loadPacketWord
-not-load-packet c = not-greatest (c .before .before .before) ∙ has-not _ _ _ (sym (c .before .asks9 .ensures) ∙ c .if9 .left)
-
-not-set : (c : tie.Else10) → NoneOf 10 (line10 c)
-unfolding requestIn forms setWord
-not-set c = not-load-packet (c .before .before .before) ∙ has-not _ _ _ (sym (c .before .asks10 .ensures) ∙ c .if10 .left)
-
-not-hop : (c : tie.Else11) → NoneOf 11 (line11 c)
-unfolding requestIn forms hopWord
-not-hop c = not-set (c .before .before .before) ∙ has-not _ _ _ (sym (c .before .asks11 .ensures) ∙ c .if11 .left)
-
-not-walk : (c : tie.Else12) → NoneOf 12 (line12 c)
-unfolding requestIn forms walkWord
-not-walk c = not-hop (c .before .before .before) ∙ has-not _ _ _ (sym (c .before .asks12 .ensures) ∙ c .if12 .left)
-
-not-listing : (c : tie.Else13) → NoneOf 13 (line13 c)
-unfolding requestIn forms listingWord
-not-listing c = not-walk (c .before .before .before) ∙ has-not _ _ _ (sym (c .before .asks13 .ensures) ∙ c .if13 .left)
-
-returns : tie.Need-returns
-unfolding requestIn forms topologyWord
-returns c = sym (has _ _ _ (sym (c .before .asks .ensures) ∙ c .if1 .taken))
-
-returns-2 : tie.Need-returns-2
-unfolding requestIn forms writeWord
-returns-2 c = sym (not-topology (c .before .before .before) ∙ has _ _ _ (sym (c .before .asks2 .ensures) ∙ c .if2 .taken))
-
-returns-3 : tie.Need-returns-3
-unfolding requestIn forms orderWord
-returns-3 c = sym (not-write (c .before .before .before) ∙ has _ _ _ (sym (c .before .asks3 .ensures) ∙ c .if3 .taken))
-
-returns-4 : tie.Need-returns-4
-unfolding requestIn forms checkOrderWord
-returns-4 c = sym (not-order (c .before .before .before) ∙ has _ _ _ (sym (c .before .asks4 .ensures) ∙ c .if4 .taken))
-
-returns-5 : tie.Need-returns-5
-unfolding requestIn forms fillWord
-returns-5 c = sym (not-check-order (c .before .before .before) ∙ has _ _ _ (sym (c .before .asks5 .ensures) ∙ c .if5 .taken))
-
-returns-6 : tie.Need-returns-6
-unfolding requestIn forms loadTableWord
-returns-6 c = sym (not-fill (c .before .before .before) ∙ has _ _ _ (sym (c .before .asks6 .ensures) ∙ c .if6 .taken))
-
-returns-7 : tie.Need-returns-7
-unfolding requestIn forms checkTableWord
-returns-7 c = sym (not-load-table (c .before .before .before) ∙ has _ _ _ (sym (c .before .asks7 .ensures) ∙ c .if7 .taken))
-
-returns-8 : tie.Need-returns-8
-unfolding requestIn forms greatestWord
-returns-8 c = sym (not-check-table (c .before .before .before) ∙ has _ _ _ (sym (c .before .asks8 .ensures) ∙ c .if8 .taken))
-
-returns-9 : tie.Need-returns-9
-unfolding requestIn forms loadPacketWord
-returns-9 c = sym (not-greatest (c .before .before .before) ∙ has _ _ _ (sym (c .before .asks9 .ensures) ∙ c .if9 .taken))
-
-returns-10 : tie.Need-returns-10
-unfolding requestIn forms setWord
-returns-10 c = sym (not-load-packet (c .before .before .before) ∙ has _ _ _ (sym (c .before .asks10 .ensures) ∙ c .if10 .taken))
-
-returns-11 : tie.Need-returns-11
-unfolding requestIn forms hopWord
-returns-11 c = sym (not-set (c .before .before .before) ∙ has _ _ _ (sym (c .before .asks11 .ensures) ∙ c .if11 .taken))
-
-returns-12 : tie.Need-returns-12
-unfolding requestIn forms walkWord
-returns-12 c = sym (not-hop (c .before .before .before) ∙ has _ _ _ (sym (c .before .asks12 .ensures) ∙ c .if12 .taken))
-
-returns-13 : tie.Need-returns-13
-unfolding requestIn forms listingWord
-returns-13 c = sym (not-walk (c .before .before .before) ∙ has _ _ _ (sym (c .before .asks13 .ensures) ∙ c .if13 .taken))
-
-returns-14 : tie.Need-returns-14
-unfolding formed forms
-returns-14 c = sym (not-listing c)
+returns-2 : tie.Need-returns-2 Inv-loop μ-loop
+returns-2 c = sym (finished _ _ _ _ (c .before .loop .inv .1) (omega arith))
 
 pub request-in-spec : {M : Type 1} → statement M
 request-in-spec =
     tie.close
     (tie.spec
-    (λ c. search needs)
+    Inv-loop
+    μ-loop
+    loop-holds
+    (λ c. omega arith)
+    (λ c. omega arith)
+    (λ c κs. search needs)
     (λ c κs. search needs)
     returns
-    (λ c. search needs)
-    (λ c κs. search needs)
-    returns-2
-    (λ c. search needs)
-    (λ c κs. search needs)
-    returns-3
-    (λ c. search needs)
-    (λ c κs. search needs)
-    returns-4
-    (λ c. search needs)
-    (λ c κs. search needs)
-    returns-5
-    (λ c. search needs)
-    (λ c κs. search needs)
-    returns-6
-    (λ c. search needs)
-    (λ c κs. search needs)
-    returns-7
-    (λ c. search needs)
-    (λ c κs. search needs)
-    returns-8
-    (λ c. search needs)
-    (λ c κs. search needs)
-    returns-9
-    (λ c. search needs)
-    (λ c κs. search needs)
-    returns-10
-    (λ c. search needs)
-    (λ c κs. search needs)
-    returns-11
-    (λ c. search needs)
-    (λ c κs. search needs)
-    returns-12
-    (λ c. search needs)
-    (λ c κs. search needs)
-    returns-13
-    returns-14)
+    (λ c. omega arith)
+    (λ c. omega arith)
+    loop-again
+    returns-2)
