@@ -1,7 +1,7 @@
 -- The field's bytes stand at the start of the buffer, and are checked from there.
 -- Assumes nothing.
 use mathlib.Core.Path.{_≡_, ap, sym, _∙_}
-use Rattle.text.specs.declared.unchecked.fields.Value.the-variants.{Is, Wrong}
+use Rattle.text.specs.declared.unchecked.fields.Value.the-variants.{Is}
 use Rattle.text.specs.Fields.{field}
 use lib.Seq.{length-take-le}
 use Rattle.text.specs.Hex.{byteCount}
@@ -24,21 +24,14 @@ held c = sym (c .before .before .before .before .bytes-in .ensures .counted) ∙
 
 returns : tie.Need-returns
 unfolding checkOrderIn checkOrderBy
-returns c buffer =
-    let e : aimIn (c .before .before .before .before .before .args .line .now) ≡ aim.Wrong = sym (c .before .before .aim-in .ensures) ∙ c .enum-told .given .1 in
-    rw (e) error-reply
+returns c buffer = rw (← c .before .before .aim-in .ensures, c .enum-told .given .1) error-reply
 
 returns-2 : tie.Need-returns-2
 unfolding checkOrderIn checkOrderBy
-returns-2 c buffer =
-    let e : byteCount (field 3 (c .before .before .before .before .before .before .before .before .before .before .before .args .line .now)) ≡ Wrong = sym (c .before .before .before .bytes-in .ensures .counted) ∙ c .enum-told2 .given .1 in
-    rw (aimed (c .before .before .before .before .before), e) error-reply
+returns-2 c buffer = rw (aimed (c .before .before .before .before .before), ← c .before .before .before .bytes-in .ensures .counted, c .enum-told2 .given .1) error-reply
 
 array-share-prefix-bytes : tie.Need-array-share-prefix-bytes
 array-share-prefix-bytes c = c .before .before .before .before .bytes-in .ensures .start _ (held c) .1
-
-slice-aggregate-check : tie.Need-slice-aggregate-check
-slice-aggregate-check c = sym (length-take-le _ _ (c .before .before .before .before .before .bytes-in .ensures .start _ (held (c .before)) .1))
 
 returns-3 : tie.Need-returns-3
 unfolding checkOrderIn checkOrderBy
@@ -64,6 +57,6 @@ check-order-spec =
     (λ c. search needs)
     returns-2
     array-share-prefix-bytes
-    slice-aggregate-check
+    (λ c. sym (length-take-le _ _ (array-share-prefix-bytes (c .before))))
     (λ c κs. search needs)
     returns-3)

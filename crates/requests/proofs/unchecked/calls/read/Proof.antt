@@ -1,7 +1,7 @@
 -- The field's bytes stand at the start of the buffer, and are read from there; the table stays.
 -- Assumes nothing.
 use mathlib.Core.Path.{_≡_, refl, ap, sym, _∙_}
-use Rattle.text.specs.declared.unchecked.fields.Value.the-variants.{Is, Wrong}
+use Rattle.text.specs.declared.unchecked.fields.Value.the-variants.{Is}
 use Rattle.text.specs.Fields.{field}
 use lib.Seq.{length-take-le}
 use Rattle.text.specs.Hex.{byteCount}
@@ -19,15 +19,10 @@ held c = sym (c .before .before .before .before .bytes-in .ensures .counted) ∙
 
 returns : tie.Need-returns
 unfolding readIn readBy
-returns c table buffer h =
-    let e : byteCount (field 1 (c .before .before .before .before .before .before .before .args .line .now)) ≡ Wrong = sym (c .before .before .before .bytes-in .ensures .counted) ∙ c .enum-told .given .1 in
-    rw (e) (error-step h)
+returns c table buffer h = rw (← c .before .before .before .bytes-in .ensures .counted, c .enum-told .given .1) (error-step h)
 
 array-share-prefix-bytes : tie.Need-array-share-prefix-bytes
 array-share-prefix-bytes c = c .before .before .before .before .bytes-in .ensures .start _ (held c) .1
-
-slice-aggregate-read : tie.Need-slice-aggregate-read
-slice-aggregate-read c = sym (length-take-le _ _ (c .before .before .before .before .before .bytes-in .ensures .start _ (held (c .before)) .1))
 
 returns-2 : tie.Need-returns-2
 unfolding readIn readBy readAnswer heldIn
@@ -47,6 +42,6 @@ read-spec =
     (λ c. search needs)
     returns
     array-share-prefix-bytes
-    slice-aggregate-read
+    (λ c. sym (length-take-le _ _ (array-share-prefix-bytes (c .before))))
     (λ c κs. search needs)
     returns-2)

@@ -2,7 +2,7 @@
 -- Assumes nothing.
 use mathlib.Core.Path.{_≡_, refl, sym, _∙_}
 use native.Mathlib.Omega.{arith}
-use Rattle.text.specs.declared.unchecked.fields.Value.the-variants.{Is, Wrong}
+use Rattle.text.specs.declared.unchecked.fields.Value.the-variants.{Is}
 use Rattle.text.specs.Fields.{field}
 use Rattle.text.specs.Numbers.{number}
 use Rattle.text.proofs.Numbers.{number-bound}
@@ -23,15 +23,11 @@ hops c = sym (c .before .before .before .number-in2 .ensures) ∙ c .before .k .
 
 returns : tie.Need-returns
 unfolding loadPacketIn loadPacketBy
-returns c table buffer h =
-    let e : number mostByte (field 1 (c .before .before .before .before .args .line .now)) ≡ Wrong = sym (c .before .before .number-in .ensures) ∙ c .enum-told .given .1 in
-    rw (e) (error-step h)
+returns c table buffer h = rw (← c .before .before .number-in .ensures, c .enum-told .given .1) (error-step h)
 
 returns-2 : tie.Need-returns-2
 unfolding loadPacketIn loadPacketBy
-returns-2 c table buffer h =
-    let e : number mostByte (field 2 (c .before .before .before .before .before .before .before .before .args .line .now)) ≡ Wrong = sym (c .before .before .number-in2 .ensures) ∙ c .enum-told2 .given .1 in
-    rw (station (c .before .before .before), e) (error-step h)
+returns-2 c table buffer h = rw (station (c .before .before .before), ← c .before .before .number-in2 .ensures, c .enum-told2 .given .1) (error-step h)
 
 cast-t10 : tie.Need-cast-t10
 cast-t10 c = omega (arith, number-bound mostByte _ _ (station (c .before .before .before .before)))

@@ -4,7 +4,7 @@ use Prim.Native.Nat.{ℕ}
 use mathlib.Core.List.{List}
 use mathlib.Core.Path.{_≡_, refl, sym, _∙_}
 use native.Mathlib.Omega.{arith}
-use Rattle.text.specs.declared.unchecked.fields.Value.the-variants.{Is, Wrong}
+use Rattle.text.specs.declared.unchecked.fields.Value.the-variants.{Is}
 use Rattle.text.specs.Fields.{field}
 use Rattle.text.specs.Numbers.{number}
 use Rattle.text.proofs.Numbers.{number-bound}
@@ -28,9 +28,7 @@ said c table = rw (held (c .before .before .before), ← c .lend-to-set .ensures
 
 returns : tie.Need-returns
 unfolding setIn setBy
-returns c table buffer h =
-    let e : number mostByte (field 1 (c .before .before .before .before .args .line .now)) ≡ Wrong = sym (c .before .before .number-in .ensures) ∙ c .enum-told .given .1 in
-    rw (e) (error-step h)
+returns c table buffer h = rw (← c .before .before .number-in .ensures, c .enum-told .given .1) (error-step h)
 
 cast-t12 : tie.Need-cast-t12
 cast-t12 c = omega (arith, number-bound mostByte _ _ (held (c .before .before)))

@@ -3,7 +3,7 @@
 use mathlib.Core.Path.{_≡_, refl, sym, _∙_}
 use native.Mathlib.Omega.{arith}
 use lib.Seq.{length-take-le}
-use Rattle.text.specs.declared.unchecked.fields.Value.the-variants.{Is, Wrong}
+use Rattle.text.specs.declared.unchecked.fields.Value.the-variants.{Is}
 use Rattle.text.specs.Fields.{field}
 use Rattle.text.specs.Numbers.{number}
 use Rattle.text.specs.Hex.{byteCount}
@@ -34,15 +34,11 @@ said c =
 
 returns : tie.Need-returns
 unfolding walkIn walkBy
-returns c buffer =
-    let e : number mostByte (field 1 (c .before .before .before .before .before .before .before .args .line .now)) ≡ Wrong = sym (c .before .before .number-in .ensures) ∙ c .enum-told .given .1 in
-    rw (e) error-reply
+returns c buffer = rw (← c .before .before .number-in .ensures, c .enum-told .given .1) error-reply
 
 returns-2 : tie.Need-returns-2
 unfolding walkIn walkBy
-returns-2 c buffer =
-    let e : byteCount (field 2 (c .before .before .before .before .before .before .before .before .before .before .before .before .before .args .line .now)) ≡ Wrong = sym (c .before .before .before .bytes-in .ensures .counted) ∙ c .enum-told2 .given .1 in
-    rw (start (c .before .before .before .before .before), e) error-reply
+returns-2 c buffer = rw (start (c .before .before .before .before .before), ← c .before .before .before .bytes-in .ensures .counted, c .enum-told2 .given .1) error-reply
 
 slice-aggregate-walk : tie.Need-slice-aggregate-walk
 slice-aggregate-walk c = sym (length-take-le _ _ (c .before .before .before .before .before .before .before .before .before .before .before .before .before .before .before .pre .0))
@@ -52,9 +48,6 @@ cast-t20 c = omega (arith, number-bound mostByte _ _ (start (c .before .before .
 
 array-share-prefix-bytes : tie.Need-array-share-prefix-bytes
 array-share-prefix-bytes c = c .before .before .before .before .before .bytes-in .ensures .start _ (held (c .before)) .1
-
-slice-aggregate-walk-2 : tie.Need-slice-aggregate-walk-2
-slice-aggregate-walk-2 c = sym (length-take-le _ _ (c .before .before .before .before .before .before .bytes-in .ensures .start _ (held (c .before .before)) .1))
 
 returns-3 : tie.Need-returns-3
 unfolding walkText walkSays replyText roomOf
@@ -85,7 +78,7 @@ walk-spec =
     slice-aggregate-walk
     cast-t20
     array-share-prefix-bytes
-    slice-aggregate-walk-2
+    (λ c. sym (length-take-le _ _ (array-share-prefix-bytes (c .before))))
     (λ c κs. search needs)
     (λ c. search needs)
     (λ c. search needs)
