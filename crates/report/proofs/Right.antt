@@ -32,12 +32,16 @@ use Rattle.text.proofs.Texts.{one-digit, more-digits}
 use Rattle.report.specs.declared.printing.Front.{Front}
 use Rattle.report.specs.Listing.{tableFor, lineFor, linesFor, allLines, listing}
 use Rattle.report.specs.Inner.{lineOf, frontText, rowText}
-use Rattle.report.specs.Theorems.{NumbersSpelled, lineWith, LineIs, ListsRight, ListingRefuses, AllRight}
+use Rattle.report.specs.Theorems.{NumbersSpelled, JoinsInTurn, lineWith, LineIs, ListsRight, ListingRefuses, AllRight}
 use Rattle.report.proofs.Fields.{field, row-none, row-some, line-fields}
 use Rattle.report.proofs.Tables.{given as its-given, accepted, ranks, hop-counts}
 
 pub numbers-spelled : NumbersSpelled
 numbers-spelled n = record { one = one-digit n; more = more-digits n }
+
+pub joins-in-turn : JoinsInTurn
+unfolding joinedOver
+joins-in-turn f = record { none = refl; more = λ x xs. refl }
 
 -- the row's fields, entry by entry
 joined-entries : (entries : List Arc) → joinedOver field (map (λ a. a .to) entries) ≡ joinedOver (λ (b : Arc). 32 ∷ numberText (b .to)) entries

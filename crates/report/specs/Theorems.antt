@@ -24,13 +24,21 @@ use Rattle.forwarding.specs.Calls.{done, walking}
 use Rattle.text.specs.Numbers.{numberText}
 use Rattle.report.specs.Listing.{allLines, listing}
 
--- a number in decimal: one digit, or the digits of its tenth part and the last; no number that is printed is larger
+-- a number in decimal, below 2 ^ 64 as all that are printed: one digit, or the digits of its tenth part and the last
 pub record Spelled (n : ℕ) : Type 0 where
   pub one : n < 10 → numberText n ≡ (48 + n) ∷ []
   pub more : 10 ≤ n → n < 2 ^ 64 → numberText n ≡ numberText (n / 10) ++ ((48 + n % 10) ∷ [])
 
 abbrev pub NumbersSpelled : Type 0
 NumbersSpelled = (n : ℕ) → Spelled n
+
+-- texts one after the other
+pub record JoinedOver {A : Type 0} (f : A → List ℕ) : Type 0 where
+  pub none : joinedOver f [] ≡ []
+  pub more : (x : A) (xs : List A) → joinedOver f (x ∷ xs) ≡ f x ++ joinedOver f xs
+
+abbrev pub JoinsInTurn : Type 1
+JoinsInTurn = {A : Type 0} (f : A → List ℕ) → JoinedOver f
 
 -- 01, Two networks by hand: destination, router, rank, greatest hop count, and the row behind them; 32 is the space
 abbrev pub lineWith : ℕ → ℕ → ℕ → ℕ → List ℕ → List ℕ

@@ -13,19 +13,20 @@ ghost use Rattle.stations.specs.Inner.{Counted, firstOr};
 ghost use Rattle.soundness.specs.Apart.{apart};
 ghost use Rattle.soundness.specs.Sound.{wellLinked};
 
-// Whether the ID is among the first of these.
+// Whether the ID is among the first of these. The loop goes to its end, so that many IDs are taken at a time.
 pub fn is_listed(ids: &[u32; ROUTERS], count: usize, id: u32) -> bool
     requires { ⌜ (count ≤ mostRouters) × (length (now ids) ≡ mostRouters) ⌝ }
     ensures { λ r. ⌜ r ≡ member id (take count (now (ids .entry))) ⌝ }
 {
+    let mut found = false;
     let mut i: usize = 0;
     while i < count {
         if ids[i] == id {
-            return true;
+            found = true;
         }
         i += 1;
     }
-    false
+    found
 }
 
 // The lowest place that has no path to place 0, or the number of routers where each has one.

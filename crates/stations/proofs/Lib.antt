@@ -1,5 +1,4 @@
 pub mod Machine
 pub mod Prefix
-pub mod Search
 pub mod Arcs
 pub mod Given

@@ -1,60 +1,52 @@
--- `topology::taking::is_listed` meets its contract. The loop's invariant: the ID is not among those passed.
+-- The loop's invariant: the ID was found if and only if it is among those passed.
 -- Assumes nothing.
-use Prim.Native.Nat.{_≤_, _-_}
-use mathlib.Core.Bool.{false}
-use mathlib.Core.Path.{_≡_, sym}
+use Prim.Native.Nat.{ℕ, _+_, _-_, _≤_, _<_}
+use mathlib.Core.Bool.{_||_, or-false, or-true}
+use mathlib.Core.List.{List}
+use mathlib.Core.Logic.{⊎-elim}
+use mathlib.Core.Path.{_≡_, refl, sym, _∙_}
 use native.Mathlib.Nat.{le-antisymm}
 use native.Mathlib.Omega.{arith}
-use borrow.Author.Needs.{needs}
 use borrow.Author.Tests.{eq-eqb, ne-eqb}
 use lib.Dec.{eqb}
-use lib.ListN.{take}
+use lib.ListN.{length, getD, take}
 use Rattle.network.specs.Lists.{any, member}
-use Rattle.stations.proofs.Search.{any-here, any-passed}
+use Rattle.stations.proofs.Prefix.{take-more, any-more}
 use Rattle.soundness.proofs.unchecked.is_listed.Statement.{statement}
 use Rattle.soundness.proofs.unchecked.is_listed.Tie as tie
 
 abbrev Inv-loop : tie.InvT-loop
-Inv-loop ids count id i₀ i = (i ≤ count) × (member id (take i ids) ≡ false)
+Inv-loop ids count id found₀ i₀ found i = (i ≤ count) × (found ≡ member id (take i ids))
 
 abbrev μ-loop : tie.MeasureT-loop
-μ-loop ids count id i₀ i = count - i
+μ-loop ids count id found₀ i₀ found i = count - i
 
 loop-holds : tie.Need-loop-holds Inv-loop μ-loop
 unfolding member any
-loop-holds c = search needs
+loop-holds c = (omega arith, refl)
 
-returns : tie.Need-returns Inv-loop μ-loop
+-- one ID more
+passed : (ids : List ℕ) (i id : ℕ) → i < length ids → member id (take (i + 1) ids) ≡ (member id (take i ids) || eqb id (getD ids i 0))
 unfolding member
-returns c =
-    let s = c .before .before .before .before in
-    sym
-    (any-here (eqb (s .args .id)) _ (c .before .before .before .loop .i) (s .args .count) 0 (c .before .before .loop-test .taken) (omega arith)
-    (eq-eqb (s .args .id) _ (sym (c .if1 .taken))))
+passed ids i id h = rw (take-more ids i 0 h) (any-more (eqb id) (take i ids) (getD ids i 0))
 
 loop-again : tie.Need-loop-again Inv-loop μ-loop
-unfolding member
 loop-again c =
     let s = c .before .before .before .before in
-    let l = c .before .before .before .loop in (
+    let l = c .before .before .before .loop in
+    let id = s .args .id in
+    let more = passed (s .args .ids .now) (l .i) id (omega arith) in (
       omega arith,
-      any-passed (eqb (s .args .id)) _ (l .i) 0 (omega arith) (l .inv .1) (ne-eqb (s .args .id) _ (λ e. c .if1 .left (sym e))),
+      ⊎-elim
+          (λ w. w .1 ∙ sym (more ∙ rw (eq-eqb id _ (sym (w .0 .taken))) (or-true (member id (take (l .i) (s .args .ids .now))))))
+          (λ w. w .1 ∙ l .inv .1 ∙ sym (more ∙ rw (ne-eqb id _ (λ e. w .0 .left (sym e))) (or-false (member id (take (l .i) (s .args .ids .now))))))
+          (c .if1 .came),
     )
 
-returns-2 : tie.Need-returns-2 Inv-loop μ-loop
-returns-2 c = rw (le-antisymm (c .loop-test .left) (c .before .loop .inv .0)) (sym (c .before .loop .inv .1))
+returns : tie.Need-returns Inv-loop μ-loop
+returns c = rw (le-antisymm (c .loop-test .left) (c .before .loop .inv .0)) (c .before .loop .inv .1)
 
 pub is-listed-spec : {M : Type 1} → statement M
 is-listed-spec =
     tie.close
-    (tie.spec
-    Inv-loop
-    μ-loop
-    loop-holds
-    (λ c. omega arith)
-    (λ c. omega arith)
-    returns
-    (λ c. omega arith)
-    (λ c. omega arith)
-    loop-again
-    returns-2)
+    (tie.spec Inv-loop μ-loop loop-holds (λ c. omega arith) (λ c. omega arith) (λ c. omega arith) (λ c. omega arith) loop-again returns)
