@@ -41,7 +41,7 @@ numbers-spelled n = record { one = one-digit n; more = more-digits n }
 
 pub joins-in-turn : JoinsInTurn
 unfolding joinedOver
-joins-in-turn f = record { none = refl; more = λ x xs. refl }
+joins-in-turn A f = record { none = refl; more = λ x xs. refl }
 
 -- the row's fields, entry by entry
 joined-entries : (entries : List Arc) → joinedOver field (map (λ a. a .to) entries) ≡ joinedOver (λ (b : Arc). 32 ∷ numberText (b .to)) entries

@@ -33,12 +33,12 @@ abbrev pub NumbersSpelled : Type 0
 NumbersSpelled = (n : ℕ) → Spelled n
 
 -- texts one after the other
-pub record JoinedOver {A : Type 0} (f : A → List ℕ) : Type 0 where
+pub record JoinedOver (A : Type 0) (f : A → List ℕ) : Type 0 where
   pub none : joinedOver f [] ≡ []
   pub more : (x : A) (xs : List A) → joinedOver f (x ∷ xs) ≡ f x ++ joinedOver f xs
 
 abbrev pub JoinsInTurn : Type 1
-JoinsInTurn = {A : Type 0} (f : A → List ℕ) → JoinedOver f
+JoinsInTurn = (A : Type 0) (f : A → List ℕ) → JoinedOver A f
 
 -- 01, Two networks by hand: destination, router, rank, greatest hop count, and the row behind them; 32 is the space
 abbrev pub lineWith : ℕ → ℕ → ℕ → ℕ → List ℕ → List ℕ
