@@ -3,12 +3,12 @@
 -- Assumes nothing.
 use Prim.Native.Nat.{ℕ, _≤_, _<_}
 use mathlib.Core.List.{List, [], _∷_, _++_, map, append-assoc}
-use mathlib.Core.Path.{_≡_, refl, sym, ap, _∙_}
+use mathlib.Core.Path.{_≡_, refl, ap, _∙_}
 use native.Mathlib.Omega.{arith}
 use borrow.Author.Tests.{lt-ltb, le-ltb}
 use lib.Dec.{T}
 use lib.ListN.{length, getD, drop}
-use Rattle.network.specs.Network.{Arc, size}
+use Rattle.network.specs.Network.{Arc}
 use Rattle.network.specs.Distance.{distances}
 use Rattle.network.specs.Order.{shortest-path, build}
 use Rattle.network.specs.Row.{rank, row}

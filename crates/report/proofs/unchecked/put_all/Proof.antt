@@ -1,6 +1,6 @@
 -- The loop's invariant: the lines of the destinations passed were put.
 -- Assumes nothing.
-use Prim.Native.Nat.{_-_, _≤_, _<_}
+use Prim.Native.Nat.{_-_, _≤_}
 use mathlib.Core.Path.{_≡_}
 use native.Mathlib.Omega.{arith}
 use Rattle.network.specs.Lists.{numbersFrom, below}

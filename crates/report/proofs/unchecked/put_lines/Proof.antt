@@ -4,7 +4,7 @@
 use Prim.Native.Nat.{_+_, _*_}
 use mathlib.Core.Path.{_≡_, sym, ap, _∙_}
 use native.Mathlib.Omega.{arith}
-use lib.ListN.{length, take, length-append, length-drop}
+use lib.ListN.{length, take}
 use lib.Seq.{take-at}
 use Rattle.soundness.proofs.Sound.{sound-exact}
 use Rattle.order.specs.Calls.{modeOf}
