@@ -15,8 +15,8 @@ use Rattle.soundness.specs.Sound.{sound}
 use Rattle.order.proofs.Decided.{none-there, ranks-below}
 use Rattle.table.specs.Calls.{tableJudging, tableChecking}
 use Rattle.table.proofs.Verdicts.{tables-each}
-use Rattle.forwarding.specs.Schedule.{wrongStates}
-use Rattle.forwarding.specs.Calls.{Said, refused, testedOver}
+use Rattle.packet.specs.Schedule.{wrongStates}
+use Rattle.packet.specs.Calls.{Said, refused, testedOver}
 
 pub judged-checked : (t : Topology) (table : List ℕ) → sound t ≡ true → tableJudging t table ≡ tableChecking t table
 unfolding tableChecking

@@ -1,6 +1,1 @@
-pub mod Schedule
-pub mod Calls
-pub mod Lent
-pub mod Lists
 pub mod Inner
-pub mod Theorems

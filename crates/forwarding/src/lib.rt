@@ -1,12 +1,11 @@
 // Packets, hops, walks and greatest hop counts (01, Packet, hop and schedule).
+use hops::unchecked::moving;
+use hops::unchecked::schedule;
 use stations::Answer;
 use stations::Place;
 use stations::Topology;
 
-mod counting;
 mod lending;
-mod moving;
-mod schedule;
 pub mod unchecked;
 
 pub use lending::AfterHop;
@@ -15,35 +14,12 @@ pub use lending::hop_packet;
 pub use lending::lend_to_hop;
 pub use lending::lend_to_set;
 pub use lending::set_packet;
+pub use packet::Hopped;
+pub use packet::Packet;
+pub use packet::Setting;
+pub use packet::Walked;
 ghost use mathlib.Core.Path.{_≡_};
-ghost use Rattle.forwarding.specs.Calls.{packetIn, settingSays, hopSays, walkSays, countingHops, settingAt, hopping, walking};
-
-// 01, Packet, hop and schedule: the packet is one small record, station and hops made.
-pub struct Packet {
-    pub station: Place,
-    pub hops: u8,
-}
-
-// What setting a packet answers.
-pub enum Setting {
-    Set(Packet),
-    Refused(Answer),
-}
-
-// What one hop answers; only moved changes the packet.
-pub enum Hopped {
-    Delivered,
-    Moved(Packet),
-    Dropped,
-    Refused(Answer),
-}
-
-// What a walk answers: how it ended, the station and the hops made.
-pub enum Walked {
-    Delivered(Packet),
-    Dropped(Packet),
-    Refused(Answer),
-}
+ghost use Rattle.packet.specs.Calls.{packetIn, settingSays, hopSays, walkSays, countingHops, settingAt, hopping, walking};
 
 // The greatest hop count of every place, N bytes: refusals 14, 21 and 24.
 pub fn greatest_hops(t: Topology, table: &[u8], out: &mut [u8]) -> Answer

@@ -1,5 +1,5 @@
 // For callers that have checked the table.
-use super::counting;
+use hops::unchecked::counting;
 use stations::Topology;
 ghost use mathlib.Core.List.{_++_};
 ghost use mathlib.Core.Path.{_≡_};
@@ -8,7 +8,7 @@ ghost use lib.Dec.{T};
 ghost use lib.ListN.{length, drop};
 ghost use Rattle.soundness.specs.Sound.{sound};
 ghost use Rattle.table.specs.Calls.{tableChecking};
-ghost use Rattle.forwarding.specs.Calls.{figures};
+ghost use Rattle.packet.specs.Calls.{figures};
 
 // The greatest hop counts of all places, into the first bytes of the slice.
 pub fn greatest_hops(t: Topology, table: &[u8], out: &mut [u8])

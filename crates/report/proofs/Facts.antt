@@ -15,7 +15,7 @@ use Rattle.order.specs.Table.{answers, link, T-topology}
 use Rattle.rows.specs.Bytes.{rowBytes, headerBytes, rowOf, rowsBytes, tableBytes, rowStart}
 use Rattle.table.specs.Listed.{destinationIn, rankIn, placesIn, arcsTo, entriesIn, listed}
 use Rattle.table.specs.Facts.{lone, F-links, F-topology}
-use Rattle.forwarding.specs.Calls.{figure}
+use Rattle.packet.specs.Calls.{figure}
 use Rattle.text.specs.Hex.{none}
 use Rattle.text.specs.Numbers.{lastDigits, numberText}
 use Rattle.report.specs.Listing.{spaced, rowFields, lineText, tableFor, lineFor, linesFor, allLines, listing}

@@ -25,8 +25,8 @@ use Rattle.rows.specs.Bytes.{rowStart}
 use Rattle.table.specs.Listed.{rankIn, placesIn}
 use Rattle.table.proofs.Lists.{places-are}
 use Rattle.table.proofs.Ordered.{at-rank}
-use Rattle.forwarding.specs.Calls.{figure, figures}
-use Rattle.forwarding.proofs.Figures.{figures-exact}
+use Rattle.packet.specs.Calls.{figure, figures}
+use Rattle.packet.proofs.Figures.{figures-exact}
 use Rattle.text.specs.Numbers.{numberText}
 use Rattle.text.proofs.Texts.{one-digit, more-digits}
 use Rattle.report.specs.declared.printing.Front.{Front}

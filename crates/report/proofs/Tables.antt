@@ -24,11 +24,12 @@ use Rattle.table.specs.Theorems.{GivenBy}
 use Rattle.table.proofs.Bytes.{bytes-exact}
 use Rattle.table.proofs.Calling.{built-free}
 use Rattle.table.proofs.Verdicts.{table-long, tables-exact}
-use Rattle.forwarding.specs.Calls.{figure, figures}
-use Rattle.forwarding.proofs.Listed.{Over, over}
-use Rattle.forwarding.proofs.Bounds.{row-of}
-use Rattle.forwarding.proofs.Figures.{figures-exact}
-use Rattle.forwarding.proofs.Places.{whole-fits, places-long}
+use Rattle.packet.specs.Calls.{figure, figures}
+use Rattle.packet.proofs.Listed.{Over, over}
+use Rattle.packet.proofs.Figures.{figures-exact}
+use Rattle.packet.proofs.Places.{places-long}
+use Rattle.hops.proofs.Whole.{whole-fits}
+use Rattle.hops.proofs.Bounds.{row-of}
 use Rattle.report.specs.Listing.{tableFor, lineFor, linesFor, allLines}
 use Rattle.report.specs.Inner.{mostLine, mostLines, Row, Listable, lineOf, lineIn, tableText}
 use Rattle.report.proofs.InTurn.{joined-most}

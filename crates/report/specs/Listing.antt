@@ -13,7 +13,7 @@ use Rattle.soundness.specs.Sound.{sound}
 use Rattle.topology.specs.Written.{joinedOver}
 use Rattle.rows.specs.Bytes.{tableBytes}
 use Rattle.table.specs.Listed.{rankIn, placesIn}
-use Rattle.forwarding.specs.Calls.{figure}
+use Rattle.packet.specs.Calls.{figure}
 use Rattle.text.specs.Fields.{space}
 use Rattle.text.specs.Lines.{newline}
 use Rattle.text.specs.Numbers.{numberText}

@@ -20,7 +20,7 @@ use Rattle.soundness.specs.Sound.{sound}
 use Rattle.topology.specs.Written.{joinedOver}
 use Rattle.table.specs.Calls.{tableChecking}
 use Rattle.table.specs.Theorems.{GivenBy}
-use Rattle.forwarding.specs.Calls.{done, walking}
+use Rattle.packet.specs.Calls.{done, walking}
 use Rattle.text.specs.Numbers.{numberText}
 use Rattle.report.specs.Listing.{allLines, listing}
 

@@ -13,8 +13,8 @@ use Rattle.text.specs.declared.unchecked.fields.Value.the-variants.{Is}
 use Rattle.text.specs.Numbers.{number}
 use Rattle.text.specs.Lines.{errorLine}
 use Rattle.text.proofs.Numbers.{number-bound}
-use Rattle.forwarding.specs.declared.Packet.{Packet}
-use Rattle.forwarding.specs.Calls.{packetIn}
+use Rattle.packet.specs.declared.Packet.{Packet}
+use Rattle.packet.specs.Calls.{packetIn}
 use Rattle.requests.specs.declared.unchecked.replies.Reply.{Reply}
 use Rattle.requests.specs.declared.unchecked.calls.Step.{Step}
 use Rattle.requests.specs.declared.unchecked.calls.Holding.{Holding}

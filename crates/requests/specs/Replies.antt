@@ -8,7 +8,7 @@ use Rattle.text.specs.declared.unchecked.fields.Value.{Value}
 use Rattle.text.specs.declared.unchecked.fields.Value.the-variants.{Is, Wrong}
 use Rattle.text.specs.Hex.{byteCount, bytes}
 use Rattle.text.specs.Lines.{refusedWord, errorLine, wordLine, bufferLine}
-use Rattle.forwarding.specs.Calls.{packetIn}
+use Rattle.packet.specs.Calls.{packetIn}
 use Rattle.requests.specs.declared.unchecked.replies.Reply.{Reply}
 use Rattle.requests.specs.declared.unchecked.replies.Reply.the-variants.{Error, Says, Leaves, Set, Delivered, Moved, Dropped, Refused}
 use Rattle.requests.specs.declared.unchecked.calls.Holding.{Holding}

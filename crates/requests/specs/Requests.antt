@@ -15,9 +15,9 @@ use Rattle.stations.specs.declared.Answer.{Answer}
 use Rattle.order.specs.declared.Mode.the-variants as mode
 use Rattle.order.specs.Calls.{building, checking}
 use Rattle.table.specs.Calls.{filling, tableChecking}
-use Rattle.forwarding.specs.Calls as said
-use Rattle.forwarding.specs.Calls.{Said, countingHops, walking}
-use Rattle.forwarding.specs.Lent.{Left, settingPacket, hoppingPacket}
+use Rattle.packet.specs.Calls as said
+use Rattle.packet.specs.Calls.{Said, countingHops, walking}
+use Rattle.packet.specs.Lent.{Left, settingPacket, hoppingPacket}
 use Rattle.report.specs.Listing.{listing}
 use Rattle.text.specs.declared.unchecked.fields.Value.{Value}
 use Rattle.text.specs.declared.unchecked.fields.Value.the-variants.{Is, Wrong}

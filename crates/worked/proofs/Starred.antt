@@ -29,8 +29,8 @@ use Rattle.rows.specs.Bytes.{rowBytes, headerBytes, rowOf, rowsBytes, tableByte
 use Rattle.table.specs.Listed.{kindIn, destinationIn, countIn, limitIn, rankIn, placesIn, arcsTo, entriesIn, listed, orderIn}
 use Rattle.table.specs.Calls.{unlessRefused, filling, soundHeader, soundRanks, differing, wrongBytes, tableJudging, tableChecking}
 use Rattle.table.specs.Facts.{room}
-use Rattle.forwarding.specs.Schedule.{rowIn, rowCounts, rowsIn, soundLength, wrongStates}
-use Rattle.forwarding.specs.Calls.{tested, testedBy, testedOver, figure, figures, countingHops, walking}
+use Rattle.packet.specs.Schedule.{rowIn, rowCounts, rowsIn, soundLength, wrongStates}
+use Rattle.packet.specs.Calls.{tested, testedBy, testedOver, figure, figures, countingHops, walking}
 use Rattle.worked.specs.Fact.{upBut, leftAt, callOf, claimHolds, holds}
 use Rattle.worked.specs.Chain.{wrote, endsSo, byTable, byOrder, byReading, follows}
 use Rattle.worked.specs.Starred.{link, T-network, F-network, alone, about, F-stream, F-limited, alone-stream, from, F-schedule, starred, StarredHold}

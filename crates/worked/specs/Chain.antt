@@ -17,7 +17,7 @@ use Rattle.rows.specs.Bytes.{tableLength}
 use Rattle.table.specs.Listed.{placesIn}
 use Rattle.table.specs.Calls.{filling}
 use Rattle.table.specs.Facts.{room}
-use Rattle.forwarding.specs.Calls.{Said, done, refused, countingHops, walking}
+use Rattle.packet.specs.Calls.{Said, done, refused, countingHops, walking}
 use Rattle.worked.specs.Fact.{leftAt}
 
 -- Which end a walk is expected to have, at which station, after how many hops.

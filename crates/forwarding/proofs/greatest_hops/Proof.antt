@@ -12,7 +12,7 @@ use Rattle.stations.specs.declared.Answer.{Answer}
 use Rattle.soundness.specs.Sound.{sound}
 use Rattle.table.specs.Calls.{unlessRefused, tableChecking}
 use Rattle.table.proofs.Verdicts.{tables-each}
-use Rattle.forwarding.specs.Calls.{figure, figures, countingHops}
+use Rattle.packet.specs.Calls.{figure, figures, countingHops}
 use Rattle.forwarding.proofs.Returned.{passed-table}
 use Rattle.forwarding.proofs.greatest_hops.Statement.{statement}
 use Rattle.forwarding.proofs.greatest_hops.Tie as tie

@@ -9,7 +9,7 @@ use lib.Dec.{T}
 use Rattle.soundness.specs.Sound.{sound}
 use Rattle.stations.specs.declared.Answer.{Answer}
 use Rattle.table.specs.Calls.{tableChecking}
-use Rattle.forwarding.specs.Calls.{packetIn, hopSays, tested, testedBy, testedOver, hopping}
+use Rattle.packet.specs.Calls.{packetIn, hopSays, tested, testedBy, testedOver, hopping}
 use Rattle.forwarding.proofs.Returned.{judged-checked, passed-table, points-at, none-points}
 use Rattle.forwarding.proofs.hop.Statement.{statement}
 use Rattle.forwarding.proofs.hop.Tie as tie

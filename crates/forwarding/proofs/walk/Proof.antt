@@ -13,8 +13,8 @@ use Rattle.soundness.specs.Sound.{sound}
 use Rattle.soundness.proofs.Sound.{sound-exact}
 use Rattle.stations.specs.declared.Answer.{Answer}
 use Rattle.table.specs.Calls.{tableChecking}
-use Rattle.forwarding.specs.Schedule.{soundLength}
-use Rattle.forwarding.specs.Calls.{walkSays, tested, testedBy, testedOver, walking}
+use Rattle.packet.specs.Schedule.{soundLength}
+use Rattle.packet.specs.Calls.{walkSays, tested, testedBy, testedOver, walking}
 use Rattle.forwarding.proofs.Returned.{judged-checked, passed-table, points-at, none-points}
 use Rattle.forwarding.proofs.walk.Statement.{statement}
 use Rattle.forwarding.proofs.walk.Tie as tie

@@ -6,7 +6,7 @@ ghost use mathlib.Core.Path.{_≡_};
 ghost use Prim.Native.Nat.{_+_, _≤_};
 ghost use lib.ListN.{length};
 ghost use Rattle.text.specs.Lines.{Put};
-ghost use Rattle.forwarding.specs.Calls.{packetIn};
+ghost use Rattle.packet.specs.Calls.{packetIn};
 ghost use Rattle.requests.specs.Requests.{mostRoom, mostAnswer, packetLine};
 ghost use Rattle.requests.specs.Requests as said;
 ghost use Rattle.requests.specs.Replies.{replyText, roomOf};

@@ -42,16 +42,16 @@ use denote.Exit.{yes}
 use Rattle.stations.specs.declared.Topology.{Topology}
 use Rattle.stations.proofs.Topology as N
 use Rattle.stations.proofs.Topology.Laws as N′
-use Rattle.forwarding.specs.declared.Packet.{Packet}
-use Rattle.forwarding.specs.declared.Hopped.{Hopped}
+use Rattle.packet.specs.declared.Packet.{Packet}
+use Rattle.packet.specs.declared.Hopped.{Hopped}
+use Rattle.packet.specs.Calls.{packetIn, hopSays}
+use Rattle.packet.specs.Lent.{hoppingPacket}
+use Rattle.packet.proofs.Packet as P
+use Rattle.packet.proofs.Packet.Laws as P′
+use Rattle.packet.proofs.Hopped as S
+use Rattle.packet.proofs.Hopped.Laws as S′
 use Rattle.forwarding.specs.declared.lending.LeftByHop.{LeftByHop}
-use Rattle.forwarding.specs.Calls.{packetIn, hopSays}
-use Rattle.forwarding.specs.Lent.{hoppingPacket}
 use Rattle.forwarding.specs.Inner.{hoppingChange}
-use Rattle.forwarding.proofs.Packet as P
-use Rattle.forwarding.proofs.Packet.Laws as P′
-use Rattle.forwarding.proofs.Hopped as S
-use Rattle.forwarding.proofs.Hopped.Laws as S′
 use Rattle.forwarding.proofs.lending.LeftByHop as R
 use Rattle.forwarding.proofs.lending.LeftByHop.Laws as R′
 use Rattle.forwarding.proofs.Loan.{packet-val, Fits, lent, lent-at, behind, held, seen, opened, closed, typed}

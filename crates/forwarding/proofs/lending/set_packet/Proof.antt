@@ -43,16 +43,16 @@ use Rattle.stations.proofs.Place as L
 use Rattle.stations.proofs.Place.Laws as L′
 use Rattle.stations.proofs.Topology as N
 use Rattle.stations.proofs.Topology.Laws as N′
-use Rattle.forwarding.specs.declared.Packet.{Packet}
-use Rattle.forwarding.specs.declared.Setting.{Setting}
+use Rattle.packet.specs.declared.Packet.{Packet}
+use Rattle.packet.specs.declared.Setting.{Setting}
+use Rattle.packet.specs.Calls.{packetIn, settingSays}
+use Rattle.packet.specs.Lent.{settingPacket}
+use Rattle.packet.proofs.Packet as P
+use Rattle.packet.proofs.Packet.Laws as P′
+use Rattle.packet.proofs.Setting as S
+use Rattle.packet.proofs.Setting.Laws as S′
 use Rattle.forwarding.specs.declared.lending.LeftBySetting.{LeftBySetting}
-use Rattle.forwarding.specs.Calls.{packetIn, settingSays}
-use Rattle.forwarding.specs.Lent.{settingPacket}
 use Rattle.forwarding.specs.Inner.{settingChange}
-use Rattle.forwarding.proofs.Packet as P
-use Rattle.forwarding.proofs.Packet.Laws as P′
-use Rattle.forwarding.proofs.Setting as S
-use Rattle.forwarding.proofs.Setting.Laws as S′
 use Rattle.forwarding.proofs.lending.LeftBySetting as R
 use Rattle.forwarding.proofs.lending.LeftBySetting.Laws as R′
 use Rattle.forwarding.proofs.Loan.{packet-val, Fits, lent, lent-at, behind, held, seen, opened, closed, typed}

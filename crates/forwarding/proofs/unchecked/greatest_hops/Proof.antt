@@ -8,8 +8,8 @@ use Rattle.network.specs.Lists.{below}
 use Rattle.network.proofs.Below.{below-lt}
 use Rattle.soundness.proofs.Sound.{sound-exact}
 use Rattle.order.proofs.Runs.{map-same}
-use Rattle.forwarding.specs.Calls.{figures}
-use Rattle.forwarding.specs.Inner.{boundOf}
+use Rattle.packet.specs.Calls.{figures}
+use Rattle.hops.specs.Inner.{boundOf}
 use Rattle.forwarding.proofs.unchecked.greatest_hops.Statement.{statement}
 use Rattle.forwarding.proofs.unchecked.greatest_hops.Tie as tie
 

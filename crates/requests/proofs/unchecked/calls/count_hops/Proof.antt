@@ -3,7 +3,7 @@
 use mathlib.Core.Path.{sym}
 use lib.ListN.{take}
 use lib.Seq.{length-take-le}
-use Rattle.forwarding.specs.Calls.{countingHops}
+use Rattle.packet.specs.Calls.{countingHops}
 use Rattle.requests.specs.Requests.{countIn, countBy}
 use Rattle.requests.specs.Replies.{heldIn}
 use Rattle.requests.proofs.Replying.{error-reply, Room, room, start-size, start-within, buffer-reply}

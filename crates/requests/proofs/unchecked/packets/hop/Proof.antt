@@ -7,7 +7,7 @@ use lib.Seq.{length-take-le}
 use Rattle.text.specs.declared.unchecked.fields.Value.the-variants.{Is}
 use Rattle.text.specs.Fields.{field}
 use Rattle.text.specs.Hex.{byteCount}
-use Rattle.forwarding.specs.Calls.{packetIn, hopSays}
+use Rattle.packet.specs.Calls.{packetIn, hopSays}
 use Rattle.requests.specs.declared.unchecked.replies.Reply.{Reply}
 use Rattle.requests.specs.declared.unchecked.calls.Step.{Step}
 use Rattle.requests.specs.Requests.{hopIn, hopBy, hopAnswer, hopText}

@@ -6,7 +6,7 @@ use Rattle.text.specs.declared.unchecked.fields.Value.the-variants.{Is}
 use Rattle.text.specs.Fields.{field}
 use Rattle.text.specs.Numbers.{number}
 use Rattle.text.proofs.Numbers.{number-bound}
-use Rattle.forwarding.specs.Calls.{packetIn}
+use Rattle.packet.specs.Calls.{packetIn}
 use Rattle.requests.specs.Requests.{mostByte, answerOf, loadPacketIn, loadPacketBy}
 use Rattle.requests.proofs.Replying.{error-step, answer-reply, carried-step}
 use borrow.Author.Needs.{needs}

@@ -8,7 +8,7 @@ use Rattle.text.specs.declared.unchecked.fields.Value.the-variants.{Is}
 use Rattle.text.specs.Fields.{field}
 use Rattle.text.specs.Numbers.{number}
 use Rattle.text.proofs.Numbers.{number-bound}
-use Rattle.forwarding.specs.Calls.{packetIn, settingSays}
+use Rattle.packet.specs.Calls.{packetIn, settingSays}
 use Rattle.requests.specs.Requests.{mostByte, setIn, setBy, setAnswer, setText}
 use Rattle.requests.specs.Replies.{heldIn, replyText, roomOf}
 use Rattle.requests.proofs.Replying.{error-step, carried-step, plain-reply}

@@ -8,7 +8,7 @@ use Rattle.text.specs.Fields.{field}
 use Rattle.text.specs.Numbers.{number}
 use Rattle.text.specs.Hex.{byteCount}
 use Rattle.text.proofs.Numbers.{number-bound}
-use Rattle.forwarding.specs.Calls.{walkSays}
+use Rattle.packet.specs.Calls.{walkSays}
 use Rattle.requests.specs.Requests.{mostByte, walkIn, walkBy, walkText}
 use Rattle.requests.specs.Replies.{heldIn, replyText, roomOf}
 use Rattle.requests.proofs.Replying.{error-reply, plain-reply}

@@ -1,6 +1,6 @@
 -- The line is the word, the station and the hops made.
 -- Assumes nothing.
-use Rattle.forwarding.specs.Calls.{packetIn}
+use Rattle.packet.specs.Calls.{packetIn}
 use Rattle.requests.specs.Requests.{packetLine}
 use borrow.Author.Needs.{needs}
 use Rattle.requests.proofs.unchecked.replies.put_packet.Statement.{statement}

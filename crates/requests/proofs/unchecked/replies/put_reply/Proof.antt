@@ -8,7 +8,7 @@ use lib.ListN.{length, take}
 use lib.Seq.{length-take-le}
 use Rattle.text.specs.Lines.{refusedWord, errorLine, wordLine}
 use Rattle.text.proofs.Texts.{answer-line-length, word-line-length, buffer-line-length}
-use Rattle.forwarding.specs.Calls.{packetIn}
+use Rattle.packet.specs.Calls.{packetIn}
 use Rattle.requests.specs.Requests.{mostAnswer, setWord, deliveredWord, movedWord, droppedWord, answerOf, packetLine}
 use Rattle.requests.specs.Replies.{replyText, roomOf}
 use borrow.Author.Needs.{needs}

@@ -1,0 +1,5 @@
+pub mod Whole
+pub mod Bounds
+pub mod Next
+pub mod Steps
+pub mod Turns

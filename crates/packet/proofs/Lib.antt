@@ -1,0 +1,14 @@
+pub mod Listed
+pub mod Schedules
+pub mod Places
+pub mod Rules
+pub mod Figures
+pub mod Walks
+pub mod Calls
+pub mod Tested
+pub mod Answers
+pub mod Passed
+pub mod Hops
+pub mod Reaching
+pub mod CallLists
+pub mod Meant

@@ -1,0 +1,70 @@
+-- What the definitions mean: each is read off its clauses. A hop or a walk is done exactly where it is done with what forwarding by the table makes.
+-- Assumes nothing.
+use Prim.Native.Nat.{ℕ, _*_}
+use mathlib.Core.List.{List, [], _∷_, _++_}
+use mathlib.Core.Path.{_≡_, refl, _∙_}
+use native.Mathlib.Omega.{arith}
+use borrow.Author.Tests.{ne-eqb}
+use lib.ListN.{drop, length-drop}
+use lib.Seq.{length-take-le, getD-take, getD-drop}
+use Rattle.network.specs.Forwarding.{Packet, start, hop, walk}
+use Rattle.stations.specs.Outcome.{turnedAway}
+use Rattle.table.specs.Calls.{unlessRefused}
+use Rattle.packet.specs.Schedule.{rowIn, rowsIn}
+use Rattle.packet.specs.Calls.{said, packetIn, settingSays, hopSays, walkSays, by, countingHops}
+use Rattle.packet.specs.Lists.{Call, after, afterAll, setIn, lastSetIn}
+use Rattle.packet.specs.Theorems.{AnswersMean, RowsRight, CountRefuses, HopsDone, WalksDone, CallsInTurn}
+use Rattle.packet.proofs.Answers as answers
+
+pub answers-mean : AnswersMean
+unfolding said packetIn settingSays hopSays walkSays
+answers-mean =
+    record {
+      packets = λ p. record { packet = refl; setting-set = refl; hop-moved = refl; walk-delivered = refl; walk-dropped = refl };
+      hop-delivered = refl;
+      hop-dropped = refl;
+      refusals = λ a. record { setting-refused = refl; hop-refused = refl; walk-refused = refl };
+      said-done = λ x. refl;
+      said-refused = λ A number at. refl;
+    }
+
+pub rows-right : RowsRight
+unfolding rowIn
+rows-right links schedule h =
+    record {
+      long = λ fits. length-take-le links (drop (h * links) schedule) (omega (arith, length-drop (h * links) schedule));
+      bytes = λ i l. getD-take links (drop (h * links) schedule) i 0 l ∙ getD-drop (h * links) schedule i 0;
+    }
+
+pub count-refuses : CountRefuses
+unfolding countingHops unlessRefused turnedAway
+count-refuses t table buffer number at other e = rw (e, ne-eqb number 0 other)
+
+pub hops-done : HopsDone
+hops-done t table states p = (
+  λ (h, e).
+      let (s, (right, (long, (small, same)))) = answers.hops-done t table states p h .0 e in
+      (s, right, record { long = long; states-are = small }),
+  λ (s, right, ok).
+      let made = hop (by t table) states p in
+      (made, answers.hops-done t table states p made .1 (s, (right, (ok .long, (ok .states-are, refl))))),
+)
+
+pub walks-done : WalksDone
+walks-done t table u schedule = (
+  λ (w, e).
+      let (good, (place, (right, (whole, (small, same))))) = answers.walks-done t table u schedule w .0 e in
+      (good, place, right, record { whole-rows = whole; states-are = small }),
+  λ (good, place, right, ok).
+      let made = walk (by t table) (rowsIn (t .links) schedule) (start u) in
+      (made, answers.walks-done t table u schedule made .1 (good, (place, (right, (ok .whole-rows, (ok .states-are, refl)))))),
+)
+
+pub calls-in-turn : CallsInTurn
+unfolding afterAll lastSetIn
+calls-in-turn t table p last = record { no-calls = (refl, refl); one-more = λ cs c. last-call cs c p last }
+  where
+    last-call : (cs : List Call) (c : Call) (q : Packet ℕ) (s : ℕ) → (afterAll t table (cs ++ (c ∷ [])) q ≡ after t table c (afterAll t table cs q))
+        × (lastSetIn t table (cs ++ (c ∷ [])) s ≡ setIn t table c (lastSetIn t table cs s))
+    last-call [] c q s = (refl, refl)
+    last-call (e ∷ cs) c q s = last-call cs c (after t table e q) (setIn t table e s)
