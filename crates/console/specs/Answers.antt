@@ -8,7 +8,8 @@ use lib.Dec.{leb}
 use lib.ListN.{length, take}
 use Rattle.text.specs.Fields.{asks}
 use Rattle.text.specs.Lines.{Put}
-use Rattle.requests.specs.Requests.{Held, Answered, unchanged, refused, setWord, readIn, loadIn, writeIn, orderIn, checkOrderIn, fillIn, checkTable, countIn, loadPacketIn, setIn, hopIn, walkIn, listIn}
+use Rattle.requests.specs.Requests.{Held, Answered, unchanged, refused, setWord, readIn, loadIn, loadPacketIn, setIn, hopIn}
+use Rattle.replies.specs.Calls.{writeIn, orderIn, checkOrderIn, fillIn, checkTable, countIn, walkIn, listIn}
 use Rattle.requests.specs.Replies.{heldIn}
 use Rattle.console.specs.declared.answers.Turn.{Turn}
 use Rattle.console.specs.declared.answers.Request.{Request}

@@ -1,15 +1,17 @@
 // A line is answered: what is held from then on, and the line that answers, in a lent buffer.
-use requests::unchecked::calls;
-use requests::unchecked::calls::Holding;
-use requests::unchecked::calls::Step;
+use replies::unchecked::calls;
+use replies::unchecked::putting;
+use requests::unchecked::holding;
+use requests::unchecked::holding::Holding;
+use requests::unchecked::holding::Reply;
+use requests::unchecked::holding::Step;
 use requests::unchecked::packets;
-use requests::unchecked::replies;
-use requests::unchecked::replies::Reply;
 use text::unchecked::fields;
 ghost use mathlib.Core.Path.{_≡_};
 ghost use Prim.Native.Nat.{_≤_};
 ghost use lib.ListN.{length};
-ghost use Rattle.requests.specs.Requests.{lent, mostRoom, mostLine, mostAnswer};
+ghost use Rattle.requests.specs.Requests.{mostLine};
+ghost use Rattle.replies.specs.Calls.{lent, mostRoom, mostAnswer};
 ghost use Rattle.requests.specs.Replies.{Ready, Stepped, heldIn};
 ghost use Rattle.console.specs.Answers.{Told, requestIn, answer, answerHeld};
 
@@ -82,8 +84,8 @@ fn step(h: Holding, table: &mut [u8], line: &[u8], buffer: &mut [u8]) -> Step
     let t = h.topology;
     let request = request_in(line);
     match request {
-        Request::Topology => calls::read(h, line),
-        Request::LoadTable => calls::load_table(h, table, line),
+        Request::Topology => holding::read(h, line),
+        Request::LoadTable => holding::load_table(h, table, line),
         Request::LoadPacket => packets::load(h, line),
         Request::Set => packets::set(h, line),
         Request::Hop => packets::hop(h, table, line),
@@ -113,7 +115,7 @@ fn step(h: Holding, table: &mut [u8], line: &[u8], buffer: &mut [u8]) -> Step
         },
         Request::Walk => Step {
             held: h,
-            reply: packets::walk(h, table, line),
+            reply: calls::walk(h, table, line),
         },
         Request::Listing => Step {
             held: h,
@@ -151,11 +153,11 @@ pub(crate) fn respond(
     requires { ⌜ Ready h (now table) × (length (now line) ≤ mostLine) × (mostAnswer ≤ length (now out)) ⌝ }
     ensures { λ r. ⌜ Told (answerHeld (heldIn h (now (table .entry))) (now (line .entry)) count) r (now (table .exit)) (now (out .entry)) (now (out .exit)) ⌝ }
 {
-    let mut buffer = replies::lent();
+    let mut buffer = putting::lent();
     let next = step_held(h, table, line, count, &mut buffer);
     let held = next.held;
     let reply = next.reply;
-    let n = replies::put_reply(reply, &buffer, out);
+    let n = putting::put_reply(reply, &buffer, out);
     Turn {
         held: held,
         count: n,

@@ -23,9 +23,9 @@ mod answers;
 use forwarding::Packet;
 use libc::STDIN_FILENO;
 use libc::STDOUT_FILENO;
+use replies::unchecked::putting;
 use requests::unchecked::asked;
-use requests::unchecked::calls::Holding;
-use requests::unchecked::replies;
+use requests::unchecked::holding::Holding;
 use text::unchecked::fields;
 use text::unchecked::lines;
 use topology::LINKS;
@@ -84,7 +84,7 @@ fn answer(s: Session, table: &mut [u8], line: &[u8]) -> Session
     requires { ⌜ Ready (s .held) (now table) × (length (now line) ≡ mostLine) ⌝ }
     ensures { λ r. ⌜ LineAnswered s (now (table .entry)) (now (line .entry)) r (now (table .exit)) ⌝ }
 {
-    let mut out = replies::room_for_answer();
+    let mut out = putting::room_for_answer();
     let h = s.held;
     let count = s.count;
     let turn = answers::respond(h, table, line, count, &mut out);

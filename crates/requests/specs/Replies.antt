@@ -9,10 +9,10 @@ use Rattle.text.specs.declared.unchecked.fields.Value.the-variants.{Is, Wrong}
 use Rattle.text.specs.Hex.{byteCount, bytes}
 use Rattle.text.specs.Lines.{refusedWord, errorLine, wordLine, bufferLine}
 use Rattle.packet.specs.Calls.{packetIn}
-use Rattle.requests.specs.declared.unchecked.replies.Reply.{Reply}
-use Rattle.requests.specs.declared.unchecked.replies.Reply.the-variants.{Error, Says, Leaves, Set, Delivered, Moved, Dropped, Refused}
-use Rattle.requests.specs.declared.unchecked.calls.Holding.{Holding}
-use Rattle.requests.specs.declared.unchecked.calls.Step.{Step}
+use Rattle.requests.specs.declared.unchecked.holding.Reply.{Reply}
+use Rattle.requests.specs.declared.unchecked.holding.Reply.the-variants.{Error, Says, Leaves, Set, Delivered, Moved, Dropped, Refused}
+use Rattle.requests.specs.declared.unchecked.holding.Holding.{Holding}
+use Rattle.requests.specs.declared.unchecked.holding.Step.{Step}
 use Rattle.requests.specs.Requests.{mostTable, Held, Answered, setWord, deliveredWord, movedWord, droppedWord, answerOf, packetLine}
 
 -- The bytes of a field were put at the start of a buffer; if the field is no such field, the buffer stays.

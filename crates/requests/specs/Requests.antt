@@ -1,24 +1,18 @@
--- The requests: what each answers, by the fields of its line, and what is held from then on.
+-- The requests that change what is held: what each answers, by the fields of its line, and what is held from then on.
 -- Assumes nothing.
 use Prim.Native.Nat.{ℕ}
 use mathlib.Core.Bool.{cond}
 use mathlib.Core.List.{List, [], _∷_}
-use lib.ListN.{replicate}
 use Rattle.network.specs.Lists.{sameNumbers}
-use Rattle.network.specs.Forwarding.{Packet, Hop, delivered, moved, dropped, Walk, delivered-at, dropped-at, unfinished-at}
+use Rattle.network.specs.Forwarding.{Packet, Hop, delivered, moved, dropped}
 use Rattle.stream.specs.declared.Reading.{Reading}
 use Rattle.stations.specs.declared.Topology.{Topology}
 use Rattle.stream.specs.Reading.{reading}
-use Rattle.stations.specs.Outcome.{Outcome}
-use Rattle.topology.specs.Written.{writing}
 use Rattle.stations.specs.declared.Answer.{Answer}
 use Rattle.order.specs.declared.Mode.the-variants as mode
-use Rattle.order.specs.Calls.{building, checking}
-use Rattle.table.specs.Calls.{filling, tableChecking}
 use Rattle.packet.specs.Calls as said
-use Rattle.packet.specs.Calls.{Said, countingHops, walking}
+use Rattle.packet.specs.Calls.{Said}
 use Rattle.packet.specs.Lent.{Left, settingPacket, hoppingPacket}
-use Rattle.report.specs.Listing.{listing}
 use Rattle.text.specs.declared.unchecked.fields.Value.{Value}
 use Rattle.text.specs.declared.unchecked.fields.Value.the-variants.{Is, Wrong}
 use Rattle.requests.specs.declared.unchecked.asked.Aim.{Aim}
@@ -26,11 +20,7 @@ use Rattle.requests.specs.declared.unchecked.asked.Aim.the-variants as a
 use Rattle.text.specs.Fields.{field}
 use Rattle.text.specs.Numbers.{number}
 use Rattle.text.specs.Hex.{byteCount, bytes}
-use Rattle.text.specs.Lines.{errorLine, refusedWord, answerLine, wordLine, bufferLine}
-
--- at most 65,536 for ROOM
-abbrev pub mostRoom : ℕ
-mostRoom = 65536
+use Rattle.text.specs.Lines.{errorLine, refusedWord, answerLine, wordLine}
 
 -- D, START, STATION and HOPS are one byte each to a call of the library: a larger number is no request
 abbrev pub mostByte : ℕ
@@ -43,14 +33,6 @@ mostLine = 262144
 -- so a field holds at most half as many, and no table is longer
 abbrev pub mostTable : ℕ
 mostTable = 131072
-
--- every line that answers fits: a number of 3 digits, one of 20, two digits for each byte of ROOM, and what parts and ends them
-abbrev pub mostAnswer : ℕ
-mostAnswer = 131136
-
--- lent buffers are ROOM bytes of `aa`
-unfoldable pub lent : ℕ → List ℕ
-lent room = replicate room 170
 
 -- What is held: a topology, the bytes of a table and a packet, both untested.
 pub record Held : Type 0 where
@@ -78,10 +60,6 @@ carrying h p = record { topology = h .topology; table = h .table; packet = p }
 -- NUMBER AT
 unfoldable pub answerOf : Answer → List ℕ
 answerOf a = answerLine (a .number) (a .at)
-
--- NUMBER AT BUFFER
-unfoldable pub bufferOf : Outcome → List ℕ
-bufferOf o = bufferLine (o .answer .number) (o .answer .at) (o .buffer)
 
 -- `set`
 unfoldable pub setWord : List ℕ
@@ -123,13 +101,6 @@ setAnswer h l = record { held = carrying h (l .packet); text = setText (l .answe
 unfoldable pub hopAnswer : Held → Left (Hop ℕ) → Answered
 hopAnswer h l = record { held = carrying h (l .packet); text = hopText (l .answer) (l .packet) }
 
--- what a walk answers; no walk that a call answers is unfinished
-unfoldable pub walkText : Said (Walk ℕ) → List ℕ
-walkText (said.done (delivered-at p)) = packetLine deliveredWord p
-walkText (said.done (dropped-at p)) = packetLine droppedWord p
-walkText (said.done (unfinished-at p)) = errorLine
-walkText (said.refused number at) = wordLine refusedWord number at
-
 -- what reading returned is held from then on, beside the table and the packet
 unfoldable pub readAnswer : Held → Reading → Answered
 readAnswer h r = record { held = record { topology = r .topology; table = h .table; packet = h .packet }; text = answerOf (r .answer) }
@@ -143,11 +114,6 @@ readBy h Wrong stream = refused h
 unfoldable pub loadBy : Held → Value → List ℕ → Answered
 loadBy h (Is n) table = record { held = record { topology = h .topology; table = table; packet = h .packet }; text = answerLine 0 0 }
 loadBy h Wrong table = refused h
-
--- `write ROOM`, where the field holds this
-unfoldable pub writeBy : Topology → Value → List ℕ
-writeBy t (Is room) = bufferOf (writing t (lent room))
-writeBy t Wrong = errorLine
 
 -- `shortest`
 unfoldable pub shortestWord : List ℕ
@@ -163,36 +129,6 @@ aimOf (Is d) word =
     cond (sameNumbers word shortestWord) (aim.At (record { 0 = d }) mode.ShortestPath)
     (cond (sameNumbers word freeWord) (aim.At (record { 0 = d }) mode.Free) aim.Wrong)
 aimOf Wrong word = aim.Wrong
-
--- `order D MODE ROOM`, where the fields hold this
-unfoldable pub orderBy : Topology → Aim → Value → List ℕ
-orderBy t (aim.At d m) (Is room) = bufferOf (building t (d .0) m (lent room))
-orderBy t (aim.At d m) Wrong = errorLine
-orderBy t aim.Wrong room = errorLine
-
--- `check-order D MODE ORDER`, where the fields hold this, the last a count of bytes, and these are the bytes
-unfoldable pub checkOrderBy : Topology → Aim → Value → List ℕ → List ℕ
-checkOrderBy t (aim.At d m) (Is n) order = answerOf (checking t (d .0) m order)
-checkOrderBy t (aim.At d m) Wrong order = errorLine
-checkOrderBy t aim.Wrong n order = errorLine
-
--- `fill D ORDER ROOM`, where the fields hold this, the second a count of bytes, and these are the bytes
-unfoldable pub fillBy : Topology → Value → Value → List ℕ → Value → List ℕ
-fillBy t (Is d) (Is n) order (Is room) = bufferOf (filling t d order (lent room))
-fillBy t (Is d) (Is n) order Wrong = errorLine
-fillBy t (Is d) Wrong order room = errorLine
-fillBy t Wrong n order room = errorLine
-
--- `greatest ROOM`, where the field holds this
-unfoldable pub countBy : Held → Value → List ℕ
-countBy h (Is room) = bufferOf (countingHops (h .topology) (h .table) (lent room))
-countBy h Wrong = errorLine
-
--- `listing D ROOM`, where the fields hold this
-unfoldable pub listBy : Topology → Value → Value → List ℕ
-listBy t (Is d) (Is room) = bufferOf (listing t d (lent room))
-listBy t (Is d) Wrong = errorLine
-listBy t Wrong room = errorLine
 
 -- `load-packet STATION HOPS`, where the fields hold this: it is held from then on
 unfoldable pub loadPacketBy : Held → Value → Value → Answered
@@ -210,12 +146,6 @@ unfoldable pub hopBy : Held → Value → List ℕ → Answered
 hopBy h (Is n) states = hopAnswer h (hoppingPacket (h .topology) (h .table) states (h .packet))
 hopBy h Wrong states = refused h
 
--- `walk START SCHEDULE`, where the fields hold this, the last a count of bytes, and these are the bytes
-unfoldable pub walkBy : Held → Value → Value → List ℕ → List ℕ
-walkBy h (Is u) (Is n) schedule = walkText (walking (h .topology) (h .table) u schedule)
-walkBy h (Is u) Wrong schedule = errorLine
-walkBy h Wrong n schedule = errorLine
-
 -- each request, by the fields of its line
 unfoldable pub readIn : Held → List ℕ → Answered
 readIn h line = readBy h (byteCount (field 1 line)) (bytes (field 1 line))
@@ -223,31 +153,8 @@ readIn h line = readBy h (byteCount (field 1 line)) (bytes (field 1 line))
 unfoldable pub loadIn : Held → List ℕ → Answered
 loadIn h line = loadBy h (byteCount (field 1 line)) (bytes (field 1 line))
 
-unfoldable pub writeIn : Topology → List ℕ → List ℕ
-writeIn t line = writeBy t (number mostRoom (field 1 line))
-
 unfoldable pub aimIn : List ℕ → Aim
 aimIn line = aimOf (number mostByte (field 1 line)) (field 2 line)
-
-unfoldable pub orderIn : Topology → List ℕ → List ℕ
-orderIn t line = orderBy t (aimIn line) (number mostRoom (field 3 line))
-
-unfoldable pub checkOrderIn : Topology → List ℕ → List ℕ
-checkOrderIn t line = checkOrderBy t (aimIn line) (byteCount (field 3 line)) (bytes (field 3 line))
-
-unfoldable pub fillIn : Topology → List ℕ → List ℕ
-fillIn t line =
-    fillBy t (number mostByte (field 1 line)) (byteCount (field 2 line)) (bytes (field 2 line)) (number mostRoom (field 3 line))
-
--- `check-table`
-unfoldable pub checkTable : Held → List ℕ
-checkTable h = answerOf (tableChecking (h .topology) (h .table))
-
-unfoldable pub countIn : Held → List ℕ → List ℕ
-countIn h line = countBy h (number mostRoom (field 1 line))
-
-unfoldable pub listIn : Topology → List ℕ → List ℕ
-listIn t line = listBy t (number mostByte (field 1 line)) (number mostRoom (field 2 line))
 
 unfoldable pub loadPacketIn : Held → List ℕ → Answered
 loadPacketIn h line = loadPacketBy h (number mostByte (field 1 line)) (number mostByte (field 2 line))
@@ -257,6 +164,3 @@ setIn h line = setBy h (number mostByte (field 1 line))
 
 unfoldable pub hopIn : Held → List ℕ → Answered
 hopIn h line = hopBy h (byteCount (field 1 line)) (bytes (field 1 line))
-
-unfoldable pub walkIn : Held → List ℕ → List ℕ
-walkIn h line = walkBy h (number mostByte (field 1 line)) (byteCount (field 2 line)) (bytes (field 2 line))

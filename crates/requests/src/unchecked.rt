@@ -1,5 +1,4 @@
 // For callers that have tested the line and lent the buffers: each `requires` says what it asks.
 pub mod asked;
-pub mod calls;
+pub mod holding;
 pub mod packets;
-pub mod replies;

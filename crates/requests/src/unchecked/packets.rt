@@ -1,13 +1,12 @@
-// The requests that set, move and walk packets. The packet is lent to the call, and held from then on as the call left it.
+// The requests that load, set and move packets. The packet is lent to the call, and held from then on as the call left it.
 use super::asked;
 use super::asked::BYTE;
-use super::calls::Holding;
-use super::calls::Step;
-use super::replies::Reply;
+use super::holding::Holding;
+use super::holding::Reply;
+use super::holding::Step;
 use forwarding::Hopped;
 use forwarding::Packet;
 use forwarding::Setting;
-use forwarding::Walked;
 use text::unchecked::fields::Value;
 use topology::Answer;
 use topology::Place;
@@ -15,8 +14,8 @@ ghost use mathlib.Core.List.{List};
 ghost use mathlib.Core.Path.{_≡_};
 ghost use Prim.Native.Nat.{ℕ, _≤_};
 ghost use lib.ListN.{length};
-ghost use Rattle.requests.specs.Requests.{mostLine, loadPacketIn, setIn, hopIn, walkIn};
-ghost use Rattle.requests.specs.Replies.{Replies, Stepped, heldIn};
+ghost use Rattle.requests.specs.Requests.{mostLine, loadPacketIn, setIn, hopIn};
+ghost use Rattle.requests.specs.Replies.{Stepped, heldIn};
 
 // The packet is held beside the rest.
 fn carry(h: Holding, packet: Packet, reply: Reply) -> Step
@@ -101,27 +100,5 @@ pub fn hop(h: Holding, table: &[u8], line: &[u8]) -> Step
         Hopped::Moved(_) => carry(h, left, Reply::Moved(left)),
         Hopped::Dropped => carry(h, left, Reply::Dropped(left)),
         Hopped::Refused(a) => carry(h, left, Reply::Refused(a)),
-    }
-}
-
-// `walk START SCHEDULE`
-pub fn walk(h: Holding, table: &[u8], line: &[u8]) -> Reply
-    requires { ⌜ (h .size ≤ length (now table)) × (length (now line) ≤ mostLine) ⌝ }
-    ensures { λ r. ⌜ ((buffer : List ℕ) → Replies (walkIn (heldIn h (now (table .entry))) (now (line .entry))) r buffer) ⌝ }
-{
-    let mut bytes = asked::room_for_bytes();
-    let t = h.topology;
-    let size = h.size;
-    let Value::Is(u) = asked::number_in(line, 1, BYTE) else {
-        return Reply::Error;
-    };
-    let Value::Is(n) = asked::bytes_in(line, 2, &mut bytes) else {
-        return Reply::Error;
-    };
-    let walked = forwarding::walk(t, &table[..size], Place(u as u8), &bytes[..n]);
-    match walked {
-        Walked::Delivered(p) => Reply::Delivered(p),
-        Walked::Dropped(p) => Reply::Dropped(p),
-        Walked::Refused(a) => Reply::Refused(a),
     }
 }

@@ -8,8 +8,8 @@ use Rattle.text.specs.declared.unchecked.fields.Value.the-variants.{Is}
 use Rattle.text.specs.Fields.{field}
 use Rattle.text.specs.Hex.{byteCount}
 use Rattle.packet.specs.Calls.{packetIn, hopSays}
-use Rattle.requests.specs.declared.unchecked.replies.Reply.{Reply}
-use Rattle.requests.specs.declared.unchecked.calls.Step.{Step}
+use Rattle.requests.specs.declared.unchecked.holding.Reply.{Reply}
+use Rattle.requests.specs.declared.unchecked.holding.Step.{Step}
 use Rattle.requests.specs.Requests.{hopIn, hopBy, hopAnswer, hopText}
 use Rattle.requests.specs.Replies.{Stepped, heldIn, replyText, roomOf}
 use Rattle.requests.proofs.Replying.{error-step, carried-step, plain-reply}

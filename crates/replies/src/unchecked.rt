@@ -1,0 +1,3 @@
+// For callers that have tested the line and lent the buffers: each `requires` says what it asks.
+pub mod calls;
+pub mod putting;

@@ -1,0 +1,60 @@
+// The line that a reply stands for, and the buffers lent.
+use forwarding::Packet;
+use requests::unchecked::holding::Reply;
+use text::unchecked::lines;
+ghost use mathlib.Core.Path.{_≡_};
+ghost use Prim.Native.Nat.{_+_, _≤_};
+ghost use lib.ListN.{length};
+ghost use Rattle.text.specs.Lines.{Put};
+ghost use Rattle.packet.specs.Calls.{packetIn};
+ghost use Rattle.requests.specs.Requests.{packetLine};
+ghost use Rattle.replies.specs.Calls.{mostRoom, mostAnswer};
+ghost use Rattle.replies.specs.Calls as said;
+ghost use Rattle.requests.specs.Replies.{replyText, roomOf};
+
+// The limits of specs/Requests.antt of `requests`.
+pub const ROOM: usize = 65536;
+
+pub const ANSWER: usize = 2 * ROOM + 64;
+
+// Arrays come out of functions, so that a proof that lends one knows it by what the function ensures and not by all its elements.
+pub fn lent() -> [u8; ROOM]
+    ensures { λ r. ⌜ r ≡ said.lent mostRoom ⌝ }
+{
+    [170; ROOM]
+}
+
+pub fn room_for_answer() -> [u8; ANSWER]
+    ensures { λ r. ⌜ mostAnswer ≡ length r ⌝ }
+{
+    [0; ANSWER]
+}
+
+// Puts a word and a packet.
+fn put_packet(out: &mut [u8], word: &[u8], packet: Packet) -> usize
+    requires { ⌜ length (now word) + 43 ≤ length (now out) ⌝ }
+    ensures { λ r. ⌜ Put (now (out .entry)) 0 (packetLine (now (word .entry)) (packetIn packet)) r (now (out .exit)) ⌝ }
+{
+    let station = packet.station.0;
+    let hops = packet.hops as usize;
+    lines::put_word_line(out, word, station, hops)
+}
+
+// Puts the line at the start of out, and answers how many bytes it has.
+pub fn put_reply(reply: Reply, buffer: &[u8], out: &mut [u8]) -> usize
+    requires { ⌜ (roomOf reply ≤ length (now buffer)) × (length (now buffer) ≤ mostRoom) × (mostAnswer ≤ length (now out)) ⌝ }
+    ensures { λ r. ⌜ (length (replyText reply (now (buffer .entry))) ≤ mostAnswer) × Put (now (out .entry)) 0 (replyText reply (now (buffer .entry))) r (now (out .exit)) ⌝ }
+{
+    match reply {
+        Reply::Error => lines::put_error(out),
+        Reply::Says(answer) => lines::put_answer_line(out, answer.number, answer.at),
+        Reply::Leaves(answer, n) => {
+            lines::put_buffer_line(out, answer.number, answer.at, &buffer[..n])
+        }
+        Reply::Set(p) => put_packet(out, b"set", p),
+        Reply::Delivered(p) => put_packet(out, b"delivered", p),
+        Reply::Moved(p) => put_packet(out, b"moved", p),
+        Reply::Dropped(p) => put_packet(out, b"dropped", p),
+        Reply::Refused(answer) => lines::put_word_line(out, b"refused", answer.number, answer.at),
+    }
+}
