@@ -20,8 +20,8 @@ use Rattle.packet.specs.Calls.{figure}
 use Rattle.text.specs.Hex.{none}
 use Rattle.text.specs.Lines.{refusedWord, answerText, answerLine, wordLine}
 use Rattle.text.specs.Numbers.{lastDigits, numberText}
-use Rattle.report.specs.Listing.{spaced, rowFields, lineText, tableFor, lineFor, linesFor, allLines}
-use Rattle.report.specs.Facts.{T-0, T-1, T-2}
+use Rattle.wording.specs.Listing.{spaced, rowFields, lineText, tableFor, lineFor, linesFor, allLines}
+use Rattle.wording.specs.Facts.{T-0, T-1, T-2}
 use Rattle.listing.specs.Output.{printed, output}
 use Rattle.listing.specs.Facts.{holds, refused, facts, FactsHold}
 

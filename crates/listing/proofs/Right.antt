@@ -5,7 +5,7 @@ use borrow.Author.Tests.{eq-eqb, ne-eqb}
 use Rattle.stream.specs.Reading.{reading}
 use Rattle.stream.proofs.Returned.{reads-sound}
 use Rattle.text.specs.Lines.{refusedWord, answerText, answerLine, wordLine}
-use Rattle.report.proofs.Right.{all-right}
+use Rattle.wording.proofs.Right.{all-right}
 use Rattle.listing.specs.Output.{printed, output}
 use Rattle.listing.specs.Theorems.{PrintsRight}
 

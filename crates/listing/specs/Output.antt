@@ -7,7 +7,7 @@ use lib.Dec.{eqb}
 use Rattle.stream.specs.declared.Reading.{Reading}
 use Rattle.stream.specs.Reading.{reading}
 use Rattle.text.specs.Lines.{wordLine, refusedWord}
-use Rattle.report.specs.Listing.{allLines}
+use Rattle.wording.specs.Listing.{allLines}
 
 -- the lines of all destinations; a refused stream prints one line: `refused`, number, at
 unfoldable pub printed : Reading → List ℕ

@@ -7,8 +7,8 @@ use mathlib.Core.Path.{_≡_}
 use Rattle.stream.specs.Reading.{reading}
 use Rattle.stream.specs.Theorems.{Bytes}
 use Rattle.text.specs.Numbers.{numberText}
-use Rattle.report.specs.Listing.{allLines}
-use Rattle.report.specs.Theorems.{ListsAll}
+use Rattle.wording.specs.Listing.{allLines}
+use Rattle.wording.specs.Theorems.{ListsAll}
 use Rattle.listing.specs.Output.{output}
 
 -- 01, Two networks by hand: a refused stream prints one line: `refused`, number, at; any other the lines of all destinations of the topology read

@@ -11,7 +11,7 @@ use Rattle.order.specs.Calls.{building, checking}
 use Rattle.table.specs.Calls.{filling, tableChecking}
 use Rattle.packet.specs.Calls as said
 use Rattle.packet.specs.Calls.{Said, countingHops, walking}
-use Rattle.report.specs.Listing.{listing}
+use Rattle.wording.specs.Listing.{listing}
 use Rattle.text.specs.declared.unchecked.fields.Value.{Value}
 use Rattle.text.specs.declared.unchecked.fields.Value.the-variants.{Is, Wrong}
 use Rattle.text.specs.Fields.{field}

@@ -7,7 +7,7 @@ mod printing;
 pub mod unchecked;
 
 ghost use mathlib.Core.Path.{_≡_};
-ghost use Rattle.report.specs.Listing as said;
+ghost use Rattle.wording.specs.Listing as said;
 
 // The lines of a destination, in shortest-path mode: refusals 14, 15 and 24.
 pub fn listing(t: Topology, destination: Place, out: &mut [u8]) -> Answer

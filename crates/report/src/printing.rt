@@ -6,6 +6,7 @@ use rows::ROW;
 use rows::TABLE;
 use stations::ROUTERS;
 use text::unchecked::lines;
+use wording::Front;
 ghost use mathlib.Core.List.{_∷_};
 ghost use mathlib.Core.Path.{_≡_};
 ghost use Prim.Native.Nat.{_+_, _*_, _≤_, _<_};
@@ -14,7 +15,7 @@ ghost use Rattle.stations.specs.Limits.{mostRouters};
 ghost use Rattle.text.specs.Fields.{space};
 ghost use Rattle.text.specs.Lines.{Put};
 ghost use Rattle.text.specs.Numbers.{numberText};
-ghost use Rattle.report.specs.Inner.{mostLine, mostLines, rowText, frontText, lineOf, Row, Small, Listable, tableText};
+ghost use Rattle.wording.specs.Inner.{mostLine, mostLines, rowText, frontText, lineOf, Row, Small, Listable, tableText};
 
 // Room for a line, and for the lines of a destination.
 const LINE: usize = 12 + 3 * ENTRIES;
@@ -38,14 +39,6 @@ pub(crate) fn room_for_hops() -> [u8; ROUTERS]
     ensures { λ r. ⌜ mostRouters ≡ length r ⌝ }
 {
     [0; ROUTERS]
-}
-
-// The fields of a line before its row.
-pub(crate) struct Front {
-    pub destination: u8,
-    pub router: u8,
-    pub rank: u8,
-    pub hops: u8,
 }
 
 // A space and a number.

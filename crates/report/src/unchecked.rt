@@ -13,8 +13,8 @@ ghost use Rattle.stations.specs.Topology.{networkOf};
 ghost use Rattle.soundness.specs.Sound.{sound};
 ghost use Rattle.arcs.specs.Arcs.{Holds};
 ghost use Rattle.text.specs.Lines.{Put};
-ghost use Rattle.report.specs.Listing.{linesFor, allLines};
-ghost use Rattle.report.specs.Inner.{mostLines};
+ghost use Rattle.wording.specs.Listing.{linesFor, allLines};
+ghost use Rattle.wording.specs.Inner.{mostLines};
 
 // The lines of a destination, from an offset of the slice on; answers the offset after them.
 pub fn put_lines(t: Topology, a: Arcs, destination: Place, out: &mut [u8], at: usize) -> usize

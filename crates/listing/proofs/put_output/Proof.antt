@@ -11,7 +11,7 @@ use Rattle.stream.proofs.Returned.{reads-sound}
 use Rattle.order.proofs.Ranges.{mem-getD}
 use Rattle.text.specs.Lines.{refusedWord}
 use Rattle.text.proofs.Texts.{word-line-length}
-use Rattle.report.proofs.Tables.{all-length}
+use Rattle.wording.proofs.Tables.{all-length}
 use Rattle.listing.specs.Output.{printed, output}
 use borrow.Author.Needs.{needs}
 use Rattle.listing.proofs.put_output.Statement.{statement}

@@ -11,9 +11,9 @@ use lib.ListN.{length, take}
 use Rattle.stations.specs.Outcome.{given, turnedAway}
 use Rattle.soundness.specs.Sound.{sound}
 use Rattle.text.proofs.Stores.{start}
-use Rattle.report.specs.Listing.{linesFor, listing}
-use Rattle.report.proofs.InTurn.{put-length, put-start}
-use Rattle.report.proofs.Tables.{lines-length}
+use Rattle.wording.specs.Listing.{linesFor, listing}
+use Rattle.wording.proofs.InTurn.{put-length, put-start}
+use Rattle.wording.proofs.Tables.{lines-length}
 use borrow.Author.Needs.{needs}
 use Rattle.report.proofs.listing.Statement.{statement}
 use Rattle.report.proofs.listing.Tie as tie

@@ -6,8 +6,8 @@ use native.Mathlib.Numerals.{add-one}
 use native.Mathlib.Omega.{arith}
 use lib.ListN.{length, getD, take}
 use lib.Seq.{take-suc, take-all}
-use Rattle.report.proofs.InTurn.{SoFar, none, more, put-length}
-use Rattle.report.proofs.Fields.{field, field-length, row-none, row-some}
+use Rattle.wording.proofs.InTurn.{SoFar, none, more, put-length}
+use Rattle.wording.proofs.Fields.{field, field-length, row-none, row-some}
 use Rattle.report.proofs.printing.put_row.Statement.{statement}
 use Rattle.report.proofs.printing.put_row.Tie as tie
 

@@ -8,10 +8,10 @@ use Rattle.network.specs.Lists.{numbersFrom, below}
 use Rattle.arcs.proofs.Slots.{below-more}
 use Rattle.rows.specs.Bytes.{rowStart}
 use Rattle.table.specs.Listed.{rankIn, placesIn}
-use Rattle.report.specs.declared.printing.Front.{Front}
-use Rattle.report.specs.Inner.{mostLine, lineOf, lineIn, tableText, Small}
-use Rattle.report.proofs.InTurn.{SoFar, none, more}
-use Rattle.report.proofs.Fields.{line-length}
+use Rattle.wording.specs.declared.Front.{Front}
+use Rattle.wording.specs.Inner.{mostLine, lineOf, lineIn, tableText, Small}
+use Rattle.wording.proofs.InTurn.{SoFar, none, more}
+use Rattle.wording.proofs.Fields.{line-length}
 use Rattle.report.proofs.printing.put_table.Statement.{statement}
 use Rattle.report.proofs.printing.put_table.Tie as tie
 

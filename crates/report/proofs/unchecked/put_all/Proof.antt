@@ -6,10 +6,10 @@ use native.Mathlib.Omega.{arith}
 use Rattle.network.specs.Lists.{numbersFrom, below}
 use Rattle.arcs.proofs.Slots.{below-more}
 use Rattle.soundness.proofs.Sound.{sound-exact}
-use Rattle.report.specs.Listing.{linesFor, allLines}
-use Rattle.report.specs.Inner.{mostLines}
-use Rattle.report.proofs.InTurn.{SoFar, none, more}
-use Rattle.report.proofs.Tables.{lines-length}
+use Rattle.wording.specs.Listing.{linesFor, allLines}
+use Rattle.wording.specs.Inner.{mostLines}
+use Rattle.wording.proofs.InTurn.{SoFar, none, more}
+use Rattle.wording.proofs.Tables.{lines-length}
 use Rattle.report.proofs.unchecked.put_all.Statement.{statement}
 use Rattle.report.proofs.unchecked.put_all.Tie as tie
 

@@ -9,8 +9,8 @@ use lib.Seq.{take-at}
 use Rattle.soundness.proofs.Sound.{sound-exact}
 use Rattle.order.specs.Calls.{modeOf}
 use Rattle.rows.specs.Bytes.{rowStart}
-use Rattle.report.specs.Listing.{tableFor}
-use Rattle.report.proofs.Tables.{accepted, long, listable, lines}
+use Rattle.wording.specs.Listing.{tableFor}
+use Rattle.wording.proofs.Tables.{accepted, long, listable, lines}
 use borrow.Author.Needs.{needs}
 use Rattle.report.proofs.unchecked.put_lines.Statement.{statement}
 use Rattle.report.proofs.unchecked.put_lines.Tie as tie

@@ -6,7 +6,7 @@ use Rattle.text.specs.declared.unchecked.fields.Value.the-variants.{Is}
 use Rattle.text.specs.Fields.{field}
 use Rattle.text.specs.Numbers.{number}
 use Rattle.text.proofs.Numbers.{number-bound}
-use Rattle.report.specs.Listing.{listing}
+use Rattle.wording.specs.Listing.{listing}
 use Rattle.requests.specs.Requests.{mostByte}
 use Rattle.replies.specs.Calls.{listIn, listBy}
 use Rattle.requests.proofs.Replying.{error-reply}

@@ -22,7 +22,7 @@ use Rattle.table.specs.Calls.{tableChecking}
 use Rattle.table.specs.Theorems.{GivenBy}
 use Rattle.packet.specs.Calls.{done, walking}
 use Rattle.text.specs.Numbers.{numberText}
-use Rattle.report.specs.Listing.{allLines, listing}
+use Rattle.wording.specs.Listing.{allLines, listing}
 
 -- a number in decimal, below 2 ^ 64 as all that are printed: one digit, or the digits of its tenth part and the last
 pub record Spelled (n : ℕ) : Type 0 where

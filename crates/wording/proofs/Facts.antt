@@ -18,8 +18,8 @@ use Rattle.table.specs.Facts.{lone, F-links, F-topology}
 use Rattle.packet.specs.Calls.{figure}
 use Rattle.text.specs.Hex.{none}
 use Rattle.text.specs.Numbers.{lastDigits, numberText}
-use Rattle.report.specs.Listing.{spaced, rowFields, lineText, tableFor, lineFor, linesFor, allLines, listing}
-use Rattle.report.specs.Facts.{holds, T-0, T-1, T-2, F-0, F-0-limited, eleven, eleven-10, lone-0, room, facts, FactsHold}
+use Rattle.wording.specs.Listing.{spaced, rowFields, lineText, tableFor, lineFor, linesFor, allLines, listing}
+use Rattle.wording.specs.Facts.{holds, T-0, T-1, T-2, F-0, F-0-limited, eleven, eleven-10, lone-0, room, facts, FactsHold}
 
 pub facts-hold : FactsHold
 unfolding numbersFrom below keep every any leastBy greatestBy ahead foremost insert sort member distinct sameNumbers wins

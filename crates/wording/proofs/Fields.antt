@@ -13,9 +13,9 @@ use Rattle.text.specs.Hex.{none}
 use Rattle.text.specs.Lines.{newline}
 use Rattle.text.specs.Numbers.{numberText}
 use Rattle.text.proofs.Texts.{small-length}
-use Rattle.report.specs.Listing.{spaced, rowFields, lineText}
-use Rattle.report.specs.declared.printing.Front.{Front}
-use Rattle.report.specs.Inner.{mostLine, rowText, frontText, lineOf, Row, Small}
+use Rattle.wording.specs.Listing.{spaced, rowFields, lineText}
+use Rattle.wording.specs.declared.Front.{Front}
+use Rattle.wording.specs.Inner.{mostLine, rowText, frontText, lineOf, Row, Small}
 
 -- each field but the first behind a space
 spaced-first : (f : List ℕ) (fs : List (List ℕ)) → spaced (f ∷ fs) ≡ f ++ joinedOver (λ g. space ∷ g) fs

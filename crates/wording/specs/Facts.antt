@@ -11,7 +11,7 @@ use Rattle.stations.specs.declared.Topology.{Topology}
 use Rattle.stations.specs.Topology.{held, zeros}
 use Rattle.order.specs.Table.{answers, link, T-topology}
 use Rattle.table.specs.Facts.{lone, F-topology}
-use Rattle.report.specs.Listing.{listing, allLines}
+use Rattle.wording.specs.Listing.{listing, allLines}
 
 pub data Fact : Type 0 where
   -- listing a destination into a buffer answers a number, at, and leaves these bytes

@@ -30,10 +30,10 @@ use Rattle.packet.proofs.Figures.{figures-exact}
 use Rattle.packet.proofs.Places.{places-long}
 use Rattle.hops.proofs.Whole.{whole-fits}
 use Rattle.hops.proofs.Bounds.{row-of}
-use Rattle.report.specs.Listing.{tableFor, lineFor, linesFor, allLines}
-use Rattle.report.specs.Inner.{mostLine, mostLines, Row, Listable, lineOf, lineIn, tableText}
-use Rattle.report.proofs.InTurn.{joined-most}
-use Rattle.report.proofs.Fields.{line-length}
+use Rattle.wording.specs.Listing.{tableFor, lineFor, linesFor, allLines}
+use Rattle.wording.specs.Inner.{mostLine, mostLines, Row, Listable, lineOf, lineIn, tableText}
+use Rattle.wording.proofs.InTurn.{joined-most}
+use Rattle.wording.proofs.Fields.{line-length}
 
 joined-same : {A : Type 0} (f g : A → List ℕ) (xs : List A) → ((x : A) → List·Memᴰ x xs → f x ≡ g x) → joinedOver f xs ≡ joinedOver g xs
 unfolding joinedOver

@@ -29,12 +29,12 @@ use Rattle.packet.specs.Calls.{figure, figures}
 use Rattle.packet.proofs.Figures.{figures-exact}
 use Rattle.text.specs.Numbers.{numberText}
 use Rattle.text.proofs.Texts.{one-digit, more-digits}
-use Rattle.report.specs.declared.printing.Front.{Front}
-use Rattle.report.specs.Listing.{tableFor, lineFor, linesFor, allLines, listing}
-use Rattle.report.specs.Inner.{lineOf, frontText, rowText}
-use Rattle.report.specs.Theorems.{NumbersSpelled, JoinsInTurn, lineWith, LineIs, ListsRight, ListingRefuses, AllRight}
-use Rattle.report.proofs.Fields.{field, row-none, row-some, line-fields}
-use Rattle.report.proofs.Tables.{given as its-given, accepted, ranks, hop-counts}
+use Rattle.wording.specs.declared.Front.{Front}
+use Rattle.wording.specs.Listing.{tableFor, lineFor, linesFor, allLines, listing}
+use Rattle.wording.specs.Inner.{lineOf, frontText, rowText}
+use Rattle.wording.specs.Theorems.{NumbersSpelled, JoinsInTurn, lineWith, LineIs, ListsRight, ListingRefuses, AllRight}
+use Rattle.wording.proofs.Fields.{field, row-none, row-some, line-fields}
+use Rattle.wording.proofs.Tables.{given as its-given, accepted, ranks, hop-counts}
 
 pub numbers-spelled : NumbersSpelled
 numbers-spelled n = record { one = one-digit n; more = more-digits n }

@@ -12,8 +12,8 @@ use Rattle.rows.specs.Bytes.{rowStart, tableLength}
 use Rattle.table.specs.Listed.{rankIn, placesIn}
 use Rattle.text.specs.Fields.{space}
 use Rattle.text.specs.Numbers.{numberText}
-use Rattle.report.specs.declared.printing.Front.{Front}
-use Rattle.report.specs.Listing.{rowFields, lineText}
+use Rattle.wording.specs.declared.Front.{Front}
+use Rattle.wording.specs.Listing.{rowFields, lineText}
 
 -- room for a line: four numbers of two digits, at most 16 entries, the space before each but the first, and the line's end
 abbrev pub mostLine : ℕ
