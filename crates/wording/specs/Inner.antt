@@ -1,5 +1,5 @@
--- What the inner functions ask of the bytes that they print, and what they make of them; of the open contracts only those of `unchecked` name it, for
--- the room that they ask for.
+-- What the inner functions of `report` ask of the bytes that they print, and what they make of them; of the open contracts only those of its `unchecked`
+-- name it, for the room that they ask for.
 -- Assumes nothing.
 use Prim.Native.Nat.{ℕ, _+_, _≤_, _<_}
 use mathlib.Core.List.{List, _∷_, _++_}

@@ -12,7 +12,7 @@ ghost use Rattle.replies.specs.Calls.{mostRoom, mostAnswer};
 ghost use Rattle.replies.specs.Calls as said;
 ghost use Rattle.requests.specs.Replies.{replyText, roomOf};
 
-// The limits of specs/Requests.antt of `requests`.
+// The limits of specs/Calls.antt.
 pub const ROOM: usize = 65536;
 
 pub const ANSWER: usize = 2 * ROOM + 64;
