@@ -1,4 +1,5 @@
--- What the inner calls ask of the bytes and slots that they go through, and what they make of them; no open contract rests on it.
+-- What the inner calls ask of the bytes and slots that they go through, and what they make of them; of the open contracts only those of `unchecked` name
+-- it, for what was tested before and for the greatest hop counts as ranks.
 -- Router u has the slots from u * mostNeighbours on, and its row stands from 4 + 19u on in the table.
 -- Assumes nothing.
 use Prim.Native.Nat.{ℕ, _+_, _*_, _≤_, _<_}
