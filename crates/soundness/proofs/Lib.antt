@@ -1,6 +1,7 @@
 pub mod Stores
 pub mod Labels
 pub mod Lowest
+pub mod Times
 pub mod Turns
 pub mod Links
 pub mod Pairs

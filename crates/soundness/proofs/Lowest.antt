@@ -1,9 +1,10 @@
--- With labels that are equal exactly where there is a path, the places apart from place 0 are those with another label, and the lowest of them is the
--- first place whose label differs.
+-- With labels that are equal exactly where there is a path, the places apart from place 0 are those with another label: the lowest of them is the
+-- first place whose label differs, and there is none where all labels are one.
 -- Assumes nothing.
 use Prim.Native.Nat.{ℕ, zero, suc, _+_, _≤_, _<_}
 use mathlib.Core.Bool.{Bool, true, false, not}
 use mathlib.Core.List.{List, _∷_}
+use mathlib.Core.Logic.{_↔_}
 use mathlib.Core.Path.{_≡_, refl, sym, _∙_, ap}
 use native.Mathlib.Decide.{decLt}
 use native.Mathlib.Omega.{arith}
@@ -16,14 +17,16 @@ use Rattle.network.specs.Network.{Network, WellFormed, size, linked}
 use Rattle.network.specs.Distance.{PathTo, arrived, along, absent, distances, distance}
 use Rattle.network.specs.Order.{reached}
 use Rattle.network.specs.Theorems.Distance.{DistanceExact}
+use Rattle.network.proofs.Tests.{as-true, as-false}
 use Rattle.network.proofs.Distance.{distances-exact}
 use Rattle.network.proofs.Linked.{linked-well-formed}
 use Rattle.stations.specs.declared.Topology.{Topology}
 use Rattle.stations.specs.Topology.{contents, networkIn, networkOf}
 use Rattle.stations.specs.Inner.{Counted, firstOr}
 use Rattle.soundness.specs.Apart.{apart}
-use Rattle.soundness.specs.Sound.{wellLinked}
+use Rattle.soundness.specs.Sound.{wellLinked, connected}
 use Rattle.soundness.specs.Inner.{Labelled}
+use Rattle.soundness.proofs.Sound.{none-apart, none-fact, routers-listed}
 use Rattle.soundness.proofs.Labels.{label}
 
 -- the first number that passes a test, among those from s to the end, or the end itself
@@ -82,3 +85,20 @@ module _ {t : Topology} (counted : Counted t) (well : T (wellLinked t)) (slots :
   lowest-apart some labels h u within before at =
       sym (lowest (networkOf t) well-formed (rw sized some) labels h u (rw sized within) before (λ l. at (rw sized at l)))
       ∙ ap (λ (end : ℕ). firstOr end (apart (contents t))) sized
+
+  -- no place is apart exactly where all labels are one
+  joined : 0 < t .routers → (labels : List ℕ) → Labelled (networkOf t) labels →
+      T (connected t) ↔ ((u : ℕ) → u < t .routers → label labels u ≡ label labels 0)
+  unfolding connected wellLinked networkOf
+  joined some labels h =
+      let listed : length (contents t .ids) ≡ t .routers = routers-listed t (omega (arith, counted .routers-fit)) in
+      let paths = none-apart (contents t) (omega arith) well in
+      let some′ : 0 < size (networkOf t) = rw sized some in (
+        λ s u l. one-label (networkOf t) well-formed some′ labels h (paths .0 (none-fact (apart (contents t)) .0 s) u (omega arith)) (rw sized l),
+        λ e. none-fact (apart (contents t)) .1 (paths .1 (λ u l. h .path u 0 (omega (arith, sized)) some′ (e u (omega arith)))),
+      )
+
+  pub one-joined : 0 < t .routers → {labels : List ℕ} → Labelled (networkOf t) labels → (one : Bool) →
+      T one ↔ ((u : ℕ) → u < t .routers → label labels u ≡ label labels 0) → one ≡ connected t
+  one-joined some {labels} h true e = sym (as-true _ (joined some labels h .1 (e .0 tt)))
+  one-joined some {labels} h false e = sym (as-false _ (λ s. e .1 (joined some labels h .0 s)))

@@ -3,8 +3,11 @@ use stations::ROUTERS;
 use stations::Topology;
 ghost use mathlib.Core.Bool.{cond};
 ghost use mathlib.Core.List.{map};
+ghost use mathlib.Core.Logic.{_↔_};
 ghost use mathlib.Core.Path.{_≡_};
+ghost use Prim.Native.Nat.{ℕ, _<_, _≤_};
 ghost use lib.Dec.{T, eqb};
+ghost use lib.ListN.{getD};
 ghost use Rattle.network.specs.Lists.{below};
 ghost use Rattle.stations.specs.Limits.{mostRouters};
 ghost use Rattle.stations.specs.Topology.{networkOf};
@@ -13,7 +16,7 @@ ghost use Rattle.soundness.specs.Sound.{wellLinked};
 ghost use Rattle.soundness.specs.Inner.{Labelled};
 
 // Every place with a label of its own.
-fn separate() -> [u8; ROUTERS]
+pub(crate) fn separate() -> [u8; ROUTERS]
     ensures { λ r. ⌜ r ≡ below mostRouters ⌝ }
 {
     let mut labels = [0; ROUTERS];
@@ -26,7 +29,7 @@ fn separate() -> [u8; ROUTERS]
 }
 
 // The labels with each that is `from` made `to`.
-fn merged(labels: [u8; ROUTERS], from: u8, to: u8) -> [u8; ROUTERS]
+pub(crate) fn merged(labels: [u8; ROUTERS], from: u8, to: u8) -> [u8; ROUTERS]
     ensures { λ r. ⌜ r ≡ map (λ x. cond (eqb x from) to x) labels ⌝ }
 {
     let mut next = labels;
@@ -60,4 +63,21 @@ pub(crate) fn labelled(t: Topology) -> [u8; ROUTERS]
         i += 1;
     }
     labels
+}
+
+// Whether the first of the labels are one. The loop goes to its end, so that many are taken at a time.
+pub(crate) fn are_one(labels: [u8; ROUTERS], count: usize) -> bool
+    requires { ⌜ count ≤ mostRouters ⌝ }
+    ensures { λ r. ⌜ T r ↔ ((u : ℕ) → u < count → getD labels u 0 ≡ getD labels 0 0) ⌝ }
+{
+    let joined = labels[0];
+    let mut one = true;
+    let mut u: usize = 0;
+    while u < count {
+        if labels[u] != joined {
+            one = false;
+        }
+        u += 1;
+    }
+    one
 }

@@ -11,17 +11,14 @@ ghost use Rattle.soundness.specs.Sound.{sound};
 pub fn is_sound(t: Topology) -> bool
     ensures { λ r. ⌜ r ≡ sound t ⌝ }
 {
-    if !testing::in_limits(t) {
+    if !testing::in_limits(t.routers, t.links, t.limit) {
         return false;
     }
-    if !testing::ids_differ(t) {
+    if !testing::ids_differ(&t.id, t.routers) {
         return false;
     }
     if !testing::links_fit(t) {
         return false;
     }
-    if unchecked::lowest_apart(t) < t.routers {
-        return false;
-    }
-    testing::ids_end(t) && testing::links_end(t)
+    testing::ids_end(&t.id, t.routers) && testing::links_end(t)
 }

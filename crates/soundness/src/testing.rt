@@ -1,5 +1,5 @@
 // The tests behind refusal 14.
-use super::unchecked;
+use super::apart;
 use stations::LINKS;
 use stations::NEIGHBOURS;
 use stations::NEXT_HOPS;
@@ -8,43 +8,62 @@ use stations::Topology;
 ghost use mathlib.Core.Bool.{_&&_};
 ghost use mathlib.Core.List.{map};
 ghost use mathlib.Core.Path.{_≡_};
-ghost use lib.Dec.{eqb};
-ghost use lib.ListN.{drop};
-ghost use Rattle.network.specs.Lists.{distinct, every};
+ghost use Prim.Native.Nat.{_<_, _≤_};
+ghost use lib.Dec.{T, eqb, leb};
+ghost use lib.ListN.{length, take, drop};
+ghost use Rattle.network.specs.Lists.{keep, distinct, every};
 ghost use Rattle.network.specs.Network.{pairsDiffer, soundLink};
+ghost use Rattle.stations.specs.Limits.{mostRouters, mostLinks, mostNextHops};
 ghost use Rattle.stations.specs.Topology.{contents, seen};
 ghost use Rattle.stations.specs.Inner.{Counted};
-ghost use Rattle.soundness.specs.Sound.{inLimits, uncrowded, isNoLink};
+ghost use Rattle.soundness.specs.Sound.{within, uncrowded, connected, isNoLink};
 
-pub(crate) fn in_limits(t: Topology) -> bool
-    ensures { λ r. ⌜ r ≡ inLimits t ⌝ }
+pub(crate) fn in_limits(routers: usize, links: usize, limit: u8) -> bool
+    ensures { λ r. ⌜ r ≡ (within mostRouters routers && leb links mostLinks && within mostNextHops limit) ⌝ }
 {
-    let n = t.routers;
-    let k = t.limit;
-    if n < 1 {
+    if routers < 1 {
         return false;
     }
-    if ROUTERS < n {
+    if ROUTERS < routers {
         return false;
     }
-    if LINKS < t.links {
+    if LINKS < links {
         return false;
     }
-    if k < 1 {
+    if limit < 1 {
         return false;
     }
-    k <= NEXT_HOPS
+    limit <= NEXT_HOPS
 }
 
-pub(crate) fn ids_differ(t: Topology) -> bool
-    requires { ⌜ Counted t ⌝ }
-    ensures { λ r. ⌜ r ≡ distinct (contents t .ids) ⌝ }
+// How often the ID stands among the first of these. The loop goes to its end, so that many IDs are taken at a time.
+fn times<'a>(ids: &'a [u32; ROUTERS], count: usize, id: u32) -> u32
+    requires { ⌜ (count ≤ mostRouters) × (length (now ids) ≡ mostRouters) ⌝ }
+    ensures { λ r. ⌜ r ≡ length (keep (eqb id) (take count (now (ids .entry)))) ⌝ }
 {
-    let n = t.routers;
+    let mut found: u32 = 0;
+    let mut i: usize = 0;
+    while i < count {
+        if ids[i] == id {
+            found += 1;
+        }
+        i += 1;
+    }
+    found
+}
+
+// An ID is counted up to the end of its block of eight, so that whole blocks are taken at a time.
+pub(crate) fn ids_differ<'a>(ids: &'a [u32; ROUTERS], n: usize) -> bool
+    requires { ⌜ (n ≤ mostRouters) × (length (now ids) ≡ mostRouters) ⌝ }
+    ensures { λ r. ⌜ r ≡ distinct (take n (now (ids .entry))) ⌝ }
+{
     let mut i: usize = 0;
     while i < n {
-        let id = t.id[i];
-        if unchecked::is_listed(&t.id, i, id) {
+        let mut end = i / 8 * 8 + 8;
+        if n < end {
+            end = n;
+        }
+        if times(ids, end, ids[i]) != 1 {
             return false;
         }
         i += 1;
@@ -53,15 +72,16 @@ pub(crate) fn ids_differ(t: Topology) -> bool
 }
 
 // Goes once through the links. A table of pairs of places holds the pairs that are linked so far, each in both orders; beside it each place has the
-// number of its neighbours so far.
+// number of its neighbours so far, and a label, which is that of each place that the links so far join it to.
 pub(crate) fn links_fit(t: Topology) -> bool
-    requires { ⌜ Counted t ⌝ }
-    ensures { λ r. let ls = map seen (contents t .links) in ⌜ r ≡ (every (soundLink (t .routers)) ls && pairsDiffer ls && uncrowded t) ⌝ }
+    requires { ⌜ Counted t × T (distinct (contents t .ids)) × (0 < t .routers) ⌝ }
+    ensures { λ r. let ls = map seen (contents t .links) in ⌜ r ≡ (every (soundLink (t .routers)) ls && pairsDiffer ls && uncrowded t && connected t) ⌝ }
 {
     let n = t.routers;
     let links = t.links;
     let mut linked = [false; ROUTERS * ROUTERS];
     let mut count = [0usize; ROUTERS];
+    let mut labels = apart::separate();
     let mut i: usize = 0;
     while i < links {
         let l = t.link[i];
@@ -85,18 +105,23 @@ pub(crate) fn links_fit(t: Topology) -> bool
         }
         count[first] = at_first + 1;
         count[second] = at_second + 1;
+        let from = labels[first];
+        let to = labels[second];
+        if from != to {
+            labels = apart::merged(labels, from, to);
+        }
         i += 1;
     }
-    true
+    apart::are_one(labels, n)
 }
 
-pub(crate) fn ids_end(t: Topology) -> bool
-    requires { ⌜ Counted t ⌝ }
-    ensures { λ r. ⌜ r ≡ every (eqb 0) (drop (t .routers) (t .id)) ⌝ }
+pub(crate) fn ids_end<'a>(ids: &'a [u32; ROUTERS], n: usize) -> bool
+    requires { ⌜ (n ≤ mostRouters) × (length (now ids) ≡ mostRouters) ⌝ }
+    ensures { λ r. ⌜ r ≡ every (eqb 0) (drop n (now (ids .entry))) ⌝ }
 {
-    let mut i = t.routers;
+    let mut i = n;
     while i < ROUTERS {
-        if t.id[i] != 0 {
+        if ids[i] != 0 {
             return false;
         }
         i += 1;
@@ -104,23 +129,19 @@ pub(crate) fn ids_end(t: Topology) -> bool
     true
 }
 
+// The loop goes to its end, so that many links are taken at a time.
 pub(crate) fn links_end(t: Topology) -> bool
     requires { ⌜ Counted t ⌝ }
     ensures { λ r. ⌜ r ≡ every isNoLink (drop (t .links) (t .link)) ⌝ }
 {
+    let mut none = true;
     let mut i = t.links;
     while i < LINKS {
         let l = t.link[i];
-        if l.first.0 != 0 {
-            return false;
-        }
-        if l.second.0 != 0 {
-            return false;
-        }
-        if l.cost != 0 {
-            return false;
+        if l.first.0 != 0 || l.second.0 != 0 || l.cost != 0 {
+            none = false;
         }
         i += 1;
     }
-    true
+    none
 }
