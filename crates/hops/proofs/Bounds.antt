@@ -24,7 +24,7 @@ use Rattle.stations.specs.Topology.{networkOf}
 use Rattle.soundness.specs.Sound.{sound}
 use Rattle.soundness.proofs.Sound.{sound-exact}
 use Rattle.order.proofs.Ranges.{getD-mem}
-use Rattle.order.proofs.Stored.{stored}
+use Rattle.distances.proofs.Stored.{stored}
 use Rattle.rows.specs.Bytes.{rowStart}
 use Rattle.table.specs.Listed.{placesIn, orderIn}
 use Rattle.table.proofs.Bytes.{row-few}

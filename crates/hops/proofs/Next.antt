@@ -17,7 +17,7 @@ use Rattle.network.proofs.Lists.{some-any}
 use Rattle.network.proofs.Below.{mem-below}
 use Rattle.arcs.specs.declared.Arcs.{Arcs}
 use Rattle.arcs.specs.Arcs.{slotArc, slotArcs, Holds}
-use Rattle.order.specs.Inner.{slotTo}
+use Rattle.distances.specs.Slots.{slotTo}
 use Rattle.topology.specs.Written.{joinedOver}
 use Rattle.table.specs.Listed.{placesIn, arcsTo, entriesIn}
 use Rattle.hops.specs.Inner.{slotUp, firstOf, firstUp}

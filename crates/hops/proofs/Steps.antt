@@ -21,7 +21,7 @@ use Rattle.stations.specs.declared.Topology.{Topology}
 use Rattle.stations.specs.Topology.{networkOf}
 use Rattle.arcs.specs.declared.Arcs.{Arcs}
 use Rattle.arcs.specs.Arcs.{slotArc}
-use Rattle.order.proofs.Slots.{Held, sound-held, count-is, slot-sound}
+use Rattle.distances.proofs.Slots.{Held, sound-held, count-is, slot-sound}
 use Rattle.table.specs.Listed.{destinationIn, placesIn, entriesIn, listed}
 use Rattle.packet.specs.Calls.{by}
 use Rattle.packet.specs.Theorems.{rankByte}

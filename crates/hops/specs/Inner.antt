@@ -19,7 +19,7 @@ use Rattle.stations.specs.Topology.{networkOf}
 use Rattle.soundness.specs.Sound.{sound}
 use Rattle.arcs.specs.declared.Arcs.{Arcs}
 use Rattle.arcs.specs.Arcs.{Holds}
-use Rattle.order.specs.Inner.{slotTo}
+use Rattle.distances.specs.Slots.{slotTo}
 use Rattle.rows.specs.Bytes.{rowStart}
 use Rattle.table.specs.Listed.{placesIn}
 use Rattle.table.specs.Calls.{tableChecking}

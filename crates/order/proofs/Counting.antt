@@ -16,7 +16,8 @@ use Rattle.network.proofs.Tests.{both, and, eq-test}
 use Rattle.network.proofs.Lists.{member-mem}
 use Rattle.arcs.specs.declared.Arcs.{Arcs}
 use Rattle.arcs.specs.Arcs.{slotArc, slotArcs}
-use Rattle.order.specs.Inner.{slotTo, slotCost, slotShort, leading, serving}
+use Rattle.distances.specs.Slots.{slotTo, slotCost}
+use Rattle.order.specs.Inner.{slotShort, leading, serving}
 use Rattle.order.proofs.Setting.{Setting, Agrees}
 use Rattle.order.proofs.Keeping.{once, keep-same, keep-all, keep-keep, kept-sum, kept-most, Found, none-kept, same-kept, keep-map, member-snoc}
 

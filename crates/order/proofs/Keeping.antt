@@ -4,14 +4,13 @@ use Prim.Native.Nat.{ℕ, _+_, _≤_, zero-le}
 use mathlib.Core.Bool.{Bool, true, false, cond, not, _&&_, _||_, or-false, or-assoc}
 use mathlib.Core.List.{List, [], _∷_, _++_, List·Memᴰ, List·Memᴰ·head, List·Memᴰ·tail, map}
 use mathlib.Core.Logic.{_⊎_, inl, inr, ⊎-elim}
-use mathlib.Core.Option.{Option, none, some, Option·none-ne-some, Option·some-injective}
 use mathlib.Core.Path.{_≡_, refl, sym, _∙_, ap, subst}
 use native.Mathlib.Nat.{le-refl}
 use native.Mathlib.Omega.{arith}
 use borrow.Author.Tests.{lt-ltb}
 use lib.Dec.{T, eqb, ltb, eqb·suc-zero}
 use lib.ListN.{length}
-use Rattle.network.specs.Lists.{keep, every, any, ahead, foremost, member, Pairwise, nothing, then}
+use Rattle.network.specs.Lists.{keep, every, any, member, Pairwise, nothing, then}
 use Rattle.network.proofs.Lists.{mem-keep, keep-mem, empty}
 
 -- what an element counts that passes a test or not
@@ -132,31 +131,6 @@ module _ {A : Type 0} where
       step : (b : Bool) → ltb 0 (length (keep f xs)) ≡ any f xs → ltb 0 (length (cond b (x ∷ keep f xs) (keep f xs))) ≡ (b || any f xs)
       step true e = lt-ltb 0 (length (x ∷ keep f xs)) (omega arith)
       step false e = e
-
-  pub foremost-mem : (f : A → A → Bool) (xs : List A) (y : A) → foremost f xs ≡ some y → List·Memᴰ y xs
-  unfolding foremost ahead
-  foremost-mem f [] y e = absurd (Option·none-ne-some y e)
-  foremost-mem f (x ∷ xs) y e = step (foremost f xs) (foremost-mem f xs) (Option·some-injective _ y e)
-    where
-      step : (o : Option A) → ((z : A) → o ≡ some z → List·Memᴰ z xs) → ahead f x o ≡ y → List·Memᴰ y (x ∷ xs)
-      step none rest e′ = List·Memᴰ·head (sym e′)
-      step (some z) rest e′ = pick (f x z) e′
-        where
-          pick : (b : Bool) → cond b x z ≡ y → List·Memᴰ y (x ∷ xs)
-          pick true e″ = List·Memᴰ·head (sym e″)
-          pick false e″ = List·Memᴰ·tail (subst (λ (w : A). List·Memᴰ w xs) e″ (rest z refl))
-
-  -- tests that agree on the elements put the same one first
-  pub foremost-same : (f g : A → A → Bool) (xs : List A) → ((x y : A) → List·Memᴰ x xs → List·Memᴰ y xs → f x y ≡ g x y) →
-      foremost f xs ≡ foremost g xs
-  unfolding foremost ahead
-  foremost-same f g [] h = refl
-  foremost-same f g (x ∷ xs) h =
-      rw (foremost-same f g xs (λ y z m k. h y z (List·Memᴰ·tail m) (List·Memᴰ·tail k))) (ap some (step (foremost g xs) (foremost-mem g xs)))
-    where
-      step : (o : Option A) → ((z : A) → o ≡ some z → List·Memᴰ z xs) → ahead f x o ≡ ahead g x o
-      step none rest = refl
-      step (some z) rest = rw (h x z (List·Memᴰ·head refl) (List·Memᴰ·tail (rest z refl)))
 
 pub keep-map : {A B : Type 0} (f : B → Bool) (g : A → B) (xs : List A) → length (keep f (map g xs)) ≡ length (keep (λ x. f (g x)) xs)
 unfolding keep

@@ -1,149 +1,158 @@
--- The counters are right from the start on and after each router that is placed, so that the candidates and the one that is taken by the counters are
--- those by the definitions.
+-- The standings are right from the start on and after each router that is placed, so that candidates are known by them, and the router that is selected
+-- stands highest.
 -- Assumes nothing.
-use Prim.Native.Nat.{ℕ, _+_, _≤_, _<_}
-use mathlib.Core.Bool.{true, false, cond, not, _||_, or-true, or-false}
-use mathlib.Core.List.{List, [], _∷_, _++_, List·Memᴰ}
-use mathlib.Core.Path.{_≡_, refl, sym, _∙_, ap}
+use Prim.Native.Nat.{ℕ, _+_, _*_, _≤_, _<_}
+use mathlib.Core.List.{List, [], _∷_, _++_, List·Memᴰ, List·Memᴰ·head, List·Memᴰ·not-nil, List·Memᴰ·cases-cons, List·Memᴰ·append-cases, Memᴰ·append-left, Memᴰ·append-right}
+use mathlib.Core.Logic.{_≢_, ⊎-elim}
+use mathlib.Core.Path.{_≡_, refl, _∙_, ap, subst}
 use native.Mathlib.Decide.{decLt, ℕ-discrete}
 use native.Mathlib.Omega.{arith}
-use borrow.Author.Tests.{eq-eqb, ne-eqb, lt-ltb}
-use lib.Dec.{T, eqb, ltb}
-use lib.ListN.{length, getD, set, replicate, length-set, length-replicate, getD-replicate}
+use lib.ListN.{length, getD, set, length-set}
 use lib.Seq.{getD-set-same, getD-set-other}
-use Rattle.network.specs.Lists.{below, keep, any, foremost, member}
-use Rattle.network.specs.Network.{Network, size, idOf, arcsOf}
-use Rattle.network.specs.Order.{reached, shortestNextHops, leadsInto, ready, candidate, placedNeighbours, preferred, select}
-use Rattle.network.proofs.Tests.{as-true}
-use Rattle.network.proofs.Lists.{mem-keep}
-use Rattle.network.proofs.Below.{below-lt}
+use Rattle.network.specs.Lists.{below, keep, any, member}
+use Rattle.network.specs.Network.{Network, size, arcsOf}
+use Rattle.network.specs.Order.{leadsInto, placedNeighbours}
+use Rattle.network.proofs.Tests.{truth}
+use Rattle.network.proofs.Lists.{member-mem, mem-member}
 use Rattle.arcs.specs.declared.Arcs.{Arcs}
 use Rattle.order.specs.declared.Mode.{Mode}
 use Rattle.order.specs.declared.Mode.the-variants as mode
-use Rattle.order.specs.Calls.{modeOf}
-use Rattle.order.specs.Inner.{Waits, State, state, readyIn, betterIn, placeOr, chosen, leading, serving, Room, Stepped}
-use Rattle.order.proofs.Keeping.{keep-same, none-kept, every-kept, any-kept, foremost-same, member-snoc}
-use Rattle.order.proofs.Counting.{leading-past, serving-past, neighbours-most, waiting-first, neighbours-step, waiting-step}
+use Rattle.order.specs.Inner.{slotShort, waitsFor, Standing, serving, after, Room, Stepped}
+use Rattle.order.proofs.Keeping.{none-kept}
+use Rattle.order.proofs.Counting.{waiting, leading-past, serving-past, neighbours-most, waiting-first, neighbours-step, waiting-step}
 use Rattle.order.proofs.Setting.{Setting, GoneBy}
 
--- the counters are right for the routers that are placed: `left` is in shortest-path mode how many shortest next hops are not placed yet, in free mode
--- one until a neighbour is placed
-pub record Kept (n : Network) (ds : List ℕ) (m : Mode) (placed : List ℕ) (s : State) : Type 0 where
-  pub placed-long : length (s .placed) ≡ 64
-  pub near-long : length (s .near) ≡ 64
-  pub left-long : length (s .left) ≡ 64
-  pub placed-is : (u : ℕ) → u < size n → getD (s .placed) u false ≡ member u placed
-  pub near-is : (u : ℕ) → u < size n → getD (s .near) u 0 ≡ placedNeighbours n placed u
-  pub near-past : (u : ℕ) → size n ≤ u → u < 64 → getD (s .near) u 0 ≡ 0
-  pub left-is : m ≡ mode.ShortestPath → (u : ℕ) → u < size n →
-      getD (s .left) u 0 ≡ length (keep (λ a. not (leadsInto placed a)) (shortestNextHops n ds u))
-  pub left-free : m ≡ mode.Free → (u : ℕ) → u < size n → getD (s .left) u 0 ≡ cond (eqb (placedNeighbours n placed u) 0) 1 0
+-- the standings are right for the routers that are placed; `lower` is what ties are decided by
+pub record Kept (n : Network) (ds : List ℕ) (m : Mode) (lower placed keys : List ℕ) : Type 0 where
+  pub long : length keys ≡ 64
+  pub unplaced : (u : ℕ) → u < size n → (List·Memᴰ u placed → ⊥) →
+      getD keys u 0 + waitsFor m (waiting n ds placed u) * 1088 ≡ 17408 + placedNeighbours n placed u * 64 + getD lower u 0
+  pub low : (u : ℕ) → u < size n → List·Memᴰ u placed → getD keys u 0 ≤ placedNeighbours n placed u * 64
+  pub done : (u : ℕ) → u < size n → List·Memᴰ u placed → waitsFor m (waiting n ds placed u) ≡ 0
+  pub past : (u : ℕ) → size n ≤ u → u < 64 → getD keys u 0 ≡ 0
 
--- in free mode a router waits for one neighbour until one is placed
-until-first : (i j : ℕ) → _≡_ {A = ℕ} (cond (eqb j 0) (cond (eqb i 0) 1 0) 0) (cond (eqb (i + j) 0) 1 0)
-until-first i j = cases (ℕ-discrete j 0)
-  where
-    cases : Dec (j ≡ 0) → _≡_ {A = ℕ} (cond (eqb j 0) (cond (eqb i 0) 1 0) 0) (cond (eqb (i + j) 0) 1 0)
-    cases (yes e) = let same : i + j ≡ i = omega arith in rw (same, e)
-    cases (no apart) = rw (ne-eqb j 0 apart, ne-eqb (i + j) 0 (λ e. apart (omega arith)))
+-- a router is placed or not
+pub placed-or : {C : Type 0} (u : ℕ) (placed : List ℕ) → (List·Memᴰ u placed → C) → ((List·Memᴰ u placed → ⊥) → C) → C
+placed-or u placed there not = ⊎-elim (λ t. there (member-mem u placed t)) (λ f. not (λ l. f (mem-member u placed l))) (truth (member u placed))
 
-no-more : (i : ℕ) → eqb (cond (eqb i 0) 1 0) 0 ≡ ltb 0 i
-no-more i = cases (ℕ-discrete i 0)
-  where
-    cases : Dec (i ≡ 0) → eqb (cond (eqb i 0) 1 0) 0 ≡ ltb 0 i
-    cases (yes e) = rw e
-    cases (no apart) = rw (ne-eqb i 0 apart, lt-ltb 0 i (omega arith))
-
-module _ {n : Network} {a : Arcs} (g : Setting n a) {ds slots : List ℕ} {m : Mode} (by : GoneBy n ds m slots) where
-  pub kept-start : {left : List ℕ} → Waits (a .count) (a .to) (a .cost) (size n) slots m left → Kept n ds m [] (state (replicate 64 false) (replicate 64 0) left)
+module _ {n : Network} {a : Arcs} (g : Setting n a) {ds slots : List ℕ} {m : Mode} (by : GoneBy n ds m slots) {lower : List ℕ} where
+  pub kept-start : {keys : List ℕ} → Standing (a .count) (a .to) (a .cost) slots lower m (size n) keys → Kept n ds m lower [] keys
   unfolding placedNeighbours leadsInto member any
-  kept-start {left} w =
-      let most = g .most in
-      let none-near : (u : ℕ) → placedNeighbours n [] u ≡ 0 = λ u. none-kept _ (arcsOf n u) (λ (b, k, t). t) in
+  kept-start w =
       record {
-        placed-long = length-replicate 64 false;
-        near-long = length-replicate {A = ℕ} 64 0;
-        left-long = w .long;
-        placed-is = λ u h. getD-replicate 64 u false false (omega arith);
-        near-is = λ u h. getD-replicate 64 u 0 0 (omega arith) ∙ sym (none-near u);
-        near-past = λ u past h. getD-replicate 64 u 0 0 h;
-        left-is = λ e u h. w .each e u h ∙ sym (waiting-first g ds slots (by .shortest e) u h);
-        left-free = λ e u h. rw (w .one e, none-near u) (getD-replicate 64 u 1 0 (omega arith));
+        long = w .long;
+        unplaced = λ u h _.
+            let none-near : placedNeighbours n [] u ≡ 0 = none-kept _ (arcsOf n u) (λ (b, k, t). t) in
+            omega (arith, w .each u h, first u h m refl, none-near);
+        low = λ u h l. absurd (List·Memᴰ·not-nil l);
+        done = λ u h l. absurd (List·Memᴰ·not-nil l);
+        past = w .past;
       }
+    where
+      first : (u : ℕ) → u < size n → (w : Mode) → m ≡ w →
+          waitsFor m (waiting n ds [] u) ≡ waitsFor m (length (keep (slotShort (a .to) (a .cost) slots u) (below (getD (a .count) u 0))))
+      first u h mode.ShortestPath e = ap (waitsFor m) (waiting-first g ds slots (by .shortest e) u h)
+      first u h mode.Free e = unfold waitsFor in rw e
 
-  module _ {placed : List ℕ} {s : State} (k : Kept n ds m placed s) (p : ℕ) (p-in : p < size n) (out : List·Memᴰ p placed → ⊥) where
-    set-there : (u : ℕ) → u < size n → getD (set (s .placed) p true) u false ≡ member u (placed ++ (p ∷ []))
-    set-there u h = rw member-snoc (at-once (ℕ-discrete u p))
+  module _ {placed keys : List ℕ} (k : Kept n ds m lower placed keys) (p : ℕ) (p-in : p < size n) (out : List·Memᴰ p placed → ⊥)
+      (ready : waitsFor m (waiting n ds placed p) ≡ 0) where
+    abbrev too : List ℕ
+    too = placed ++ (p ∷ [])
+
+    abbrev next : ℕ → ℕ
+    next = after (set keys p 0) (a .to) (a .cost) slots m p (getD (a .count) p 0)
+
+    -- v waits for as many less as it is served
+    waits-step : (v : ℕ) → v < size n →
+        waitsFor m (waiting n ds placed v) ≡ waitsFor m (waiting n ds too v) + waitsFor m (serving (a .to) (a .cost) slots p (getD (a .count) p 0) v)
+    waits-step v h = by-mode m refl
       where
-        at-once : Dec (u ≡ p) → getD (set (s .placed) p true) u false ≡ (member u placed || eqb u p)
-        at-once (yes e) =
-            rw (eq-eqb u p e, or-true)
-            (ap (λ (w : ℕ). getD (set (s .placed) p true) w false) e
-            ∙ getD-set-same (s .placed) p true false (omega (arith, k .placed-long, g .most)))
-        at-once (no apart) = rw (ne-eqb u p apart, or-false) (getD-set-other (s .placed) p u true false apart ∙ k .placed-is u h)
+        by-mode : (w : Mode) → m ≡ w →
+            waitsFor m (waiting n ds placed v) ≡ waitsFor m (waiting n ds too v) + waitsFor m (serving (a .to) (a .cost) slots p (getD (a .count) p 0) v)
+        by-mode mode.ShortestPath e = unfold waitsFor in rw e (waiting-step g placed p p-in out ds slots (by .shortest e) v h)
+        by-mode mode.Free e = unfold waitsFor in rw e
 
-    pub kept-step : {r : State} → Stepped s (a .to) (a .cost) slots m p (getD (a .count) p 0) r → Kept n ds m (placed ++ (p ∷ [])) r
+    next-unplaced : (v : ℕ) → v < size n → (List·Memᴰ v placed → ⊥) → v ≢ p →
+        next v + waitsFor m (waiting n ds too v) * 1088 ≡ 17408 + placedNeighbours n too v * 64 + getD lower v 0
+    unfolding after
+    next-unplaced v h free apart =
+        omega (arith, k .unplaced v h free, waits-step v h, neighbours-step g placed p p-in out v h, getD-set-other keys p v 0 0 apart)
+
+    next-placed : (v : ℕ) → v < size n → List·Memᴰ v placed → next v ≤ placedNeighbours n too v * 64
+    unfolding after
+    next-placed v h l =
+        omega (
+          arith,
+          k .low v h l,
+          k .done v h l,
+          waits-step v h,
+          neighbours-step g placed p p-in out v h,
+          getD-set-other keys p v 0 0 (λ e. out (subst (λ (w : ℕ). List·Memᴰ w placed) e l)),
+        )
+
+    next-here : next p ≤ placedNeighbours n too p * 64
+    unfolding after
+    next-here =
+        omega (
+          arith,
+          ready,
+          waits-step p p-in,
+          neighbours-step g placed p p-in out p p-in,
+          getD-set-same keys p 0 0 (omega (arith, k .long, g .most)),
+        )
+
+    next-past : (v : ℕ) → size n ≤ v → v < 64 → next v ≡ 0
+    unfolding after waitsFor
+    next-past v past h = by-mode m
+      where
+        by-mode : (w : Mode) → after (set keys p 0) (a .to) (a .cost) slots w p (getD (a .count) p 0) v ≡ 0
+        by-mode mode.ShortestPath =
+            omega (
+              arith,
+              k .past v past h,
+              leading-past g p v p-in past,
+              serving-past g slots p v p-in past,
+              getD-set-other keys p v 0 0 (λ e. omega arith),
+            )
+        by-mode mode.Free = omega (arith, k .past v past h, leading-past g p v p-in past, getD-set-other keys p v 0 0 (λ e. omega arith))
+
+    -- each router of the network is p, or placed before, or not placed
+    each : {C : ℕ → Type 0} → C p → ((v : ℕ) → v < size n → List·Memᴰ v placed → C v) →
+        ((v : ℕ) → v < size n → (List·Memᴰ v placed → ⊥) → v ≢ p → C v) → (v : ℕ) → v < size n → C v
+    each {C} here old new v h = cases (ℕ-discrete v p)
+      where
+        cases : Dec (v ≡ p) → C v
+        cases (yes e) = rw e here
+        cases (no apart) = placed-or v placed (old v h) (λ free. new v h free apart)
+
+    pub kept-room : ((v : ℕ) → v < size n → getD lower v 0 < 64) → Room (set keys p 0) (a .to) (a .cost) slots m p (getD (a .count) p 0)
+    kept-room small = record { long = length-set keys p 0 ∙ k .long; most = λ v h. bound v h (decLt v (size n)) }
+      where
+        few : (v : ℕ) → v < size n → placedNeighbours n too v ≤ 16
+        few v l = omega (arith, neighbours-most n too v, g .few v l)
+
+        bound : (v : ℕ) → v < 64 → Dec (v < size n) → next v ≤ 65535
+        bound v h (yes l) =
+            each {C = λ v. next v ≤ 65535} (omega (arith, next-here, few p p-in)) (λ w i o. omega (arith, next-placed w i o, few w i))
+            (λ w i o apart. omega (arith, next-unplaced w i o apart, few w i, small w i)) v l
+        bound v h (no past) = omega (arith, next-past v (omega arith) h)
+
+    -- what is placed then is p, or was placed before
+    either : {C : ℕ → Type 0} → C p → ((v : ℕ) → v < size n → List·Memᴰ v placed → C v) → (v : ℕ) → v < size n → List·Memᴰ v too → C v
+    either {C} here old v h l =
+        ⊎-elim (old v h) (λ o. ⊎-elim (λ e. rw e here) (λ o′. absurd (List·Memᴰ·not-nil o′)) (List·Memᴰ·cases-cons o)) (List·Memᴰ·append-cases placed l)
+
+    pub kept-step : {r : List ℕ} → Stepped (set keys p 0) (a .to) (a .cost) slots m p (getD (a .count) p 0) r → Kept n ds m lower too r
     kept-step {r} st =
         let most = g .most in
         record {
-          placed-long = ap length (st .placed-there) ∙ length-set (s .placed) p true ∙ k .placed-long;
-          near-long = st .near-long;
-          left-long = st .left-long;
-          placed-is = λ u h. rw (st .placed-there) (set-there u h);
-          near-is = λ u h.
-              omega (arith, st .near-more u (omega arith), k .near-is u h, neighbours-step g placed p p-in out u h);
-          near-past = λ u past h.
-              omega (arith, st .near-more u h, k .near-past u past h, leading-past g p u p-in past);
-          left-is = λ e u h.
-              omega (arith, st .left-less e u (omega arith), k .left-is e u h, waiting-step g placed p p-in out ds slots (by .shortest e) u h);
-          left-free = λ e u h.
-              st .left-free e u (omega arith)
-              ∙ rw (k .left-free e u h, neighbours-step g placed p p-in out u h)
-              (until-first (placedNeighbours n placed u) (leading (a .to) p (getD (a .count) p 0) u));
+          long = st .long;
+          unplaced = λ v h free.
+              rw (st .each v (omega arith)) (next-unplaced v h (λ l. free (Memᴰ·append-left (p ∷ []) l)) (λ e. free (Memᴰ·append-right placed (List·Memᴰ·head e))));
+          low = λ v h l.
+              rw (st .each v (omega arith)) (either {C = λ v. next v ≤ placedNeighbours n too v * 64} next-here next-placed v h l);
+          done =
+              either {C = λ v. waitsFor m (waiting n ds too v) ≡ 0} (omega (arith, ready, waits-step p p-in))
+              (λ v h l. omega (arith, k .done v h l, waits-step v h));
+          past = λ v past h. rw (st .each v h) (next-past v past h);
         }
-
-    pub kept-room : Room (s .near) (s .left) (a .to) (a .cost) slots m p (getD (a .count) p 0)
-    kept-room = record {
-      near-long = k .near-long;
-      left-long = k .left-long;
-      near-most = λ v h. near v h (decLt v (size n));
-      left-least = λ e v h. left e v h (decLt v (size n));
-    }
-      where
-        near : (v : ℕ) → v < 64 → Dec (v < size n) → getD (s .near) v 0 ≤ 64
-        near v h (yes l) = omega (arith, k .near-is v l, neighbours-most n placed v, g .few v l)
-        near v h (no past) = omega (arith, k .near-past v (omega arith) h)
-
-        left : m ≡ mode.ShortestPath → (v : ℕ) → v < 64 → Dec (v < size n) →
-            serving (a .to) (a .cost) slots p (getD (a .count) p 0) v ≤ getD (s .left) v 0
-        left e v h (yes l) = omega (arith, k .left-is e v l, waiting-step g placed p p-in out ds slots (by .shortest e) v l)
-        left e v h (no past) = omega (arith, serving-past g slots p v p-in (omega arith))
-
-module _ {n : Network} {ds : List ℕ} {m : Mode} {placed : List ℕ} {s : State} (k : Kept n ds m placed s)
-    (all : (u : ℕ) → u < size n → T (reached n ds u)) where
-  pub ready-is : (u : ℕ) → u < size n → readyIn s u ≡ candidate n ds (modeOf m) placed u
-  unfolding readyIn candidate ready modeOf placedNeighbours
-  ready-is u h = by-mode m refl
-    where
-      by-mode : (w : Mode) → m ≡ w → readyIn s u ≡ candidate n ds (modeOf w) placed u
-      by-mode mode.ShortestPath e =
-          rw (k .placed-is u h, k .left-is e u h, every-kept (leadsInto placed) (shortestNextHops n ds u), as-true (reached n ds u) (all u h))
-      by-mode mode.Free e =
-          rw (k .placed-is u h, k .left-free e u h, no-more, any-kept (leadsInto placed) (arcsOf n u), as-true (reached n ds u) (all u h))
-
-  pub chosen-is : (ids : List ℕ) → ((u : ℕ) → u < size n → idOf n u ≡ getD ids u 0) →
-      chosen s ids (size n) ≡ placeOr (size n) (select n ds (modeOf m) placed)
-  unfolding chosen select betterIn preferred
-  chosen-is ids ids-are = ap (placeOr (size n)) (ap (foremost (betterIn s ids)) same-ready ∙ foremost-same _ _ candidates better)
-    where
-      candidates : List ℕ
-      candidates = keep (candidate n ds (modeOf m) placed) (below (size n))
-
-      same-ready : keep (readyIn s) (below (size n)) ≡ candidates
-      same-ready = keep-same _ _ (below (size n)) (λ u l. ready-is u (below-lt (size n) l))
-
-      place : {u : ℕ} → List·Memᴰ u candidates → u < size n
-      place l = below-lt (size n) (mem-keep _ (below (size n)) l .0)
-
-      better : (u v : ℕ) → List·Memᴰ u candidates → List·Memᴰ v candidates → betterIn s ids u v ≡ preferred n placed u v
-      better u v l l′ = rw (k .near-is u (place l), k .near-is v (place l′), ids-are u (place l), ids-are v (place l′))

@@ -1,7 +1,4 @@
 pub mod Runs
-pub mod Slots
-pub mod Rounds
-pub mod Symmetry
 pub mod Keeping
 pub mod Setting
 pub mod Counting
@@ -9,15 +6,17 @@ pub mod Kept
 pub mod Decided
 pub mod First
 pub mod Counts
-pub mod Stored
 pub mod Marked
-pub mod Chosen
 pub mod Stepping
+pub mod Heights
+pub mod Ties
+pub mod Chosen
 pub mod Ranges
 pub mod Reached
 pub mod Entries
 pub mod Turn
 pub mod Building
+pub mod Lending
 pub mod Checking
 pub mod Answers
 pub mod Orders

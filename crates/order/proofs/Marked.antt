@@ -11,7 +11,7 @@ use lib.ListN.{length, getD, set}
 use Rattle.network.specs.Lists.{member, any}
 use Rattle.network.proofs.Lists.{mem-member}
 use Rattle.network.proofs.Tests.{as-true}
-use Rattle.order.proofs.Stored.{stored}
+use Rattle.distances.proofs.Stored.{stored}
 
 pub member-last : (u : ℕ) (xs : List ℕ) → member u (xs ++ (u ∷ [])) ≡ true
 member-last u xs = as-true (member u (xs ++ (u ∷ []))) (mem-member u (xs ++ (u ∷ [])) (Memᴰ·append-right xs (List·Memᴰ·head refl)))

@@ -1,15 +1,15 @@
 -- Numbers one after the other, as a loop goes through them: counting down, a turn adds the number before those that it has passed, and counting up
--- the slot after them. And what functions that agree make of a list.
+-- the slot after them.
 -- Assumes nothing.
 use Prim.Native.Nat.{ℕ, suc, _+_, _-_, _≤_, _<_}
-use mathlib.Core.List.{List, [], _∷_, _++_, List·Memᴰ, List·Memᴰ·head, List·Memᴰ·tail, map, map-append}
-use mathlib.Core.Path.{_≡_, refl, ap}
+use mathlib.Core.List.{List, [], _∷_, _++_, map, map-append}
+use mathlib.Core.Path.{_≡_, ap}
 use native.Mathlib.Nat.{sub-self, sub-zero}
 use native.Mathlib.Numerals.{add-one}
 use native.Mathlib.Omega.{arith}
 use lib.ListN.{length, getD, drop, set}
 use lib.Seq.{append-snoc, drop-cons, set-at}
-use Rattle.network.specs.Lists.{numbersFrom, below, leastBy}
+use Rattle.network.specs.Lists.{numbersFrom, below}
 use Rattle.network.proofs.Below.{length-map-below}
 use Rattle.arcs.proofs.Slots.{below-more}
 pub use Rattle.arcs.proofs.Slots.{map-same}
@@ -36,13 +36,3 @@ pub fill-more : {A : Type 0} (g : ℕ → A) (z : A) (old : List A) (u : ℕ) �
 fill-more g z old u h =
     rw (below-more, map-append, append-snoc, add-one, drop-cons old u z)
     (set-at (map g (below u)) (getD old u z) (drop (suc u) old) (g u) u (length-map-below g u))
-
--- two functions that agree on a list have the same least number over it
-pub least-same : {A B : Type 0} (f : A → ℕ) (g : B → ℕ) (h : A → B) (s t : ℕ) (xs : List A) → s ≡ t →
-    ((x : A) → List·Memᴰ x xs → f x ≡ g (h x)) → leastBy f s xs ≡ leastBy g t (map h xs)
-unfolding leastBy
-least-same f g h s t [] start each = start
-least-same f g h s t (x ∷ xs) start each =
-    let here = each x (List·Memᴰ·head refl) in
-    let rest = least-same f g h s t xs start (λ y m. each y (List·Memᴰ·tail m)) in
-    cc

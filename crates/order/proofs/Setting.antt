@@ -19,9 +19,9 @@ use Rattle.arcs.specs.declared.Arcs.{Arcs}
 use Rattle.arcs.specs.Arcs.{Holds}
 use Rattle.order.specs.declared.Mode.{Mode}
 use Rattle.order.specs.declared.Mode.the-variants as mode
-use Rattle.order.specs.Proposed.{Settled}
-use Rattle.order.proofs.Rounds.{getD-within}
-use Rattle.order.proofs.Symmetry.{BothWays, topology-back}
+use Rattle.distances.specs.Settled.{Settled}
+use Rattle.distances.proofs.Ended.{getD-within}
+use Rattle.distances.proofs.Symmetry.{BothWays, topology-back}
 
 -- a network, well formed and within the limits, and its arcs in slots
 pub record Setting (n : Network) (a : Arcs) : Type 0 where

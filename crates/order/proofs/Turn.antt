@@ -1,14 +1,17 @@
--- What the functions that place routers share: the slots that they go through are sound, and the counters stay right from turn to turn.
+-- What the functions that place routers share: the slots that they go through are sound, and the standings stay right from turn to turn.
 -- Assumes nothing.
-use Prim.Native.Nat.{ℕ, _<_}
-use mathlib.Core.Bool.{false}
+use Prim.Native.Nat.{ℕ, _%_, _<_}
+use mathlib.Core.Bool.{not}
 use mathlib.Core.List.{List, [], _∷_, _++_, List·Memᴰ, List·Memᴰ·not-nil}
+use mathlib.Core.Option.{some}
 use mathlib.Core.Path.{_≡_}
 use native.Mathlib.Omega.{arith}
-use lib.ListN.{getD, replicate, length-replicate, getD-replicate}
+use lib.Dec.{T, leb}
+use lib.ListN.{getD, set, replicate, length-replicate, getD-replicate}
 use Rattle.network.specs.Network.{Network, size}
-use Rattle.network.specs.Distance.{distances}
-use Rattle.network.specs.Order.{candidate, select}
+use Rattle.network.specs.Distance.{PathTo, distances}
+use Rattle.network.specs.Order.{shortestNextHops, leadsInto, candidate, select}
+use Rattle.network.proofs.NextHop.{zero-at-d, next-nearer}
 use Rattle.stations.specs.declared.Topology.{Topology}
 use Rattle.stations.specs.Topology.{networkOf}
 use Rattle.soundness.specs.Theorems.{SoundNetwork}
@@ -16,12 +19,19 @@ use Rattle.arcs.specs.declared.Arcs.{Arcs}
 use Rattle.order.specs.declared.Mode.{Mode}
 use Rattle.order.specs.declared.Mode.the-variants as mode
 use Rattle.order.specs.Calls.{modeOf}
-use Rattle.order.specs.Proposed.{Settled, DistancesFor, LaidOut}
-use Rattle.order.specs.Inner.{Slots, AllSlots, Waits, State, state, readyIn, chosen, placeOr, Room, Stepped}
+use Rattle.distances.specs.Settled.{Settled}
+use Rattle.order.specs.Proposed.{DistancesFor, LaidOut}
+use Rattle.distances.specs.Slots.{Slots, AllSlots}
+use Rattle.order.specs.Inner.{waitsFor, Lower, Standing, Highest, Room, Stepped}
 use Rattle.soundness.proofs.Sound.{sound-exact, sound-networks}
-use Rattle.order.proofs.Slots.{sound-held, all-slots}
-use Rattle.order.proofs.Setting.{Setting, GoneBy, settled-agrees, topology-setting, topology-reached, topology-ids}
-use Rattle.order.proofs.Kept.{Kept, kept-start, kept-room, kept-step, ready-is, chosen-is}
+use Rattle.distances.proofs.Slots.{sound-held, all-slots}
+use Rattle.order.proofs.Keeping.{none-kept}
+use Rattle.order.proofs.Counting.{waiting}
+use Rattle.order.proofs.Setting.{Setting, GoneBy, settled-agrees, topology-setting, topology-ids}
+use Rattle.order.proofs.Stepping.{waits-most}
+use Rattle.order.proofs.Kept.{Kept, kept-start, kept-room, kept-step}
+use Rattle.order.proofs.Ties.{lower-less}
+use Rattle.order.proofs.Chosen.{to-ready, candidate-stands, keys-low, highest-selected}
 
 -- distances that are settled serve in either mode, and in free mode zeros do
 pub settled-serve : {n : Network} {d : ℕ} {ds : List ℕ} (m : Mode) → Settled n d ds → DistancesFor n d m ds
@@ -57,32 +67,72 @@ module _ {t : Topology} {a : Arcs} {d : ℕ} {m : Mode} {ds : List ℕ} (g : Lai
       let f = g .for-mode in
       record { shortest = λ e. settled-agrees (setting .most) (record { first = f .first e; long = f .long; near = f .near }) }
 
-  -- the counters are right for the routers that are placed
-  abbrev pub Right : List ℕ → State → Type 0
-  Right placed s = Kept (networkOf t) (distances (networkOf t) d) m placed s
+  -- the standings are right for the routers that are placed
+  abbrev pub Right : List ℕ → List ℕ → List ℕ → Type 0
+  Right lower placed keys = Kept (networkOf t) (distances (networkOf t) d) m lower placed keys
 
-  pub begun : {left : List ℕ} → Waits (a .count) (a .to) (a .cost) (t .routers) ds m left → Right [] (state (replicate 64 false) (replicate 64 0) left)
+  pub begun : {lower keys : List ℕ} → Standing (a .count) (a .to) (a .cost) ds lower m (t .routers) keys → Right lower [] keys
   begun h = kept-start setting by (rw (facts .routers) h)
 
-  module _ {s : State} {placed : List ℕ} (kept : Right placed s) where
-    pub chosen-one : chosen s (t .id) (t .routers) ≡ placeOr (t .routers) (select (networkOf t) (distances (networkOf t) d) (modeOf m) placed)
-    chosen-one = rw (facts .routers) at (chosen-is kept (topology-reached facts d (g .place)) (t .id) (topology-ids facts))
+  -- the destination waits for none
+  pub first-waits : waitsFor m (waiting (networkOf t) (distances (networkOf t) d) [] d) ≡ 0
+  first-waits =
+      let formed = facts .well-formed in
+      let d-in = inside (g .place) in
+      omega (
+        arith,
+        waits-most m (waiting (networkOf t) (distances (networkOf t) d) [] d),
+        none-kept (λ b. not (leadsInto [] b)) (shortestNextHops (networkOf t) (distances (networkOf t) d) d)
+            (λ (b, l, _). omega (arith, next-nearer (networkOf t) formed d d-in d l, zero-at-d (networkOf t) formed d d-in)),
+      )
 
-    module _ {u : ℕ} (h : u < t .routers) where
-      pub is-candidate : readyIn s u ≡ candidate (networkOf t) (distances (networkOf t) d) (modeOf m) placed u
-      is-candidate = ready-is kept (topology-reached facts d (g .place)) u (inside h)
+  -- where ties are not decided, zeros stand for them
+  pub zeros-small : (u : ℕ) → u < t .routers → getD (replicate 64 0) u 0 < 64
+  zeros-small u h = omega (arith, getD-replicate {A = ℕ} 64 u 0 0 (omega (arith, every-slot .most)))
 
-      module _ (out : List·Memᴰ u placed → ⊥) where
-        pub room : Room (s .near) (s .left) (a .to) (a .cost) ds m u (getD (a .count) u 0)
-        room = kept-room setting by kept u (inside h) out
+  module _ {lower : List ℕ} (small : (u : ℕ) → u < t .routers → getD lower u 0 < 64) {placed keys : List ℕ} (kept : Right lower placed keys) where
+    small-in : (u : ℕ) → u < size (networkOf t) → getD lower u 0 < 64
+    small-in u h = small u (omega (arith, facts .routers))
 
-        pub placed-too : {r : State} → Stepped s (a .to) (a .cost) ds m u (getD (a .count) u 0) r → Right (placed ++ (u ∷ [])) r
-        placed-too step = kept-step setting by kept u (inside h) out step
+    paths : (u : ℕ) → u < size (networkOf t) → PathTo (networkOf t) d u
+    paths u h = facts .paths d u (g .place) (omega (arith, facts .routers))
+
+    pub candidate-waits : (u : ℕ) → T (candidate (networkOf t) (distances (networkOf t) d) (modeOf m) placed u) →
+        waitsFor m (waiting (networkOf t) (distances (networkOf t) d) placed u) ≡ 0
+    candidate-waits u c = to-ready (facts .well-formed) (inside (g .place)) paths (setting .few) small-in kept u c .waits
+
+    pub is-candidate : List·Memᴰ d placed → {u : ℕ} → u < t .routers →
+        leb 17472 (getD keys u 0) ≡ candidate (networkOf t) (distances (networkOf t) d) (modeOf m) placed u
+    is-candidate first h = candidate-stands (facts .well-formed) (inside (g .place)) paths (setting .few) small-in kept first _ (inside h)
+
+    pub standings-low : (u : ℕ) → u < t .routers → getD keys u 0 < 32768
+    standings-low u h = keys-low (facts .well-formed) (inside (g .place)) paths (setting .few) small-in kept u (inside h)
+
+    -- ties are decided as by the IDs, so the one that is selected stands highest
+    pub top-selected : Lower (t .id) (t .routers) lower → {w best : ℕ} →
+        select (networkOf t) (distances (networkOf t) d) (modeOf m) placed ≡ some w → Highest keys (t .routers) best → best % 64 ≡ getD lower w 0
+    top-selected l e top =
+        highest-selected (facts .well-formed) (inside (g .place)) paths (setting .few) small-in kept
+        (λ u v h k less.
+        lower-less l u v (omega (arith, facts .routers)) (omega (arith, facts .routers)) (rw (topology-ids facts u h, topology-ids facts v k) at less)) e
+        (rw (facts .routers) top)
+
+    module _ {u : ℕ} (h : u < t .routers) (out : List·Memᴰ u placed → ⊥)
+        (ready : waitsFor m (waiting (networkOf t) (distances (networkOf t) d) placed u) ≡ 0) where
+      pub room : Room (set keys u 0) (a .to) (a .cost) ds m u (getD (a .count) u 0)
+      room = kept-room setting by kept u (inside h) out ready small-in
+
+      pub placed-too : {r : List ℕ} → Stepped (set keys u 0) (a .to) (a .cost) ds m u (getD (a .count) u 0) r → Right lower (placed ++ (u ∷ [])) r
+      placed-too step = kept-step setting by kept u (inside h) out ready step
 
   -- where d is counted in, the first of all
   pub first-slots : Slots (a .to) (a .cost) ds d (getD (a .count) d 0)
   first-slots = slots (g .place)
 
-  pub first-room : {left : List ℕ} → Waits (a .count) (a .to) (a .cost) (t .routers) ds m left →
-      Room (replicate 64 0) left (a .to) (a .cost) ds m d (getD (a .count) d 0)
-  first-room w = room (begun w) (g .place) List·Memᴰ·not-nil
+  module _ {lower keys : List ℕ} (small : (u : ℕ) → u < t .routers → getD lower u 0 < 64)
+      (start : Standing (a .count) (a .to) (a .cost) ds lower m (t .routers) keys) where
+    pub first-room : Room (set keys d 0) (a .to) (a .cost) ds m d (getD (a .count) d 0)
+    first-room = room small (begun start) (g .place) List·Memᴰ·not-nil first-waits
+
+    pub first-placed : {r : List ℕ} → Stepped (set keys d 0) (a .to) (a .cost) ds m d (getD (a .count) d 0) r → Right lower (d ∷ []) r
+    first-placed step = placed-too small (begun start) (g .place) List·Memᴰ·not-nil first-waits step

@@ -1,85 +1,58 @@
 -- What the private functions ask of the slots that they go through, and what they make of them; only they rest on it, no open contract does.
 -- Router u has the slots from u * mostNeighbours on.
 -- Assumes nothing.
-use Prim.Native.Nat.{ℕ, _+_, _-_, _*_, _≤_, _<_}
-use mathlib.Core.Bool.{Bool, false, true, cond, not, _&&_}
-use mathlib.Core.List.{List, map}
-use mathlib.Core.Option.{Option, none, some}
+use Prim.Native.Nat.{ℕ, _+_, _*_, _≤_, _<_}
+use mathlib.Core.Bool.{Bool, cond, _&&_}
+use mathlib.Core.List.{List}
 use mathlib.Core.Path.{_≡_}
-use lib.Dec.{eqb}
-use lib.ListN.{length, getD, set, replicate}
-use Rattle.network.specs.Lists.{below, keep, leastBy, foremost, wins}
+use lib.Dec.{eqb, ltb}
+use lib.ListN.{length, getD}
+use Rattle.network.specs.Lists.{below, keep}
 use Rattle.stations.specs.Limits.{mostRouters, mostNeighbours}
 use Rattle.order.specs.declared.Mode.{Mode}
 use Rattle.order.specs.declared.Mode.the-variants as mode
-use Rattle.order.specs.Proposed.{farthest}
-
--- the place that slot j of u leads to
-unfoldable pub slotTo : List ℕ → ℕ → ℕ → ℕ
-slotTo to u j = getD to (u * mostNeighbours + j) 0
-
--- what going along slot j of u costs in all
-unfoldable pub slotCost : List ℕ → List ℕ → List ℕ → ℕ → ℕ → ℕ
-slotCost to cost ds u j = getD cost (u * mostNeighbours + j) 0 + getD ds (slotTo to u j) 0
+use Rattle.distances.specs.Slots.{slotTo, slotCost}
 
 -- slot j of u leads to a shortest next hop
 unfoldable pub slotShort : List ℕ → List ℕ → List ℕ → ℕ → ℕ → Bool
 slotShort to cost ds u j = eqb (slotCost to cost ds u j) (getD ds u 0)
 
--- slots that lead to places, at costs up to 65535, network's `greatestCost`, with sums that fit 32 bits
-pub record Slots (to cost ds : List ℕ) (u count : ℕ) : Type 0 where
-  pub place : u < mostRouters
-  pub few : count ≤ mostNeighbours
-  pub leads : (j : ℕ) → j < count → slotTo to u j < mostRouters
-  pub cheap : (j : ℕ) → j < count → getD cost (u * mostNeighbours + j) 0 ≤ 65535
-  pub near : (v : ℕ) → v < mostRouters → getD ds v 0 ≤ farthest
+-- what a mode makes of the shortest next hops that are not placed: in free mode none is waited for
+unfoldable pub waitsFor : Mode → ℕ → ℕ
+waitsFor mode.ShortestPath count = count
+waitsFor mode.Free count = 0
 
--- the same of the first n routers
-pub record AllSlots (counts to cost : List ℕ) (n : ℕ) (ds : List ℕ) : Type 0 where
+-- for each of the first n places how many of the first n IDs are lower than its own
+pub record Lower (ids : List ℕ) (n : ℕ) (lower : List ℕ) : Type 0 where
+  pub long : length lower ≡ mostRouters
+  pub each : (u : ℕ) → u < n → getD lower u 0 ≡ length (keep (λ v. ltb (getD ids v 0) (getD ids u 0)) (below n))
+
+-- numbers below 64, each of one place
+pub record Apart (lower : List ℕ) (n : ℕ) : Type 0 where
   pub most : n ≤ mostRouters
-  pub long : length ds ≡ mostRouters
-  pub each : (u : ℕ) → u < n → Slots to cost ds u (getD counts u 0)
+  pub small : (u : ℕ) → u < n → getD lower u 0 < 64
+  pub differ : (u v : ℕ) → u < n → v < n → getD lower u 0 ≡ getD lower v 0 → u ≡ v
 
--- one round over the slots
-unfoldable pub roundIn : List ℕ → List ℕ → List ℕ → ℕ → List ℕ → List ℕ
-roundIn counts to cost n ds = map (λ u. leastBy (slotCost to cost ds u) (getD ds u 0) (below (getD counts u 0))) (below n)
+-- the place of each such number
+pub record Inverse (lower : List ℕ) (n : ℕ) (places : List ℕ) : Type 0 where
+  pub long : length places ≡ mostRouters
+  pub each : (u : ℕ) → u < n → getD places (getD lower u 0) 0 ≡ u
 
--- what each router waits for before any is placed: in shortest-path mode for as many as it has shortest next hops, in free mode for one neighbour
-pub record Waits (counts to cost : List ℕ) (n : ℕ) (ds : List ℕ) (m : Mode) (left : List ℕ) : Type 0 where
-  pub long : length left ≡ mostRouters
-  pub each : m ≡ mode.ShortestPath → (u : ℕ) → u < n →
-      getD left u 0 ≡ length (keep (slotShort to cost ds u) (below (getD counts u 0)))
-  pub one : m ≡ mode.Free → left ≡ replicate mostRouters 1
+-- the standings before any router is placed
+pub record Standing (counts to cost ds lower : List ℕ) (m : Mode) (n : ℕ) (keys : List ℕ) : Type 0 where
+  pub long : length keys ≡ mostRouters
+  pub each : (u : ℕ) → u < n →
+      getD keys u 0 + waitsFor m (length (keep (slotShort to cost ds u) (below (getD counts u 0)))) * 1088 ≡ 17408 + getD lower u 0
+  pub past : (u : ℕ) → n ≤ u → u < mostRouters → getD keys u 0 ≡ 0
 
--- the counters, by place: whether it is placed, how many neighbours are placed, and how many routers it waits for
-pub record State : Type 0 where
-  pub placed : List Bool
-  pub near : List ℕ
-  pub left : List ℕ
+-- the highest of the first n standings
+pub record Highest (keys : List ℕ) (n best : ℕ) : Type 0 where
+  pub one : (u : ℕ) × (u < n) × (getD keys u 0 ≡ best)
+  pub most : (u : ℕ) → u < n → getD keys u 0 ≤ best
 
-abbrev pub state : List Bool → List ℕ → List ℕ → State
-state placed near left = record { placed = placed; near = near; left = left }
-
--- u is an unplaced candidate, by the counters: it waits for nothing more
-unfoldable pub readyIn : State → ℕ → Bool
-readyIn s u = not (getD (s .placed) u false) && eqb (getD (s .left) u 0) 0
-
--- u is taken rather than v: more placed neighbours, or as many and the higher ID
-unfoldable pub betterIn : State → List ℕ → ℕ → ℕ → Bool
-betterIn s ids u v = wins (getD (s .near) v 0) (getD (s .near) u 0) (getD ids u 0) (getD ids v 0)
-
-unfoldable pub placeOr : ℕ → Option ℕ → ℕ
-placeOr n none = n
-placeOr n (some u) = u
-
--- the candidate that is taken, by the counters; n where there is none
-unfoldable pub chosen : State → List ℕ → ℕ → ℕ
-chosen s ids n = placeOr n (foremost (betterIn s ids) (keep (readyIn s) (below n)))
-
--- what a router waits for after a neighbour is placed, where the cost in all by way of it is `through`
-unfoldable pub leftAfter : Mode → ℕ → ℕ → ℕ → ℕ
-leftAfter mode.ShortestPath through distance left = cond (eqb through distance) (left - 1) left
-leftAfter mode.Free through distance left = 0
+-- what a placed neighbour adds to a standing, where the cost in all by way of it is `through`
+unfoldable pub gain : Mode → ℕ → ℕ → ℕ
+gain m through distance = 64 + waitsFor m (cond (eqb through distance) 1 0) * 1088
 
 -- how many of the first `count` slots of u lead to v, and how many of those make u a shortest next hop of v
 unfoldable pub leading : List ℕ → ℕ → ℕ → ℕ → ℕ
@@ -89,20 +62,16 @@ unfoldable pub serving : List ℕ → List ℕ → List ℕ → ℕ → ℕ → 
 serving to cost ds u count v =
     length (keep (λ j. eqb (slotTo to u j) v && eqb (getD cost (u * mostNeighbours + j) 0 + getD ds u 0) (getD ds v 0)) (below count))
 
--- the counters have room for the router at u
-pub record Room (near left to cost ds : List ℕ) (m : Mode) (u count : ℕ) : Type 0 where
-  pub near-long : length near ≡ mostRouters
-  pub left-long : length left ≡ mostRouters
-  pub near-most : (v : ℕ) → v < mostRouters → getD near v 0 ≤ mostRouters
-  pub left-least : m ≡ mode.ShortestPath → (v : ℕ) → v < mostRouters → serving to cost ds u count v ≤ getD left v 0
+-- the standing of v after `count` slots of the router at u, which is placed
+unfoldable pub after : List ℕ → List ℕ → List ℕ → List ℕ → Mode → ℕ → ℕ → ℕ → ℕ
+after keys to cost ds m u count v = getD keys v 0 + leading to u count v * 64 + waitsFor m (serving to cost ds u count v) * 1088
 
--- the counters after `count` slots of the router at u, which is placed then
-pub record Stepped (s : State) (to cost ds : List ℕ) (m : Mode) (u count : ℕ) (r : State) : Type 0 where
-  pub placed-there : r .placed ≡ set (s .placed) u true
-  pub near-long : length (r .near) ≡ mostRouters
-  pub left-long : length (r .left) ≡ mostRouters
-  pub near-more : (v : ℕ) → v < mostRouters → getD (r .near) v 0 ≡ getD (s .near) v 0 + leading to u count v
-  pub left-less : m ≡ mode.ShortestPath → (v : ℕ) → v < mostRouters →
-      getD (r .left) v 0 + serving to cost ds u count v ≡ getD (s .left) v 0
-  pub left-free : m ≡ mode.Free → (v : ℕ) → v < mostRouters →
-      getD (r .left) v 0 ≡ cond (eqb (leading to u count v) 0) (getD (s .left) v 0) 0
+-- the standings have room for that
+pub record Room (keys to cost ds : List ℕ) (m : Mode) (u count : ℕ) : Type 0 where
+  pub long : length keys ≡ mostRouters
+  pub most : (v : ℕ) → v < mostRouters → after keys to cost ds m u count v ≤ 65535
+
+-- and have become that
+pub record Stepped (keys to cost ds : List ℕ) (m : Mode) (u count : ℕ) (r : List ℕ) : Type 0 where
+  pub long : length r ≡ mostRouters
+  pub each : (v : ℕ) → v < mostRouters → getD r v 0 ≡ after keys to cost ds m u count v

@@ -1,6 +1,6 @@
 -- What the open contracts of `unchecked` ask of arcs, distances and orders, and promise of distances and ranks.
 -- Assumes nothing.
-use Prim.Native.Nat.{ℕ, _*_, _≤_, _<_}
+use Prim.Native.Nat.{ℕ, _≤_, _<_}
 use mathlib.Core.List.{List, [], List·Memᴰ}
 use mathlib.Core.Path.{_≡_}
 use lib.Dec.{T}
@@ -14,23 +14,14 @@ use Rattle.stations.specs.Topology.{networkOf}
 use Rattle.stations.specs.declared.Topology.{Topology}
 use Rattle.soundness.specs.Sound.{sound}
 use Rattle.arcs.specs.declared.Arcs.{Arcs}
-use Rattle.arcs.specs.Arcs.{Holds}
+use Rattle.arcs.specs.Arcs.{inSlots, Holds}
+use Rattle.distances.specs.Slots.{farthest}
 use Rattle.order.specs.declared.Mode.{Mode}
 use Rattle.order.specs.declared.Mode.the-variants as mode
 use Rattle.order.specs.declared.unchecked.Ranks.{Ranks}
 use Rattle.order.specs.Calls.{wrongRanks}
 
--- the most that an absent distance can be: for each router one more than the greatest cost
-abbrev pub farthest : ℕ
-farthest = mostRouters * 65536
-
--- the distances to d in the first slots, and in no slot more than absent can be
-pub record Settled (n : Network) (d : ℕ) (ds : List ℕ) : Type 0 where
-  pub first : take (size n) ds ≡ distances n d
-  pub long : length ds ≡ mostRouters
-  pub near : (v : ℕ) → v < mostRouters → getD ds v 0 ≤ farthest
-
--- what a mode needs of them: shortest-path mode all of it, free mode only that none is more than absent can be
+-- what a mode needs of distances: shortest-path mode those to d, by place, free mode only that none is more than absent can be
 pub record DistancesFor (n : Network) (d : ℕ) (m : Mode) (ds : List ℕ) : Type 0 where
   pub first : m ≡ mode.ShortestPath → take (size n) ds ≡ distances n d
   pub long : length ds ≡ mostRouters
@@ -42,6 +33,13 @@ pub record LaidOut (t : Topology) (a : Arcs) (d : ℕ) (m : Mode) (ds : List ℕ
   pub holds : Holds (networkOf t) a
   pub place : d < t .routers
   pub for-mode : DistancesFor (networkOf t) d m ds
+
+-- the same where all that is read of the topology and its arcs is lent: the slots, the IDs and the number of routers
+pub record Lent (t : Topology) (counts to cost ids : List ℕ) (n d : ℕ) (m : Mode) (ds : List ℕ) : Type 0 where
+  pub link : List ℕ
+  pub laid : LaidOut t (inSlots counts to cost link) d m ds
+  pub ids-are : t .id ≡ ids
+  pub routers-are : t .routers ≡ n
 
 -- a proposed order that has a sound topology's length, holds each place once, and begins with d
 pub record Proposed (t : Topology) (d : ℕ) (order : List ℕ) : Type 0 where

@@ -1,9 +1,8 @@
-// Distances and orders (01, Order).
+// Orders (01, Order).
 use stations::Answer;
 use stations::Place;
 use stations::Topology;
 
-mod distances;
 mod placing;
 mod proposal;
 pub mod unchecked;
@@ -33,8 +32,18 @@ pub fn build(t: Topology, destination: Place, mode: Mode, out: &mut [u8]) -> Ans
         return Answer { number: 24, at: n };
     }
     let a = arcs::unchecked::of(t);
-    let ds = unchecked::distances_for(t, a, destination, mode);
-    unchecked::build(t, a, ds, destination, mode, out);
+    let ds = unchecked::distances_for(&a.count, &a.to, &a.cost, n, destination, mode);
+    unchecked::build(
+        &a.count,
+        &a.to,
+        &a.cost,
+        &ds,
+        &t.id,
+        n,
+        destination,
+        mode,
+        out,
+    );
     Answer { number: 0, at: n }
 }
 
@@ -50,6 +59,6 @@ pub fn check(t: Topology, destination: Place, mode: Mode, order: &[u8]) -> Answe
         return Answer { number: 15, at: d };
     }
     let a = arcs::unchecked::of(t);
-    let ds = unchecked::distances_for(t, a, destination, mode);
+    let ds = unchecked::distances_for(&a.count, &a.to, &a.cost, t.routers, destination, mode);
     unchecked::judge(t, a, ds, destination, mode, order)
 }

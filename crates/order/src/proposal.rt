@@ -46,21 +46,19 @@ pub(crate) fn unready_rank(
     requires { ⌜ LaidOut t a d mode ds × Proposed t d (now order) ⌝ }
     ensures { λ r. ⌜ r ≡ firstOr (t .routers) (unreadyRanks (networkOf t) d (modeOf mode) (now (order .entry))) ⌝ }
 {
-    let mut placed = [false; ROUTERS];
-    let mut near = [0u8; ROUTERS];
-    let mut left = placing::waits(a, t.routers, ds, mode);
+    // Ties are not decided here, so no lower IDs are counted.
+    let lower = [0u32; ROUTERS];
+    let mut keys = placing::standings(&a.count, &a.to, &a.cost, &ds, &lower, t.routers, mode);
     let count = a.count[d] as usize;
-    placed[d] = true;
-    placing::count_in(&mut near, &mut left, mode, &a.to, &a.cost, &ds, d, count);
+    placing::count_in(&mut keys, mode, &a.to, &a.cost, &ds, d, count);
     let mut rank: usize = 1;
     while rank < t.routers {
         let u = order[rank] as usize;
-        if placed[u] || left[u] != 0 {
+        if !placing::is_candidate(keys[u]) {
             return rank;
         }
         let count = a.count[u] as usize;
-        placed[u] = true;
-        placing::count_in(&mut near, &mut left, mode, &a.to, &a.cost, &ds, u, count);
+        placing::count_in(&mut keys, mode, &a.to, &a.cost, &ds, u, count);
         rank += 1;
     }
     rank

@@ -1,10 +1,10 @@
 // For callers that have tested the topology and the destination, and for ranks the order. Arcs and distances are handed over, so that a program that
 // goes through all destinations lays out the arcs once, and computes the distances to each once.
 use super::Mode;
-use super::distances;
 use super::placing;
 use super::proposal;
 use arcs::Arcs;
+use arcs::SLOTS;
 use stations::Answer;
 use stations::Place;
 use stations::ROUTERS;
@@ -13,74 +13,62 @@ use stations::Topology;
 ghost use mathlib.Core.List.{_++_};
 ghost use mathlib.Core.Path.{_≡_};
 ghost use Prim.Native.Nat.{_<_, _≤_};
-ghost use lib.Dec.{T};
 ghost use lib.ListN.{length, getD, drop};
 ghost use Rattle.network.specs.Order as «said-order»;
+ghost use Rattle.stations.specs.declared.Topology.{Topology};
 ghost use Rattle.stations.specs.Topology.{networkOf};
-ghost use Rattle.soundness.specs.Sound.{sound};
-ghost use Rattle.arcs.specs.Arcs.{Holds};
 ghost use Rattle.order.specs.Calls.{modeOf, judging};
-ghost use Rattle.order.specs.Proposed.{Settled, DistancesFor, LaidOut, Ranked, RanksOf};
-
-// The distances to the destination, by place: rounds until one changes nothing. In a sound topology none is absent.
-pub fn distances(t: Topology, a: Arcs, destination: Place) -> [u32; ROUTERS]
-    requires { ⌜ T (sound t) × Holds (networkOf t) a × (destination .0 < t .routers) ⌝ }
-    ensures { λ r. ⌜ Settled (networkOf t) (destination .0) r ⌝ }
-{
-    let n = t.routers;
-    let d = destination.index();
-    let mut ds = distances::first_round(n, d);
-    let mut k: usize = 1;
-    while k < n {
-        let next = distances::next_round(&a.count, &a.to, &a.cost, n, &ds);
-        if distances::same(n, ds, next) {
-            return ds;
-        }
-        ds = next;
-        k += 1;
-    }
-    ds
-}
+ghost use Rattle.distances.specs.Settled.{LaidIn};
+ghost use Rattle.order.specs.Proposed.{DistancesFor, LaidOut, Lent, Ranked, RanksOf};
 
 // What the mode needs of distances: in shortest-path mode the distances, in free mode none, so zeros.
-pub fn distances_for(t: Topology, a: Arcs, destination: Place, mode: Mode) -> [u32; ROUTERS]
-    requires { ⌜ T (sound t) × Holds (networkOf t) a × (destination .0 < t .routers) ⌝ }
-    ensures { λ r. ⌜ DistancesFor (networkOf t) (destination .0) mode r ⌝ }
+pub fn distances_for<'a>(
+    counts: &'a [u8; ROUTERS],
+    to: &'a [u8; SLOTS],
+    cost: &'a [u16; SLOTS],
+    n: usize,
+    destination: Place,
+    mode: Mode,
+) -> [u32; ROUTERS]
+    requires { ⌜ ((t : Topology) × LaidIn t (now counts) (now to) (now cost) n) × (destination .0 < n) ⌝ }
+    ensures { λ r. ⌜ ((t : Topology) → LaidIn t (now (counts .entry)) (now (to .entry)) (now (cost .entry)) n → DistancesFor (networkOf t) (destination .0) mode r) ⌝ }
 {
     match mode {
-        Mode::ShortestPath => distances(t, a, destination),
+        Mode::ShortestPath => distances::unchecked::to(counts, to, cost, n, destination),
         Mode::Free => [0; ROUTERS],
     }
 }
 
-// The order for the destination, into the first bytes of the slice.
-pub fn build(
-    t: Topology,
-    a: Arcs,
-    ds: [u32; ROUTERS],
+// The order for the destination, into the first bytes of the slice. All that is read is lent, so that nothing is copied.
+pub fn build<'a>(
+    counts: &'a [u8; ROUTERS],
+    to: &'a [u8; SLOTS],
+    cost: &'a [u16; SLOTS],
+    ds: &'a [u32; ROUTERS],
+    ids: &'a [u32; ROUTERS],
+    n: usize,
     destination: Place,
     mode: Mode,
     out: &mut [u8],
 )
-    requires { ⌜ LaidOut t a (destination .0) mode ds × (t .routers ≤ length (now out)) ⌝ }
-    ensures { λ _. ⌜ now (out .exit) ≡ «said-order».build (networkOf t) (destination .0) (modeOf mode) ++ drop (t .routers) (now (out .entry)) ⌝ }
+    requires { ⌜ ((t : Topology) × Lent t (now counts) (now to) (now cost) (now ids) n (destination .0) mode (now ds)) × (n ≤ length (now out)) ⌝ }
+    ensures { λ _. ⌜ ((t : Topology) → Lent t (now (counts .entry)) (now (to .entry)) (now (cost .entry)) (now (ids .entry)) n (destination .0) mode (now (ds .entry)) → now (out .exit) ≡ «said-order».build (networkOf t) (destination .0) (modeOf mode) ++ drop n (now (out .entry))) ⌝ }
 {
-    let n = t.routers;
     let d = destination.index();
-    let mut placed = [false; ROUTERS];
-    let mut near = [0u8; ROUTERS];
-    let mut left = placing::waits(a, n, ds, mode);
-    let count = a.count[d] as usize;
-    placed[d] = true;
-    placing::count_in(&mut near, &mut left, mode, &a.to, &a.cost, &ds, d, count);
+    let lower = placing::lower_ids(ids, n);
+    let places = placing::places_of(&lower, n);
+    let mut keys = placing::standings(counts, to, cost, ds, &lower, n, mode);
+    let count = counts[d] as usize;
+    placing::count_in(&mut keys, mode, to, cost, ds, d, count);
     out[0] = destination.0;
     let mut rank: usize = 1;
     while rank < n {
-        let u = placing::select(&placed, &near, &left, &t.id, n);
-        let count = a.count[u] as usize;
-        placed[u] = true;
-        placing::count_in(&mut near, &mut left, mode, &a.to, &a.cost, &ds, u, count);
-        out[rank] = u as u8;
+        let best = placing::highest(&keys, n);
+        let place = places[(best % placing::NEAR) as usize];
+        let u = place as usize;
+        let count = counts[u] as usize;
+        placing::count_in(&mut keys, mode, to, cost, ds, u, count);
+        out[rank] = place;
         rank += 1;
     }
 }

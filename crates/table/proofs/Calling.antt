@@ -27,7 +27,7 @@ use Rattle.arcs.specs.Arcs.{Holds}
 use Rattle.order.specs.declared.Mode.{Mode}
 use Rattle.order.specs.declared.Mode.the-variants as mode
 use Rattle.order.specs.Calls.{modeOf, atFirst, judging, checking}
-use Rattle.order.specs.Proposed.{Settled}
+use Rattle.distances.specs.Settled.{Settled}
 use Rattle.order.proofs.Answers.{is-0}
 use Rattle.order.proofs.Decided.{judged, first-there, none-there, ranks-below}
 use Rattle.order.proofs.Orders.{proposes, checks-exact}

@@ -35,7 +35,7 @@ pub fn fill(t: Topology, destination: Place, order: &[u8], out: &mut [u8]) -> An
             at: needed,
         };
     }
-    let ds = order::unchecked::distances(t, a, destination);
+    let ds = distances::unchecked::to(&a.count, &a.to, &a.cost, n, destination);
     rows::unchecked::fill(t, a, ds, destination, t.limit, order, out);
     Answer {
         number: 0,

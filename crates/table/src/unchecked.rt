@@ -31,7 +31,14 @@ pub(crate) fn judge(t: Topology, a: Arcs, destination: Place, order: &[u8]) -> A
     requires { ⌜ T (sound t) × Holds (networkOf t) a × (destination .0 < t .routers) ⌝ }
     ensures { λ r. ⌜ r ≡ judging t (destination .0) «mode-of».Free (now (order .entry)) ⌝ }
 {
-    let ds = order::unchecked::distances_for(t, a, destination, Mode::Free);
+    let ds = order::unchecked::distances_for(
+        &a.count,
+        &a.to,
+        &a.cost,
+        t.routers,
+        destination,
+        Mode::Free,
+    );
     order::unchecked::judge(t, a, ds, destination, Mode::Free, order)
 }
 
@@ -62,7 +69,7 @@ fn first_wrong(t: Topology, a: Arcs, table: &[u8], order: [u8; ROUTERS]) -> usiz
     let length = table.len();
     let destination = Place(table[1]);
     let limit = table[3];
-    let ds = order::unchecked::distances(t, a, destination);
+    let ds = distances::unchecked::to(&a.count, &a.to, &a.cost, n, destination);
     let mut room = reading::room_for_table();
     rows::unchecked::fill(t, a, ds, destination, limit, &order[..n], &mut room);
     reading::first_difference(table, &room[..length])
@@ -105,8 +112,18 @@ pub fn build(t: Topology, a: Arcs, destination: Place, mode: Mode, out: &mut [u8
     ensures { λ _. ⌜ now (out .exit) ≡ tableBytes (networkOf t) (destination .0) (t .limit) («said-order».build (networkOf t) (destination .0) (modeOf mode)) ++ drop (tableLength (t .routers)) (now (out .entry)) ⌝ }
 {
     let n = t.routers;
-    let ds = order::unchecked::distances(t, a, destination);
+    let ds = distances::unchecked::to(&a.count, &a.to, &a.cost, n, destination);
     let mut order = [0u8; ROUTERS];
-    order::unchecked::build(t, a, ds, destination, mode, &mut order);
+    order::unchecked::build(
+        &a.count,
+        &a.to,
+        &a.cost,
+        &ds,
+        &t.id,
+        n,
+        destination,
+        mode,
+        &mut order,
+    );
     rows::unchecked::fill(t, a, ds, destination, t.limit, &order[..n], out);
 }

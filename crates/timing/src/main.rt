@@ -40,7 +40,7 @@ fn all_orders(t: Topology, mode: Mode, sum: u32) -> u32
 {
     let mut next = sum;
     let mut d: u8 = 0;
-    while d < 64 {
+    while d < 64 && (d as usize) < t.routers {
         let mut out = [0u8; ROUTERS];
         order::build(t, Place(d), mode, &mut out);
         next = with_bytes(next, &out, 1);

@@ -2,7 +2,7 @@
 -- Assumes nothing.
 use Prim.Native.Nat.{_<_}
 use mathlib.Core.Bool.{true}
-use mathlib.Core.Path.{_≡_, sym, _∙_}
+use mathlib.Core.Path.{_≡_, refl, sym, _∙_}
 use native.Mathlib.Omega.{arith}
 use borrow.Author.Needs.{needs}
 use borrow.Author.Tests.{not-true, not-false, lt-ltb, le-ltb}
@@ -13,6 +13,8 @@ use Rattle.soundness.specs.Sound.{sound}
 use Rattle.stations.specs.Topology.{networkOf}
 use Rattle.stations.specs.Outcome.{given, turnedAway}
 use Rattle.order.specs.Calls.{building, modeOf}
+use Rattle.distances.proofs.Slots.{laid-out}
+use Rattle.order.specs.Proposed.{Lent}
 use Rattle.order.proofs.Reached.{built-long}
 use Rattle.order.proofs.build.Statement.{statement}
 use Rattle.order.proofs.build.Tie as tie
@@ -22,24 +24,24 @@ unfolding building turnedAway
 returns c = rw (sym (c .before .is-sound .ensures) ∙ not-true _ (c .if1 .taken))
 
 -- the topology is sound
-good : (c : tie.Else1) → sound (c .before .before .before .args .t) ≡ true
+good : (c : tie.Else1) → sound (c .before .before .before .args .t1) ≡ true
 good c = sym (c .before .is-sound .ensures) ∙ not-false _ (c .if1 .left)
 
-passed : (c : tie.Else1) → T (sound (c .before .before .before .args .t))
+passed : (c : tie.Else1) → T (sound (c .before .before .before .args .t1))
 passed c = rw (good c) tt
 
 returns-2 : tie.Need-returns-2
 unfolding building turnedAway
 returns-2 c =
     let a = c .before .before .before .before .before .args in
-    rw (good (c .before .before), le-ltb (a .destination .0) (a .t .routers) (omega (arith, c .before .index .ensures)), c .before .index .ensures)
+    rw (good (c .before .before), le-ltb (a .destination .0) (a .t1 .routers) (omega (arith, c .before .index .ensures)), c .before .index .ensures)
 
 -- the destination is one of its places, and the order has a byte for each
-place : (c : tie.Else2) → let a = c .before .before .before .before .before .args in a .destination .0 < a .t .routers
+place : (c : tie.Else2) → let a = c .before .before .before .before .before .args in a .destination .0 < a .t1 .routers
 place c = omega (arith, c .before .index .ensures)
 
 long : (c : tie.Else2) → let a = c .before .before .before .before .before .args in
-    length (build (networkOf (a .t)) (a .destination .0) (modeOf (a .mode))) ≡ a .t .routers
+    length (build (networkOf (a .t1)) (a .destination .0) (modeOf (a .mode))) ≡ a .t1 .routers
 long c = built-long _ (passed (c .before .before)) _ (place c) _
 
 returns-3 : tie.Need-returns-3
@@ -50,22 +52,51 @@ of-requires : tie.Need-of-requires
 of-requires c κs = passed (c .before .before .before)
 
 distances-for-requires : tie.Need-distances-for-requires
-distances-for-requires c κs = let e : tie.Else3 = c .before in (passed (e .before .before .before), c .of .ensures, place (e .before))
+distances-for-requires c κs =
+    let o : tie.After-of = c .before .before .before .before in
+    let e : tie.Else3 = o .before in
+    ((_, laid-out _ _ (passed (e .before .before .before)) (o .of .ensures)), place (e .before))
+
+-- what is lent to building
+laid : (c : tie.After-distances-for) →
+    let o : tie.After-of = c .before .before .before .before .before in
+    let args = o .before .before .before .before .before .before .before .args in
+    let arcs = o .of .result in
+    Lent (args .t1) (arcs .count) (arcs .to) (arcs .cost) (args .t1 .id) (args .t1 .routers) (args .destination .0) (args .mode) (c .distances-for .result)
+laid c =
+    let o : tie.After-of = c .before .before .before .before .before in
+    let e : tie.Else3 = o .before in
+    let s = passed (e .before .before .before) in
+    record {
+      link = o .of .result .link;
+      laid = record {
+        is-sound = s;
+        holds = o .of .ensures;
+        place = place (e .before);
+        for-mode = c .distances-for .ensures _ (laid-out _ _ s (o .of .ensures));
+      };
+      ids-are = refl;
+      routers-are = refl;
+    }
 
 build-requires : tie.Need-build-requires
 build-requires c κs =
-    let e : tie.Else3 = c .before .before .before in
-    let s = passed (e .before .before .before) in (
-      record { is-sound = s; holds = c .before .before .of .ensures; place = place (e .before); for-mode = c .before .distances-for .ensures },
-      e .if3 .left,
-    )
+    let distances : tie.After-distances-for = c .before .before .before .before .before .before .before .before in
+    let e : tie.Else3 = distances .before .before .before .before .before .before in
+    ((_, laid distances), e .if3 .left)
 
 returns-4 : tie.Need-returns-4
 unfolding building given turnedAway
 returns-4 c =
-    let e : tie.Else3 = c .before .before .before .before .before .before in
-    let done = c .before .before .build .ensures in
-    rw (done, good (e .before .before .before), lt-ltb _ _ (place (e .before)), long (e .before), le-ltb _ _ (e .if3 .left))
+    let distances : tie.After-distances-for = c .before .before .before .before .before .before .before .before .before .before .before in
+    let e : tie.Else3 = distances .before .before .before .before .before .before in
+    rw (
+      c .before .before .build .ensures _ (laid distances),
+      good (e .before .before .before),
+      lt-ltb _ _ (place (e .before)),
+      long (e .before),
+      le-ltb _ _ (e .if3 .left),
+    )
 
 pub build-spec : {M : Type 1} → statement M
 build-spec =

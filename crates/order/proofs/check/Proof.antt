@@ -8,6 +8,7 @@ use borrow.Author.Needs.{needs}
 use borrow.Author.Tests.{not-true, not-false}
 use lib.Dec.{T}
 use Rattle.soundness.specs.Sound.{sound}
+use Rattle.distances.proofs.Slots.{laid-out}
 use Rattle.order.proofs.Decided.{unsound, outside, judged}
 use Rattle.order.proofs.check.Statement.{statement}
 use Rattle.order.proofs.check.Tie as tie
@@ -34,21 +35,27 @@ of-requires : tie.Need-of-requires
 of-requires c κs = passed (c .before .before .before)
 
 distances-for-requires : tie.Need-distances-for-requires
-distances-for-requires c κs = (passed (c .before .before .before .before), c .of .ensures, place (c .before))
+distances-for-requires c κs =
+    let o : tie.After-of = c .before .before .before .before in
+    let e : tie.Else2 = o .before in
+    ((_, laid-out _ _ (passed (e .before .before .before)) (o .of .ensures)), place e)
 
 judge-requires : tie.Need-judge-requires
 judge-requires c κs =
-    let o = c .before in
+    let o : tie.After-of = c .before .before .before .before .before in
+    let e : tie.Else2 = o .before in
+    let s = passed (e .before .before .before) in
     record {
-      is-sound = passed (o .before .before .before .before);
+      is-sound = s;
       holds = o .of .ensures;
-      place = place (o .before);
-      for-mode = c .distances-for .ensures;
+      place = place e;
+      for-mode = c .distances-for .ensures _ (laid-out _ _ s (o .of .ensures));
     }
 
 returns-3 : tie.Need-returns-3
 returns-3 c =
-    let e : tie.Else2 = c .before .before .before in c .judge .ensures ∙ judged _ _ _ _ (good (e .before .before .before)) (place e)
+    let e : tie.Else2 = c .before .before .before .before .before .before .before in
+    c .judge .ensures ∙ judged _ _ _ _ (good (e .before .before .before)) (place e)
 
 pub check-spec : {M : Type 1} → statement M
 check-spec =

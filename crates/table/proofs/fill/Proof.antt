@@ -16,6 +16,8 @@ use Rattle.soundness.proofs.Sound.{sound-exact}
 use Rattle.order.specs.declared.Mode.the-variants as mode
 use Rattle.order.specs.Calls.{judging, checking}
 use Rattle.order.proofs.Decided.{unsound, outside, judged}
+use Rattle.distances.specs.Settled.{Settled}
+use Rattle.distances.proofs.Slots.{laid-out}
 use Rattle.rows.specs.Bytes.{tableBytes, rowStart}
 use Rattle.table.specs.Calls.{unlessRefused, filling}
 use Rattle.table.proofs.Bytes.{bytes-exact}
@@ -90,23 +92,37 @@ returns-4 : tie.Need-returns-4
 unfolding filling unlessRefused given turnedAway
 returns-4 c = rw (whole (c .before), long (c .before), lt-ltb _ _ (c .if4 .taken))
 
-distances-requires : tie.Need-distances-requires
-distances-requires c κs = (passed (c .before .before .before .before .before .before .before), c .before .before .before .before .of .ensures, place (c .before .before .before .before .before))
+to-requires : tie.Need-to-requires
+to-requires c κs =
+    let e : tie.Else4 = c .before .before .before .before in
+    let p : tie.Else2 = e .before .before .before .before .before in
+    ((_, laid-out _ _ (passed (p .before .before)) (e .before .before .before .before .of .ensures)), place p)
+
+-- from the distances back to the last test, and what they are
+abbrev tested : tie.After-to → tie.Else4
+tested c = c .before .before .before .before .before
+
+settled : (c : tie.After-to) →
+    let a = tested c .before .before .before .before .before .before .before .before .before .before .before .args in Settled (networkOf (a .t)) (a .destination .0) (c .to .result)
+settled c =
+    let e = tested c in
+    let p : tie.Else2 = e .before .before .before .before .before in
+    c .to .ensures _ (laid-out _ _ (passed (p .before .before)) (e .before .before .before .before .of .ensures))
 
 fill-requires : tie.Need-fill-requires
 unfolding rowStart
 fill-requires c κs =
-    let e : tie.Else3 = c .before .before .before in
+    let e : tie.Else3 = tested (c .before) .before in
     let s = passed (e .before .before .before .before .before .before) in
     let h = place (e .before .before .before .before) in (
-      fillable _ s _ h (e .before .before .before .of .ensures) (c .before .distances .ensures) (sound-exact _ .0 s .limit-most) (in-free _ s _ h _ (zero e)),
-      c .before .before .if4 .left,
+      fillable _ s _ h (e .before .before .before .of .ensures) (settled (c .before)) (sound-exact _ .0 s .limit-most) (in-free _ s _ h _ (zero e)),
+      tested (c .before) .if4 .left,
     )
 
 returns-5 : tie.Need-returns-5
 unfolding filling unlessRefused given turnedAway rowStart
 returns-5 c =
-    let b : tie.Else4 = c .before .before .before .before .before in
+    let b = tested (c .before .before .before .before) in
     rw (c .before .before .fill .ensures, whole (b .before), long (b .before), le-ltb _ _ (b .if4 .left))
 
 pub fill-spec : {M : Type 1} → statement M
@@ -123,7 +139,7 @@ fill-spec =
     mul-needed
     add-needed
     returns-4
-    distances-requires
+    to-requires
     fill-requires
     (λ c. search needs)
     returns-5)

@@ -14,7 +14,8 @@ abbrev μ-loop : tie.MeasureT-loop
 
 with-bytes-requires : tie.Need-with-bytes-requires Inv-loop μ-loop
 with-bytes-requires c κs =
-    (c .before .before .before .before .before .loop .inv .1, omega (arith, c .before .before .build .kept .1 .1 .1 .0), omega arith, omega arith)
+    let here = c .before .before .before .before .before .before .before in
+    (here .loop .inv .1, omega (arith, c .before .before .build .kept .1 .1 .1 .0), omega arith, omega arith)
 
 pub all-orders-spec : {M : Type 1} → statement M
 all-orders-spec =
@@ -24,9 +25,11 @@ all-orders-spec =
     μ-loop
     (λ c. search needs)
     (λ c. search needs)
+    (λ c. search needs)
     (λ c κs. search needs)
     (λ c. search needs)
     with-bytes-requires
+    (λ c. search needs)
     (λ c. search needs)
     (λ c. search needs)
     (λ c. search needs)

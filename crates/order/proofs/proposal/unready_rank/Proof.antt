@@ -1,47 +1,53 @@
--- `order::proposal::unready_rank` meets its contract. The loop's invariant is `Checking`: the counters are right for the routers passed, and each
+-- `order::proposal::unready_rank` meets its contract. The loop's invariant is `Checking`: the standings are right for the routers passed, and each
 -- but the first was a candidate when placed.
 -- Assumes nothing.
 use Prim.Native.Nat.{_-_}
-use mathlib.Core.Logic.{⊎-elim}
+use mathlib.Core.Bool.{true}
+use mathlib.Core.Path.{_≡_, sym, _∙_}
 use native.Mathlib.Omega.{arith}
-use borrow.Author.Count.{falls}
+use borrow.Author.Needs.{needs}
 use borrow.Author.Tests.{not-true, not-false}
+use lib.Dec.{leb}
 use lib.ListN.{getD}
-use Rattle.order.specs.Inner.{Slots, state, readyIn}
-use Rattle.order.proofs.Turn.{every-slot, slots, first-slots, first-room}
+use Rattle.distances.specs.Slots.{Slots}
+use Rattle.order.proofs.Turn.{every-slot, slots, zeros-small, first-slots, first-room}
 use Rattle.order.proofs.Checking.{Checking, first-turn, place, has-room, unready, again, none-unready}
 use Rattle.order.proofs.proposal.unready_rank.Statement.{statement}
 use Rattle.order.proofs.proposal.unready_rank.Tie as tie
 
 abbrev Inv-loop : tie.InvT-loop
-Inv-loop t d mode order a ds placed₀ near₀ left₀ count rank₀ placed near left rank = Checking t a d mode ds order (state placed near left) rank
+Inv-loop t d mode order a ds keys₀ count rank₀ keys rank = Checking t a d mode ds order keys rank
 
 abbrev μ-loop : tie.MeasureT-loop
-μ-loop t d mode order a ds placed₀ near₀ left₀ count rank₀ placed near left rank = t .routers - rank
+μ-loop t d mode order a ds keys₀ count rank₀ keys rank = t .routers - rank
 
-waits-requires : tie.Need-waits-requires Inv-loop μ-loop
-waits-requires c κs = every-slot (c .before .pre .0)
+standings-requires : tie.Need-standings-requires Inv-loop μ-loop
+standings-requires c κs =
+    let g = c .before .before .before .before .before .before .before .pre .0 in (every-slot g, zeros-small g)
 
--- from the call that counts d in back to what it waits for
-abbrev waited : tie.After-ds Inv-loop μ-loop → tie.After-waits Inv-loop μ-loop
-waited c = c .before .before .before .before .before .before .before
+-- from the call that counts d in back to the standings, and to the start
+abbrev stood : tie.After-count-in Inv-loop μ-loop → tie.After-standings Inv-loop μ-loop
+stood c = c .before .before .before .before .before .before .before
 
-abbrev start : tie.After-ds Inv-loop μ-loop → tie.Start Inv-loop μ-loop
-start c = waited c .before .before
+abbrev start : tie.After-standings Inv-loop μ-loop → tie.Start Inv-loop μ-loop
+start c = c .before .before .before .before .before .before .before .before
 
 count-in-requires : tie.Need-count-in-requires Inv-loop μ-loop
-count-in-requires c κs = let g = start c .pre .0 in (first-slots g, first-room g (waited c .waits .ensures))
+count-in-requires c κs =
+    let stands = c .before .before .before .before .before .before in
+    let g = start stands .pre .0 in
+    (first-slots g, first-room g (zeros-small g) (stands .standings .ensures))
 
 loop-holds : tie.Need-loop-holds Inv-loop μ-loop
 loop-holds c =
-    let (g, p) = start (c .before) .pre in first-turn g p (waited (c .before) .waits .ensures) (c .count-in .ensures _)
+    let (g, p) = start (stood c) .pre in first-turn g p (stood c .standings .ensures) (c .count-in .ensures)
 
 shared-slice-read-u : tie.Need-shared-slice-read-u Inv-loop μ-loop
 shared-slice-read-u c = omega (arith, c .before .before .before .loop .inv .proposed .long, c .before .if1 .taken)
 
 -- the router of this turn
 at-place : (c : tie.After-shared-slice-known2 Inv-loop μ-loop) →
-    let args = start (c .before .before .before .before .before) .args in
+    let args = start (stood (c .before .before .before .before)) .args in
     let u = getD (args .order .now) (c .before .before .before .loop .rank) 0 in
     Slots (args .t2 .to) (args .t2 .cost) (args .t3) u (getD (args .t2 .count) u 0)
 at-place c =
@@ -49,32 +55,35 @@ at-place c =
     slots (w .given) (place w (c .before .if1 .taken))
 
 returns : tie.Need-returns Inv-loop μ-loop
-unfolding readyIn
 returns c =
-    let here = c .before in
-    let at = here .before .before .before in
-    unready (at .loop .inv) (here .before .if1 .taken)
-    (⊎-elim (λ w. rw (w .taken)) (λ w. rw (w .0 .left) (not-true _ (w .1 .taken))) (c .if2 .came))
+    let here = c .before .before in
+    unready (here .before .before .before .loop .inv) (here .before .if1 .taken) (sym (c .before .is-candidate .ensures) ∙ not-true _ (c .if2 .taken))
 
--- from the call that counts it in back to the tests of the turn
-abbrev passed : tie.After-ds2 Inv-loop μ-loop → tie.Else3 Inv-loop μ-loop
-passed c = c .before .before .before .before .before .before .before
+-- from the test that it passed back to the router of the turn
+abbrev at : tie.Else2 Inv-loop μ-loop → tie.After-shared-slice-known2 Inv-loop μ-loop
+at c = c .before .before
 
-abbrev turn : tie.After-ds2 Inv-loop μ-loop → tie.Then1 Inv-loop μ-loop
-turn c = passed c .before .before .before
+abbrev going : tie.Else2 Inv-loop μ-loop → tie.At-loop Inv-loop μ-loop
+going c = at c .before .before .before
+
+ready : (c : tie.Else2 Inv-loop μ-loop) →
+    leb 17472 (getD (going c .loop .keys) (getD (start (stood (going c .before)) .args .order .now) (going c .loop .rank) 0) 0) ≡ true
+ready c = sym (c .before .is-candidate .ensures) ∙ not-false _ (c .if2 .left)
 
 count-in-requires-2 : tie.Need-count-in-requires-2 Inv-loop μ-loop
-count-in-requires-2 c κs = (at-place (passed c .before .before), has-room (turn c .before .before .loop .inv) (turn c .if1 .taken))
+count-in-requires-2 c κs =
+    let e = c .before .before .before .before .before .before in
+    (at-place (at e), has-room (going e .loop .inv) (at e .before .if1 .taken) (ready e))
 
 add-rank : tie.Need-add-rank Inv-loop μ-loop
-add-rank c = let here = turn (c .before) in omega (arith, here .if1 .taken, every-slot (here .before .before .loop .inv .given) .most)
+add-rank c =
+    let e = c .before .before .before .before .before .before .before in
+    omega (arith, at e .before .if1 .taken, every-slot (going e .loop .inv .given) .most)
 
 loop-again : tie.Need-loop-again Inv-loop μ-loop
-unfolding readyIn
 loop-again c =
-    let here = turn (c .before) in
-    let tests = passed (c .before) in
-    again (here .before .before .loop .inv) (here .if1 .taken) (rw (tests .before .if2 .left) (not-false _ (tests .if3 .left))) (c .count-in2 .ensures _)
+    let e = c .before .before .before .before .before .before .before in
+    again (going e .loop .inv) (at e .before .if1 .taken) (ready e) (c .count-in2 .ensures)
 
 returns-2 : tie.Need-returns-2 Inv-loop μ-loop
 returns-2 c = none-unready (c .before .before .loop .inv) (c .if1 .left)
@@ -85,22 +94,21 @@ unready-rank-spec =
     (tie.spec
     Inv-loop
     μ-loop
-    waits-requires
-    (λ c. first-slots (c .before .before .pre .0) .place)
-    (λ c. omega (arith, first-slots (c .before .before .before .pre .0) .few))
-    (λ c. first-slots (c .before .before .before .pre .0) .place)
+    standings-requires
+    (λ c. first-slots (start c .pre .0) .place)
+    (λ c. omega (arith, first-slots (start (c .before) .pre .0) .few))
     count-in-requires
     loop-holds
     shared-slice-read-u
     (λ c. omega (arith, at-place c .place))
+    (λ c. omega (arith, at-place c .place))
     (λ c. at-place c .place)
-    (λ c. at-place (c .before) .place)
+    (λ c κs. tt)
     returns
-    (λ c. at-place (c .before .before) .place)
-    (λ c. omega (arith, at-place (c .before .before .before) .few))
-    (λ c. at-place (c .before .before .before) .place)
+    (λ c. at-place (at c) .place)
+    (λ c. omega (arith, at-place (at (c .before)) .few))
     count-in-requires-2
     add-rank
-    (λ c. falls _ _ (turn (c .before) .if1 .taken))
+    (λ c. search needs)
     loop-again
     returns-2)

@@ -1,92 +1,137 @@
--- `order::unchecked::build` meets its contract. The loop's invariant is `Building`: what is placed begins the order, and the counters are right for
--- it.
+-- `order::unchecked::build` meets its contract. The loop's invariant: for every topology that is lent so, what is placed begins the order, and the
+-- standings are right for it.
 -- Assumes nothing.
-use Prim.Native.Nat.{_-_}
-use mathlib.Core.Path.{_∙_}
+use Prim.Native.Nat.{ℕ, _-_, _%_, _<_}
+use mathlib.Core.List.{List}
+use mathlib.Core.Path.{sym, _∙_}
 use native.Mathlib.Omega.{arith}
-use borrow.Author.Count.{falls}
+use borrow.Author.Needs.{needs}
 use lib.ListN.{getD, length-set}
-use Rattle.order.specs.Proposed.{LaidOut}
-use Rattle.order.specs.Inner.{Slots, state}
-use Rattle.order.proofs.Turn.{every-slot, slots, first-slots, first-room}
-use Rattle.order.proofs.Building.{Building, same-long, first-turn, place, has-room, again, finished}
+use Rattle.stations.specs.declared.Topology.{Topology}
+use Rattle.order.specs.Proposed.{Lent}
+use Rattle.distances.specs.Slots.{Slots}
+use Rattle.order.specs.Inner.{Inverse}
+use Rattle.order.proofs.Building.{Building, same-long}
+use Rattle.order.proofs.Lending.{slots-of, all, d-in, small, apart, room-first, begin, keys-fit, fits, next-in, room-next, go-on, done}
 use Rattle.order.proofs.unchecked.build.Statement.{statement}
 use Rattle.order.proofs.unchecked.build.Tie as tie
 
 abbrev Inv-loop : tie.InvT-loop
-Inv-loop mode out₀ t a ds n d placed₀ near₀ left₀ count rank₀ out placed near left rank = Building t a d mode ds out₀ out (state placed near left) rank
+Inv-loop counts to cost ds ids n mode out₀ d places keys₀ count rank₀ out keys rank =
+    (lower : List ℕ) × Inverse lower n places
+    × ((t : Topology) (l : Lent t counts to cost ids n d mode ds) → Building t (slots-of l) d mode ds lower out₀ out keys rank)
 
 abbrev μ-loop : tie.MeasureT-loop
-μ-loop mode out₀ t a ds n d placed₀ near₀ left₀ count rank₀ out placed near left rank = n - rank
+μ-loop counts to cost ds ids n mode out₀ d places keys₀ count rank₀ out keys rank = n - rank
 
--- what is given, for the index of the destination
-given : (c : tie.After-index Inv-loop μ-loop) →
-    let args = c .before .before .args in LaidOut (args .t1) (args .t2) (c .index .result) (args .mode) (args .t3)
-given c = rw (c .index .ensures) (c .before .before .pre .0)
+-- from the call that counts d in back to the calls before it
+abbrev stood : tie.After-count-in Inv-loop μ-loop → tie.After-standings Inv-loop μ-loop
+stood c = c .before .before .before
 
-waits-requires : tie.Need-waits-requires Inv-loop μ-loop
-waits-requires c κs = every-slot (given c)
+abbrev lowered : tie.After-standings Inv-loop μ-loop → tie.After-lower-ids Inv-loop μ-loop
+lowered c = c .before .before .before .before
 
--- from the call that counts d in back to what it waits for
-abbrev waited : tie.After-ds Inv-loop μ-loop → tie.After-waits Inv-loop μ-loop
-waited c = c .before .before .before .before .before .before .before
+abbrev found : tie.After-lower-ids Inv-loop μ-loop → tie.After-index Inv-loop μ-loop
+found c = c .before
 
-abbrev start : tie.After-ds Inv-loop μ-loop → tie.Start Inv-loop μ-loop
-start c = waited c .before .before .before
+-- what is lent for the destination is lent for its number
+module _ (c : tie.After-index Inv-loop μ-loop) where
+  abbrev LentFor : Topology → ℕ → Type 0
+  LentFor t d =
+      let args = c .before .before .args in
+      Lent t (args .counts .now) (args .to .now) (args .cost .now) (args .ids .now) (args .n) d (args .mode) (args .ds .now)
+
+  own : {t : Topology} → LentFor t (c .before .before .args .destination .0) → LentFor t (c .index .result)
+  own l = rw (c .index .ensures) l
+
+  lent : (t : Topology) × LentFor t (c .index .result)
+  lent = let (t, l) = c .before .before .pre .0 in (t, own l)
+
+standings-requires : tie.Need-standings-requires Inv-loop μ-loop
+standings-requires c κs =
+    let low : tie.After-lower-ids Inv-loop μ-loop = c .before .before .before in
+    let (t, l) = lent (found low) in (all l, small l (low .lower-ids .ensures))
 
 count-in-requires : tie.Need-count-in-requires Inv-loop μ-loop
-count-in-requires c κs = let g = given (waited c .before) in (first-slots g, first-room g (waited c .waits .ensures))
+count-in-requires c κs =
+    let stands = c .before .before in
+    let (t, l) = lent (found (lowered stands)) in
+    (all l .each _ (d-in l), room-first l (lowered stands .lower-ids .ensures) (stands .standings .ensures))
 
 loop-holds : tie.Need-loop-holds Inv-loop μ-loop
 loop-holds c =
-    let w = waited (c .before) in
-    first-turn (start (c .before) .args .out .now) (w .before .index .ensures) (given (w .before)) (start (c .before) .pre .1)
-    (w .waits .ensures) (c .count-in .ensures _)
+    let low = lowered (stood c) in (
+      low .lower-ids .result,
+      c .before .before .before .before .before .places-of .ensures,
+      λ t l. begin l (low .lower-ids .ensures) (stood c .standings .ensures) (found low .before .before .args .out .now) (sym (found low .index .ensures))
+          (found low .before .before .pre .1) (c .count-in .ensures),
+    )
 
--- from the call that selects back to the turn
-abbrev turn : tie.After-select-arg Inv-loop μ-loop → tie.In-loop Inv-loop μ-loop
-turn c = c .before .before .before .before .before
+-- the turn of the call that finds the highest, what is lent, and what holds before the turn
+abbrev turn : tie.After-highest Inv-loop μ-loop → tie.In-loop Inv-loop μ-loop
+turn c = c .before .before
 
-select-requires : tie.Need-select-requires Inv-loop μ-loop
-select-requires c κs = every-slot (turn c .before .loop .inv .given) .most
+abbrev begun : tie.In-loop Inv-loop μ-loop → tie.After-index Inv-loop μ-loop
+begun c = found (lowered (stood (c .before .before)))
 
-at-place : (c : tie.After-select Inv-loop μ-loop) →
-    let args = start (turn (c .before) .before .before .before) .args in
-    Slots (args .t2 .to) (args .t2 .cost) (args .t3) (c .select .result) (getD (args .t2 .count) (c .select .result) 0)
-at-place c =
-    let b = turn (c .before) .before .loop .inv in
-    slots (b .given) (place b (turn (c .before) .loop-test .taken) (c .select .ensures))
+highest-requires : tie.Need-highest-requires Inv-loop μ-loop
+highest-requires c κs =
+    let (t, l) = lent (begun (c .before)) in (omega (arith, d-in l), all l .most, keys-fit l (c .before .before .loop .inv .2 t l))
 
--- from the call that counts it in back to the call that selects
-abbrev selected : tie.After-ds2 Inv-loop μ-loop → tie.After-select Inv-loop μ-loop
-selected c = c .before .before .before .before .before .before .before
+-- the place of the router that stands highest
+abbrev place : tie.After-highest Inv-loop μ-loop → ℕ
+place c = getD (turn c .before .before .before .before .before .before .before .places-of .result) (c .highest .result % 64) 0
+
+inside : (c : tie.After-highest Inv-loop μ-loop) → place c < begun (turn c) .before .before .args .n
+inside c =
+    let (t, l) = lent (begun (turn c)) in
+    let inv = turn c .before .loop .inv in
+    next-in l (inv .2 t l) (turn c .loop-test .taken) (c .highest .ensures) (inv .1)
+
+within : (c : tie.After-highest Inv-loop μ-loop) → place c < 64
+within c = let (t, l) = lent (begun (turn c)) in omega (arith, inside c, all l .most)
+
+at-place : (c : tie.After-highest Inv-loop μ-loop) → let args = begun (turn c) .before .before .args in
+    Slots (args .to .now) (args .cost .now) (args .ds .now) (place c) (getD (args .counts .now) (place c) 0)
+at-place c = let (t, l) = lent (begun (turn c)) in all l .each (place c) (inside c)
 
 count-in-requires-2 : tie.Need-count-in-requires-2 Inv-loop μ-loop
 count-in-requires-2 c κs =
-    let here = turn (selected c .before) in
-    (at-place (selected c), has-room (here .before .loop .inv) (here .loop-test .taken) (selected c .select .ensures))
+    let h = c .before .before in
+    let (t, l) = lent (begun (turn h)) in
+    let inv = turn h .before .loop .inv in
+    (at-place h, room-next l (inv .2 t l) (turn h .loop-test .taken) (h .highest .ensures) (inv .1))
 
 slice-write-out-2 : tie.Need-slice-write-out-2 Inv-loop μ-loop
 slice-write-out-2 c =
-    let here = turn (selected (c .before) .before) in
-    omega (arith, here .loop-test .taken, here .before .loop .inv .room, same-long (here .before .loop .inv))
+    let h = c .before .before .before in
+    let (t, l) = lent (begun (turn h)) in
+    omega (arith, fits l (turn h .before .loop .inv .2 t l) (turn h .loop-test .taken))
 
 add-rank : tie.Need-add-rank Inv-loop μ-loop
 add-rank c =
-    let here = turn (selected (c .before) .before) in omega (arith, here .loop-test .taken, every-slot (here .before .loop .inv .given) .most)
+    let h = c .before .before .before in
+    let (t, l) = lent (begun (turn h)) in
+    omega (arith, turn h .loop-test .taken, all l .most)
 
 loop-again : tie.Need-loop-again Inv-loop μ-loop
 loop-again c =
-    let here = turn (selected (c .before) .before) in
-    again (here .before .loop .inv) (here .loop-test .taken) (selected (c .before) .select .ensures) (c .count-in2 .ensures _)
+    let h = c .before .before .before in
+    let inv = turn h .before .loop .inv in (
+      inv .0,
+      inv .1,
+      λ t l. go-on l (inv .2 t l) (turn h .loop-test .taken) (h .highest .ensures) (inv .1) (c .count-in2 .ensures),
+    )
 
 same-length : tie.Need-same-length Inv-loop μ-loop
-same-length c = same-long (c .before .loop .inv) ∙ simp length-set
+same-length c =
+    let (t, l) = lent (found (lowered (stood (c .before .before)))) in
+    same-long (c .before .loop .inv .2 t l) ∙ simp length-set
 
 returns : tie.Need-returns Inv-loop μ-loop
-returns c =
-    let begin = c .before .before .before in
-    finished (start begin .args .out .now) (waited begin .before .index .ensures) (c .before .loop .inv) (c .loop-test .left)
+returns c t l =
+    let i = found (lowered (stood (c .before .before))) in
+    done (own i l) (i .before .before .args .out .now) (sym (i .index .ensures)) (c .before .loop .inv .2 t (own i l)) (c .loop-test .left)
 
 pub build-spec : {M : Type 1} → statement M
 build-spec =
@@ -94,23 +139,25 @@ build-spec =
     (tie.spec
     Inv-loop
     μ-loop
-    (λ c κs. tt)
-    waits-requires
-    (λ c. first-slots (given (c .before)) .place)
-    (λ c. omega (arith, first-slots (given (c .before .before)) .few))
-    (λ c. first-slots (given (c .before .before)) .place)
+    (λ c κs. search needs)
+    (λ c κs. let (t, l) = lent c in all l .most)
+    (λ c κs. let (t, l) = lent (found (c .before)) in apart l (c .before .lower-ids .ensures))
+    standings-requires
+    (λ c. let (t, l) = lent (found (lowered c)) in all l .each _ (d-in l) .place)
+    (λ c. let (t, l) = lent (found (lowered (c .before))) in omega (arith, all l .each _ (d-in l) .few))
     count-in-requires
-    (λ c. omega (arith, start (c .before) .pre))
+    (λ c. let i = found (lowered (stood c)) in let (t, l) = lent i in omega (arith, d-in l, i .before .before .pre .1))
     loop-holds
-    select-requires
-    (λ c. at-place c .place)
+    highest-requires
+    (λ c. omega arith)
+    (λ c. omega arith)
+    (λ c. omega (arith, within c))
+    within
     (λ c. omega (arith, at-place (c .before) .few))
-    (λ c. at-place (c .before) .place)
     count-in-requires-2
-    (λ c. omega (arith, at-place (selected (c .before)) .place))
     slice-write-out-2
     add-rank
-    (λ c. falls _ _ (turn (selected (c .before) .before) .loop-test .taken))
+    (λ c. search needs)
     loop-again
     same-length
     returns)

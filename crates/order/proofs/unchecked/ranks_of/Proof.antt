@@ -18,7 +18,7 @@ use Rattle.network.proofs.Pigeon.{at-most}
 use Rattle.network.proofs.Rank.{rank-is-turn}
 use Rattle.stations.specs.declared.Rank.{Rank}
 use Rattle.order.specs.Proposed.{Ranked}
-use Rattle.order.proofs.Stored.{stored}
+use Rattle.distances.proofs.Stored.{stored}
 use Rattle.order.proofs.unchecked.ranks_of.Statement.{statement}
 use Rattle.order.proofs.unchecked.ranks_of.Tie as tie
 

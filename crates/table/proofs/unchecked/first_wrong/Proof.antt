@@ -10,6 +10,8 @@ use lib.ListN.{length, getD, take, length-take}
 use lib.Seq.{length-take-le, take-at}
 use Rattle.stations.specs.Topology.{networkOf}
 use Rattle.soundness.proofs.Sound.{sound-exact}
+use Rattle.distances.specs.Settled.{Settled}
+use Rattle.distances.proofs.Slots.{laid-out}
 use Rattle.rows.specs.Bytes.{tableBytes, rowStart}
 use Rattle.table.specs.Listed.{destinationIn, limitIn, orderIn}
 use Rattle.table.specs.Calls.{wrongBytes}
@@ -47,42 +49,50 @@ shared-slice-read-limit c = omega (arith, long (c .before .before))
 shared-slice-read-limit-2 : tie.Need-shared-slice-read-limit-2
 shared-slice-read-limit-2 c = omega (arith, long (c .before .before .before))
 
-distances-requires : tie.Need-distances-requires
-distances-requires c κs =
-    let s = c .before .before .before in (s .pre .on-sound, s .pre .holds, start s .destination)
+to-requires : tie.Need-to-requires
+to-requires c κs =
+    let s : tie.Start = c .before .before .before .before .before .before .before in
+    ((_, laid-out _ _ (s .pre .on-sound) (s .pre .holds)), start s .destination)
+
+-- from the distances back to the start
+abbrev begun : tie.After-to → tie.Start
+begun c = c .before .before .before .before .before .before .before .before
+
+settled : (c : tie.After-to) → let a = begun c .args in Settled (networkOf (a .t)) (getD (now (a .table)) 1 0) (c .to .result)
+settled c = c .to .ensures _ (laid-out _ _ (begun c .pre .on-sound) (begun c .pre .holds))
 
 array-share-prefix-order : tie.Need-array-share-prefix-order
-array-share-prefix-order c = fits (c .before .before .before .before .before)
+array-share-prefix-order c = fits (begun (c .before))
 
 slice-aggregate-fill : tie.Need-slice-aggregate-fill
-slice-aggregate-fill c = let s = c .before .before .before .before .before .before in sym (length-take-le _ _ (fits s))
+slice-aggregate-fill c = let s = begun (c .before .before) in sym (length-take-le _ _ (fits s))
 
 fill-requires : tie.Need-fill-requires
 unfolding rowStart
 fill-requires c κs =
-    let s = c .before .before .before .before .before .before .before in
-    let d = c .before .before .before .distances .ensures in (
+    let s = begun (c .before .before .before) in
+    let d = settled (c .before .before .before) in (
       rw (s .pre .order-is) (fillable _ (s .pre .on-sound) _ (start s .destination) (s .pre .holds) d (start s .limit-most) (start s .in-free)),
       omega (arith, few s, c .before .before .room-for-table .ensures),
     )
 
 -- the room begins with what filling would give
 module _ (c : tie.After-fill) where
-  filled : let s = c .before .before .before .before .before .before .before .before in
+  filled : let s = begun (c .before .before .before .before) in
       take (length (now (s .args .table))) (c .fill .last .1 .1 .1 .1 .1 .1 .0)
       ≡ tableBytes (networkOf (s .args .t)) (getD (now (s .args .table)) 1 0) (getD (now (s .args .table)) 3 0) (orderIn (s .args .t .routers) (now (s .args .table)))
   filled =
-      let s = c .before .before .before .before .before .before .before .before in
+      let s = begun (c .before .before .before .before) in
       ap (take (length (now (s .args .table)))) (rw (s .pre .order-is) at (c .fill .ensures)) ∙ take-at _ _ _ (its-long s ∙ sym (long s))
 
-  as-long : let s = c .before .before .before .before .before .before .before .before in
+  as-long : let s = begun (c .before .before .before .before) in
       length (take (length (now (s .args .table))) (c .fill .last .1 .1 .1 .1 .1 .1 .0)) ≡ length (now (s .args .table))
-  as-long = let s = c .before .before .before .before .before .before .before .before in ap length filled ∙ its-long s ∙ sym (long s)
+  as-long = let s = begun (c .before .before .before .before) in ap length filled ∙ its-long s ∙ sym (long s)
 
 array-share-prefix-room : tie.Need-array-share-prefix-room
 array-share-prefix-room c =
     let f = c .before in
-    let s = f .before .before .before .before .before .before .before .before in
+    let s = begun (f .before .before .before .before) in
     omega (arith, ap length (filled f), length-take (length (now (s .args .table))) (f .fill .last .1 .1 .1 .1 .1 .1 .0), its-long s, long s)
 
 slice-aggregate-first-difference : tie.Need-slice-aggregate-first-difference
@@ -101,7 +111,7 @@ first-wrong-spec =
     (tie.spec
     shared-slice-read-limit
     shared-slice-read-limit-2
-    distances-requires
+    to-requires
     (λ c κs. search needs)
     array-share-prefix-order
     slice-aggregate-fill

@@ -15,7 +15,7 @@ use Rattle.network.specs.Lists.{numbersFrom, below, keep}
 use Rattle.network.proofs.Below.{getD-below, length-map-below}
 use Rattle.stations.specs.Inner.{firstOr}
 use Rattle.order.proofs.Runs.{down-none, down-more, down-all}
-use Rattle.order.proofs.Stored.{stored}
+use Rattle.distances.proofs.Stored.{stored}
 use Rattle.rows.specs.Bytes.{rowStart}
 use Rattle.table.specs.Listed.{rankIn, orderIn}
 use Rattle.table.proofs.unchecked.order_of.Statement.{statement}

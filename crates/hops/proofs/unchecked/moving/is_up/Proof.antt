@@ -7,7 +7,7 @@ use native.Mathlib.Omega.{arith}
 use borrow.Author.Tests.{eq-eqb, ne-eqb}
 use Rattle.network.specs.Lists.{numbersFrom, any}
 use Rattle.network.specs.Routing.{up}
-use Rattle.order.specs.Inner.{slotTo}
+use Rattle.distances.specs.Slots.{slotTo}
 use Rattle.order.proofs.Runs.{down-none, down-more, down-all}
 use Rattle.hops.specs.Inner.{slotUp}
 use Rattle.hops.proofs.Next.{any-at}

@@ -1,0 +1,44 @@
+// For callers that have tested the topology and the destination, and laid out the arcs.
+use super::settling;
+use arcs::SLOTS;
+use stations::Place;
+use stations::ROUTERS;
+ghost use mathlib.Core.Path.{_≡_};
+ghost use Prim.Native.Nat.{_<_, _≤_};
+ghost use Rattle.stations.specs.Limits.{mostRouters};
+ghost use Rattle.stations.specs.declared.Topology.{Topology};
+ghost use Rattle.stations.specs.Topology.{networkOf};
+ghost use Rattle.distances.specs.Settled.{LaidIn, Settled};
+
+// The distances to the destination, by place. In a sound topology none is absent.
+pub fn to<'a>(
+    counts: &'a [u8; ROUTERS],
+    to: &'a [u8; SLOTS],
+    cost: &'a [u16; SLOTS],
+    n: usize,
+    destination: Place,
+) -> [u32; ROUTERS]
+    requires { ⌜ ((t : Topology) × LaidIn t (now counts) (now to) (now cost) n) × (destination .0 < n) ⌝ }
+    ensures { λ r. ⌜ ((t : Topology) → LaidIn t (now (counts .entry)) (now (to .entry)) (now (cost .entry)) n → Settled (networkOf t) (destination .0) r) ⌝ }
+{
+    let d = destination.index();
+    let mut ds = settling::first(n, d);
+    let mut marks = settling::places();
+    let mut k: usize = 0;
+    while k < n {
+        let u = settling::nearest(&ds, &marks, n);
+        let count = counts[u] as usize;
+        marks[u] = settling::SETTLED;
+        settling::relax(&mut ds, to, cost, u, count);
+        k += 1;
+    }
+    ds
+}
+
+// The number of routers itself. It tells the compiler that there are no more than ROUTERS, so that it unrolls a loop over them.
+pub fn bounded(n: usize) -> usize
+    requires { ⌜ n ≤ mostRouters ⌝ }
+    ensures { λ r. ⌜ r ≡ n ⌝ }
+{
+    if n < ROUTERS { n } else { ROUTERS }
+}

@@ -1,0 +1,96 @@
+-- Building where all that is read is lent: the same for every topology that is lent so.
+-- Assumes nothing.
+use Prim.Native.Nat.{ℕ, _+_, _%_, _≤_, _<_}
+use mathlib.Core.List.{List, _++_}
+use mathlib.Core.Option.{some}
+use mathlib.Core.Path.{_≡_, sym, _∙_, ap}
+use native.Mathlib.Omega.{arith}
+use lib.ListN.{length, getD, set, drop}
+use Rattle.network.specs.Network.{size}
+use Rattle.network.specs.Order.{build}
+use Rattle.network.proofs.Selection.{ids-apart}
+use Rattle.stations.specs.declared.Topology.{Topology}
+use Rattle.stations.specs.Topology.{networkOf}
+use Rattle.arcs.specs.declared.Arcs.{Arcs}
+use Rattle.arcs.specs.Arcs.{inSlots}
+use Rattle.order.specs.declared.Mode.{Mode}
+use Rattle.order.specs.Calls.{modeOf}
+use Rattle.order.specs.Proposed.{Lent}
+use Rattle.distances.specs.Slots.{AllSlots}
+use Rattle.order.specs.Inner.{Lower, Apart, Inverse, Standing, Highest, Room, Stepped}
+use Rattle.order.proofs.Setting.{topology-ids}
+use Rattle.order.proofs.Ties.{lower-small, lower-apart}
+use Rattle.order.proofs.Turn.{facts, every-slot, standings-low, first-room}
+use Rattle.order.proofs.Building.{Building, ties-small, same-long, first-turn, selected, found, place, has-room, again, finished}
+
+module _ {t : Topology} {counts to cost ids ds : List ℕ} {n d : ℕ} {m : Mode} (l : Lent t counts to cost ids n d m ds) where
+  abbrev pub slots-of : Arcs
+  slots-of = inSlots counts to cost (l .link)
+
+  pub all : AllSlots counts to cost n ds
+  all = rw (l .routers-are) at (every-slot (l .laid))
+
+  pub d-in : d < n
+  d-in = rw (l .routers-are) at (l .laid .place)
+
+  module _ {lower : List ℕ} (ties : Lower ids n lower) where
+    own-ties : Lower (t .id) (t .routers) lower
+    own-ties = rw (l .ids-are, l .routers-are) ties
+
+    pub small : (u : ℕ) → u < n → getD lower u 0 < 64
+    small u h = omega (arith, lower-small ties u h, all .most)
+
+    pub apart : Apart lower n
+    apart =
+        rw (l .routers-are) at
+        (lower-apart own-ties (every-slot (l .laid) .most)
+        (λ u v h k differ e.
+        let seen = facts (l .laid) in
+        let u-in : u < size (networkOf t) = omega (arith, seen .routers) in
+        let v-in : v < size (networkOf t) = omega (arith, seen .routers) in
+        ids-apart (seen .well-formed) u v u-in v-in differ (topology-ids seen u u-in ∙ e ∙ sym (topology-ids seen v v-in))))
+
+    module _ {keys : List ℕ} (start : Standing counts to cost ds lower m n keys) where
+      own-start : Standing counts to cost ds lower m (t .routers) keys
+      own-start = rw (l .routers-are) start
+
+      pub room-first : Room (set keys d 0) to cost ds m d (getD counts d 0)
+      room-first = first-room (l .laid) (ties-small (l .laid) own-ties) own-start
+
+      pub begin : (first : List ℕ) {x : ℕ} {r : List ℕ} → x ≡ d → n ≤ length first → Stepped (set keys d 0) to cost ds m d (getD counts d 0) r →
+          Building t slots-of d m ds lower (set first 0 x) (set first 0 x) r 1
+      begin first same enough step = rw same (first-turn first (l .laid) own-ties (rw (l .routers-are) enough) own-start step)
+
+  module _ {lower first out keys : List ℕ} {rank : ℕ} (b : Building t slots-of d m ds lower first out keys rank) where
+    pub keys-fit : (u : ℕ) → u < n → getD keys u 0 < 32768
+    keys-fit u h = standings-low (b .given) (ties-small (b .given) (b .ties)) (b .right) u (rw (l .routers-are) h)
+
+    module _ (more : rank < n) where
+      own-more : rank < t .routers
+      own-more = rw (l .routers-are) more
+
+      pub fits : rank < length out
+      fits = omega (arith, own-more, b .room, same-long b)
+
+      module _ {best : ℕ} {places : List ℕ} (top : Highest keys n best) (inverse : Inverse lower n places) where
+        abbrev next : ℕ
+        next = getD places (best % 64) 0
+
+        picked : selected b own-more ≡ some next
+        picked = found b own-more {best = best} {places = places} (rw (l .routers-are) top) (rw (l .routers-are) inverse)
+
+        pub next-in : next < n
+        next-in = rw (l .routers-are) at (place b own-more picked)
+
+        pub room-next : Room (set keys next 0) to cost ds m next (getD counts next 0)
+        room-next = has-room b own-more picked
+
+        pub go-on : {r : List ℕ} → Stepped (set keys next 0) to cost ds m next (getD counts next 0) r →
+            Building t slots-of d m ds lower first (set out rank next) r (rank + 1)
+        go-on step = again b own-more picked step
+
+  pub done : (first : List ℕ) {x : ℕ} {lower out keys : List ℕ} {rank : ℕ} → x ≡ d → Building t slots-of d m ds lower (set first 0 x) out keys rank →
+      n ≤ rank → out ≡ build (networkOf t) x (modeOf m) ++ drop n first
+  done first same b over =
+      rw same
+      (finished first (rw same at b) (rw (l .routers-are) over) ∙ ap (λ (k : ℕ). build (networkOf t) d (modeOf m) ++ drop k first) (l .routers-are))
