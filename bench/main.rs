@@ -1,24 +1,28 @@
-//! What bench/run and bench/walks time beside the proved program: the same work in plain Rust, and plain Dijkstra. Both take the proved program's
-//! input: the kind, how often, and a topology stream. The kind is the mode, `s` or `f` for orders and `S` or `F` for tables; `g` for greatest hop counts,
-//! `w` for walks, `W` for walks over ten times the rows. In `blocks` the states of a schedule are tested in blocks, in `plain` one by one.
+//! What bench/run, bench/count and bench/walks compare with the proved program: the same work in plain Rust, and plain Dijkstra. Both take the proved
+//! program's input: the kind, how often, and a topology stream. The kind is the mode, `s` or `f` for orders and `S` or `F` for tables; `g` for greatest hop
+//! counts, `w` for walks, `W` for walks over ten times the rows. In `blocks` the states of a schedule are tested in blocks, in `plain` one by one. `input`
+//! makes the input: it takes a network's name, the kind and how often.
 mod plain;
 
 use plain::{Link, Mode, Topology, Walked, LINKS, ROUTERS, TABLE};
 use std::io::{Read, Write};
 
-/// A ring of 64 in which each router is linked to the next four, all at cost 1: 256 links, and many equal paths.
-fn ring() -> Vec<(u8, u8, u16)> {
-    (0..64u32).flat_map(|u| (1..5).map(move |k| (u as u8, ((u + k) % 64) as u8, 1))).collect()
+/// The links of a network: two places and a cost each.
+type Links = Vec<(u8, u8, u16)>;
+
+/// A ring in which each router is linked to the next few, the first of them at cost 1, the others at this cost.
+fn ring(routers: u32, next: u32, cost: u16) -> Links {
+    (0..routers).flat_map(|u| (1..=next).map(move |k| (u as u8, ((u + k) % routers) as u8, if k == 1 { 1 } else { cost }))).collect()
 }
 
 /// A random network of 64: a random tree, and then random links up to 256, at most 16 neighbours to a router, costs 1 to 65,535.
-fn random() -> Vec<(u8, u8, u16)> {
+fn random() -> Links {
     let mut seed: u64 = 42;
     let mut next = |n: u64| {
         seed = seed.wrapping_mul(6364136223846793005).wrapping_add(1442695040888963407);
         (seed >> 33) % n
     };
-    let mut links: Vec<(u8, u8, u16)> = Vec::new();
+    let mut links: Links = Vec::new();
     let mut degree = [0; 64];
     while links.len() < 256 {
         let built = links.len() as u64 + 1;
@@ -36,20 +40,49 @@ fn random() -> Vec<(u8, u8, u16)> {
 }
 
 /// A grid of 8 by 8, all at cost 1: 112 links.
-fn grid() -> Vec<(u8, u8, u16)> {
+fn grid() -> Links {
     let across = (0..64u8).filter(|u| u % 8 < 7).map(|u| (u, u + 1, 1));
     let down = (0..56u8).map(|u| (u, u + 8, 1));
     across.chain(down).collect()
 }
 
-/// A ring of 64 at cost 1 with chords to the second, third and fourth next so dear that every shortest path goes round the ring link by link.
-fn chords() -> Vec<(u8, u8, u16)> {
-    (0..64u32).flat_map(|u| (1..5).map(move |k| (u as u8, ((u + k) % 64) as u8, if k == 1 { 1 } else { 65535 }))).collect()
+/// A line of 64 in the order of places, all at cost 1: 63 links.
+fn line() -> Links {
+    (0..63).map(|u| (u, u + 1, 1)).collect()
 }
 
-fn input(mode: u8, times: u16, links: &[(u8, u8, u16)]) -> Vec<u8> {
-    let mut bytes = vec![mode, (times >> 8) as u8, times as u8];
-    for id in 1..65u32 {
+/// A line of 64 against the order of places at cost 1, with chords over one router so dear that every shortest path goes along the line: 125 links.
+fn against() -> Links {
+    let along = (1..64u8).rev().map(|u| (u, u - 1, 1));
+    let over = (2..64u8).rev().map(|u| (u, u - 2, 65535));
+    along.chain(over).collect()
+}
+
+/// A binary tree of 64, all at cost 1: 63 links.
+fn tree() -> Links {
+    (1..64).map(|u| ((u - 1) / 2, u, 1)).collect()
+}
+
+fn network(name: &str) -> Links {
+    match name {
+        // Each router is linked to the next four, all at cost 1: 256 links, and many equal paths.
+        "ring" => ring(64, 4, 1),
+        "random" => random(),
+        "grid" => grid(),
+        "line" => line(),
+        "against" => against(),
+        // The same ring with links to all but the next so dear that every shortest path goes round the ring link by link.
+        "chords" => ring(64, 4, 65535),
+        "tree" => tree(),
+        // For growth, of so many routers: each is linked to the next two, all at cost 1.
+        _ => ring(name.strip_prefix("ring").and_then(|n| n.parse().ok()).expect("a network"), 2, 1),
+    }
+}
+
+fn input(kind: u8, times: u16, links: &Links) -> Vec<u8> {
+    let mut bytes = vec![kind, (times >> 8) as u8, times as u8];
+    let last = links.iter().map(|l| l.0.max(l.1)).max().expect("links") as u32;
+    for id in 1..last + 2 {
         bytes.push(1);
         bytes.extend(id.wrapping_mul(2654435761).to_be_bytes());
     }
@@ -88,7 +121,7 @@ fn added(sum: u32, byte: u8) -> u32 {
 fn orders(t: &Topology, mode: Mode, times: u32) -> u32 {
     let mut sum = 0;
     for _ in 0..times {
-        for d in 0..ROUTERS as u8 {
+        for d in 0..t.routers as u8 {
             let mut out = [0u8; ROUTERS];
             plain::build(t, d, mode, &mut out);
             sum = out.iter().fold(sum, |s, &b| added(s, b));
@@ -152,7 +185,7 @@ fn next_hops(t: &Topology, times: u32) -> u32 {
     let mut sum = 0;
     for _ in 0..times {
         let a = plain::arcs_of(t);
-        for d in 0..ROUTERS {
+        for d in 0..t.routers {
             let (_, hops) = plain::ecmp(&a, t.routers, d);
             sum = hops.iter().fold(sum, |s, &h| added(s, h as u8));
         }
@@ -163,14 +196,8 @@ fn next_hops(t: &Topology, times: u32) -> u32 {
 fn main() {
     let args: Vec<String> = std::env::args().collect();
     if args[1] == "input" {
-        let links = match args[2].as_str() {
-            "ring" => ring(),
-            "random" => random(),
-            "grid" => grid(),
-            _ => chords(),
-        };
         let times: u16 = args[4].parse().expect("a number");
-        std::io::stdout().write_all(&input(args[3].as_bytes()[0], times, &links)).expect("standard output");
+        std::io::stdout().write_all(&input(args[3].as_bytes()[0], times, &network(&args[2]))).expect("standard output");
         return;
     }
     let mut bytes = Vec::new();
