@@ -79,8 +79,9 @@ fn network(name: &str) -> Links {
     }
 }
 
+/// The input for a network, its limit, 16, first: no row is cut.
 fn input(kind: u8, times: u16, links: &Links) -> Vec<u8> {
-    let mut bytes = vec![kind, (times >> 8) as u8, times as u8];
+    let mut bytes = vec![kind, (times >> 8) as u8, times as u8, 8, 16];
     let last = links.iter().map(|l| l.0.max(l.1)).max().expect("links") as u32;
     for id in 1..last + 2 {
         bytes.push(1);
@@ -94,11 +95,11 @@ fn input(kind: u8, times: u16, links: &Links) -> Vec<u8> {
     bytes
 }
 
-/// The topology of a stream that is known to be sound.
+/// The topology of a stream that `input` made.
 fn topology(stream: &[u8]) -> Topology {
     let none = Link { first: 0, second: 0, cost: 0 };
-    let mut t = Topology { routers: 0, links: 0, limit: 16, id: [0; ROUTERS], link: [none; LINKS] };
-    for record in stream.chunks(5) {
+    let mut t = Topology { routers: 0, links: 0, limit: stream[1], id: [0; ROUTERS], link: [none; LINKS] };
+    for record in stream[2..].chunks(5) {
         match record[0] {
             1 => {
                 t.id[t.routers] = u32::from_be_bytes([record[1], record[2], record[3], record[4]]);

@@ -4,7 +4,7 @@ use crate::plain::{Link, Topology, LINKS, NEIGHBOURS, ROUTERS};
 const NONE: Link = Link { first: 0, second: 0, cost: 0 };
 
 fn empty() -> Topology {
-    Topology { routers: 0, links: 0, limit: 16, id: [0; ROUTERS], link: [NONE; LINKS] }
+    Topology { routers: 0, links: 0, limit: 3, id: [0; ROUTERS], link: [NONE; LINKS] }
 }
 
 /// Which pairs are linked: by place a bit for each neighbour.

@@ -40,7 +40,7 @@ def apart(ids, links):
 
 def read(stream):
     """IDs by place, links by number, and K."""
-    ids, links, limit, at = [], [], 16, 0
+    ids, links, limit, at = [], [], 3, 0
     while at < len(stream):
         kind, fault = stream[at], 0
         if kind not in BODY:

@@ -9,7 +9,7 @@ use lib.ListN.{length, take}
 use Rattle.text.specs.Fields.{asks}
 use Rattle.text.specs.Lines.{Put}
 use Rattle.requests.specs.Requests.{Held, Answered, unchanged, refused, setWord, readIn, loadIn, loadPacketIn, setIn, hopIn}
-use Rattle.replies.specs.Calls.{writeIn, orderIn, checkOrderIn, fillIn, checkTable, countIn, walkIn, listIn}
+use Rattle.replies.specs.Calls.{writeIn, orderIn, checkOrderIn, fillIn, checkTable, countIn, walkIn, listIn, oldStreamIn}
 use Rattle.requests.specs.Replies.{heldIn}
 use Rattle.console.specs.declared.answers.Turn.{Turn}
 use Rattle.console.specs.declared.answers.Request.{Request}
@@ -63,6 +63,10 @@ walkWord = 119 ∷ 97 ∷ 108 ∷ 107 ∷ []
 unfoldable pub listingWord : List ℕ
 listingWord = 108 ∷ 105 ∷ 115 ∷ 116 ∷ 105 ∷ 110 ∷ 103 ∷ []
 
+-- `old-stream`
+unfoldable pub oldStreamWord : List ℕ
+oldStreamWord = 111 ∷ 108 ∷ 100 ∷ 45 ∷ 115 ∷ 116 ∷ 114 ∷ 101 ∷ 97 ∷ 109 ∷ []
+
 -- A request's first word, and the number of fields after it.
 pub record Form : Type 0 where
   pub word : List ℕ
@@ -83,7 +87,8 @@ forms =
     record { word = setWord; fields = 1; request = request.Set } ∷
     record { word = hopWord; fields = 1; request = request.Hop } ∷
     record { word = walkWord; fields = 2; request = request.Walk } ∷
-    record { word = listingWord; fields = 2; request = request.Listing } ∷ []
+    record { word = listingWord; fields = 2; request = request.Listing } ∷
+    record { word = oldStreamWord; fields = 2; request = request.OldStream } ∷ []
 
 -- the request of the first form that a line has
 unfoldable pub formed : List Form → List ℕ → Request
@@ -109,6 +114,7 @@ answerTo request.Set h line = setIn h line
 answerTo request.Hop h line = hopIn h line
 answerTo request.Walk h line = unchanged h (walkIn h line)
 answerTo request.Listing h line = unchanged h (listIn (h .topology) line)
+answerTo request.OldStream h line = unchanged h (oldStreamIn line)
 answerTo request.Unknown h line = refused h
 
 -- what a line answers

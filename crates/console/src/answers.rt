@@ -30,6 +30,7 @@ pub enum Request {
     Hop,
     Walk,
     Listing,
+    OldStream,
     Unknown,
 }
 
@@ -43,7 +44,7 @@ pub struct Turn {
 struct Shape(usize, Request);
 
 // In the order of the words in `request_in`.
-const SHAPES: [Shape; 13] = [
+const SHAPES: [Shape; 14] = [
     Shape(1, Request::Topology),
     Shape(1, Request::Write),
     Shape(3, Request::Order),
@@ -57,13 +58,14 @@ const SHAPES: [Shape; 13] = [
     Shape(1, Request::Hop),
     Shape(2, Request::Walk),
     Shape(2, Request::Listing),
+    Shape(2, Request::OldStream),
 ];
 
 fn request_in(line: &[u8]) -> Request
     ensures { λ r. ⌜ r ≡ requestIn (now (line .entry)) ⌝ }
 {
     let words =
-        b"topology write order check-order fill load-table check-table greatest load-packet set hop walk listing";
+        b"topology write order check-order fill load-table check-table greatest load-packet set hop walk listing old-stream";
     let shapes = SHAPES;
     let mut k: usize = 0;
     while k < shapes.len() {
@@ -120,6 +122,10 @@ fn step(h: Holding, table: &mut [u8], line: &[u8], buffer: &mut [u8]) -> Step
         Request::Listing => Step {
             held: h,
             reply: calls::list(t, line, buffer),
+        },
+        Request::OldStream => Step {
+            held: h,
+            reply: calls::prefix_limit(line, buffer),
         },
         Request::Unknown => Step {
             held: h,

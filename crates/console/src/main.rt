@@ -15,6 +15,7 @@
 //     hop STATES                  delivered, moved or dropped, then STATION HOPS as the held packet is now; or refused NUMBER AT
 //     walk START SCHEDULE         delivered or dropped, then STATION HOPS; or refused NUMBER AT
 //     listing D ROOM              NUMBER AT BUFFER
+//     old-stream STREAM ROOM      NUMBER AT BUFFER
 //
 // BUFFER is ROOM bytes of `aa`, at most 65,536 of them, as the call left it. D, START, STATION and HOPS are at most 255, and MODE is `shortest` or `free`.
 // Any other line, and one of more than 262,144 bytes, answers `error` and changes nothing.

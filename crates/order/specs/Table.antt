@@ -31,13 +31,13 @@ holds (builds t d m buffer number at bytes) =
 unfoldable pub link : ℕ → ℕ → ℕ → Link
 link first second cost = record { first = record { 0 = first }; second = record { 0 = second }; cost = cost }
 
--- 01, Two networks by hand: T
+-- 01, Two networks by hand: T, its K that of a stream that gives none
 unfoldable pub T-topology : Topology
-T-topology = held (record { ids = 1 ∷ 2 ∷ 3 ∷ []; links = link 0 1 1 ∷ link 1 2 1 ∷ link 0 2 3 ∷ []; limit = 16 })
+T-topology = held (record { ids = 1 ∷ 2 ∷ 3 ∷ []; links = link 0 1 1 ∷ link 1 2 1 ∷ link 0 2 3 ∷ []; limit = 3 })
 
 -- 01, Plausible and wrong: place 3 has the two shortest next hops 1 and 2 to place 0
 unfoldable pub square : Topology
-square = held (record { ids = 1 ∷ 2 ∷ 3 ∷ 4 ∷ []; links = link 0 1 1 ∷ link 0 2 1 ∷ link 1 3 1 ∷ link 2 3 1 ∷ []; limit = 16 })
+square = held (record { ids = 1 ∷ 2 ∷ 3 ∷ 4 ∷ []; links = link 0 1 1 ∷ link 0 2 1 ∷ link 1 3 1 ∷ link 2 3 1 ∷ []; limit = 3 })
 
 -- By number of the refusal, each beside one that is tested later; then the calls that succeed. 170 is what the buffers hold.
 unfoldable pub facts : List Fact

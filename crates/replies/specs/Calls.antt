@@ -7,6 +7,7 @@ use Rattle.network.specs.Forwarding.{Walk, delivered-at, dropped-at, unfinished
 use Rattle.stations.specs.declared.Topology.{Topology}
 use Rattle.stations.specs.Outcome.{Outcome}
 use Rattle.topology.specs.Written.{writing}
+use Rattle.topology.specs.OldLimit.{withOldLimit}
 use Rattle.order.specs.Calls.{building, checking}
 use Rattle.table.specs.Calls.{filling, tableChecking}
 use Rattle.packet.specs.Calls as said
@@ -86,6 +87,12 @@ walkBy h (Is u) (Is n) schedule = walkText (walking (h .topology) (h .table) u s
 walkBy h (Is u) Wrong schedule = errorLine
 walkBy h Wrong n schedule = errorLine
 
+-- `old-stream STREAM ROOM`, where the fields hold this, the first a count of bytes, and these are the bytes
+unfoldable pub oldStreamBy : Value → List ℕ → Value → List ℕ
+oldStreamBy (Is n) stream (Is room) = bufferOf (withOldLimit stream (lent room))
+oldStreamBy (Is n) stream Wrong = errorLine
+oldStreamBy Wrong stream room = errorLine
+
 -- each request, by the fields of its line
 unfoldable pub writeIn : Topology → List ℕ → List ℕ
 writeIn t line = writeBy t (number mostRoom (field 1 line))
@@ -112,3 +119,6 @@ listIn t line = listBy t (number mostByte (field 1 line)) (number mostRoom (fiel
 
 unfoldable pub walkIn : Held → List ℕ → List ℕ
 walkIn h line = walkBy h (number mostByte (field 1 line)) (byteCount (field 2 line)) (bytes (field 2 line))
+
+unfoldable pub oldStreamIn : List ℕ → List ℕ
+oldStreamIn line = oldStreamBy (byteCount (field 1 line)) (bytes (field 1 line)) (number mostRoom (field 2 line))

@@ -17,3 +17,7 @@ mostNeighbours = 16
 -- a next-hop limit K from 1 to 16
 abbrev pub mostNextHops : ℕ
 mostNextHops = 16
+
+-- 02, #101: a stream without record 8 means K = 3
+abbrev pub defaultNextHops : ℕ
+defaultNextHops = 3

@@ -10,6 +10,9 @@ pub const NEIGHBOURS: usize = 16;
 
 pub const NEXT_HOPS: u8 = 16;
 
+// The next-hop limit of a stream that gives none (02, #101).
+pub const DEFAULT_NEXT_HOPS: u8 = 3;
+
 // 01, Stations, links and limits: a router's place is its turn in the stream, from 0. "Place" and "rank" are 01's terms.
 pub struct Place(pub u8);
 

@@ -41,7 +41,7 @@ unfolding records recordIn decoded bodyLength
 next-unknown kind n1 n2 n3 n8 rest =
     rw (ne-eqb kind 1 n1, ne-eqb kind 2 n2, ne-eqb kind 8 n8, ne-eqb kind 3 n3, le-ltb (length rest) 0 (omega arith))
 
-next-cut : (kind : ℕ) (body : List ℕ) → length body < bodyLength kind → records 0 (kind ∷ body) ≡ record-of.Refused 1 ∷ records (bodyLength kind) body
+pub next-cut : (kind : ℕ) (body : List ℕ) → length body < bodyLength kind → records 0 (kind ∷ body) ≡ record-of.Refused 1 ∷ records (bodyLength kind) body
 unfolding records recordIn
 next-cut kind body h = rw (lt-ltb (length body) (bodyLength kind) h)
 

@@ -8,7 +8,7 @@ use lib.ListN.{length}
 use Rattle.network.specs.Lists.{any, member}
 use Rattle.network.specs.Network.{arcsOf, samePair}
 use Rattle.stations.specs.declared.Link.{Link}
-use Rattle.stations.specs.Limits.{mostRouters, mostLinks, mostNeighbours, mostNextHops}
+use Rattle.stations.specs.Limits.{mostRouters, mostLinks, mostNeighbours, mostNextHops, defaultNextHops}
 use Rattle.stations.specs.Outcome.{answer}
 use Rattle.stations.specs.Topology.{Contents, held, zeros, seen, networkIn}
 use Rattle.soundness.specs.Apart.{apart}
@@ -100,9 +100,9 @@ unfoldable pub inTurn : ℕ → Contents → List Record → Reading
 inTurn at c [] = refusal 1 at
 inTurn at c (r ∷ rs) = unless (fault c r) at (cond (isEnd r) (ended (some? rs) at c) (inTurn (at + width r) (added c r) rs))
 
--- 01, Topology stream: before the first record nothing is listed, and K is 16
+-- 01, Topology stream: before the first record nothing is listed; 02, #101: K is 3
 unfoldable pub nothingListed : Contents
-nothingListed = record { ids = []; links = []; limit = mostNextHops }
+nothingListed = record { ids = []; links = []; limit = defaultNextHops }
 
 -- 01, Topology stream: what reading a stream returns
 unfoldable pub reading : List ℕ → Reading

@@ -139,9 +139,10 @@ abbrev pub linkOf : ℕ → ℕ → ℕ → ℕ → Link
 linkOf u v e f = record { first = record { 0 = u }; second = record { 0 = v }; cost = e * 256 + f }
 
 -- 01, Topology stream: record after record these bytes list these contents, and none has a fault. A router is kind 1 and its ID, a link kind 2, its
--- places and its cost, a limit kind 8 and K; routers get places and links numbers by turn, the last K stands, and K is 16 if there is none.
+-- places and its cost, a limit kind 8 and K; routers get places and links numbers by turn, the last K stands, and K is 3 if there is none
+-- (02, #101).
 pub data Lists : List ℕ → Contents → Type 0 where
-  nothing : Lists [] (record { ids = []; links = []; limit = 16 })
+  nothing : Lists [] (record { ids = []; links = []; limit = 3 })
   router : {s : List ℕ} {c : Contents} (a b e f : ℕ) → fault c (record-of.Router (fourBytes a b e f)) ≡ 0 → Lists s c →
       Lists (s ++ (1 ∷ a ∷ b ∷ e ∷ f ∷ [])) (record { ids = c .ids ++ (fourBytes a b e f ∷ []); links = c .links; limit = c .limit })
   link : {s : List ℕ} {c : Contents} (u v e f : ℕ) → fault c (record-of.Link (linkOf u v e f)) ≡ 0 → Lists s c →

@@ -4,8 +4,8 @@ mod records;
 mod taking;
 
 use stations::Answer;
+use stations::DEFAULT_NEXT_HOPS;
 use stations::Link;
-use stations::NEXT_HOPS;
 use stations::ROUTERS;
 use stations::Topology;
 ghost use mathlib.Core.Path.{_≡_};
@@ -31,7 +31,7 @@ pub enum Record {
 pub fn read(stream: &[u8]) -> Reading
     ensures { λ r. ⌜ r ≡ reading (now (stream .entry)) ⌝ }
 {
-    let mut t = taking::blank(NEXT_HOPS);
+    let mut t = taking::blank(DEFAULT_NEXT_HOPS);
     let mut linked = [false; ROUTERS * ROUTERS];
     let mut count = [0usize; ROUTERS];
     let mut at: usize = 0;

@@ -32,7 +32,7 @@ holds (in-mode t table shortest) = Bool·beq (inShortestPathMode (networkOf t) t
 
 -- one router, no links
 unfoldable pub lone : Topology
-lone = held (record { ids = 7 ∷ []; links = []; limit = 16 })
+lone = held (record { ids = 7 ∷ []; links = []; limit = 3 })
 
 -- 01, Two networks by hand: F's links, with IDs and a next-hop limit. F has the IDs 1 to 6; with 6 to 1 they fall as the place rises.
 unfoldable pub F-links : List ℕ → ℕ → Topology
@@ -61,21 +61,21 @@ two rank v w rest = 17 ∷ rank ∷ 2 ∷ v ∷ w ∷ (replicate 14 255 ++ rest)
 
 -- the table of the one router
 unfoldable pub lone-table : List ℕ
-lone-table = 16 ∷ 0 ∷ 1 ∷ 16 ∷ none 0 []
+lone-table = 16 ∷ 0 ∷ 1 ∷ 3 ∷ none 0 []
 
 -- 01, Two networks by hand: T's tables by its listing, destination, router count and K in the header, then a line a row
 unfoldable pub T-table-0 : List ℕ
-T-table-0 = 16 ∷ 0 ∷ 3 ∷ 16 ∷ none 0 (one 1 0 (two 2 1 0 []))
+T-table-0 = 16 ∷ 0 ∷ 3 ∷ 3 ∷ none 0 (one 1 0 (two 2 1 0 []))
 
 unfoldable pub T-table-1 : List ℕ
-T-table-1 = 16 ∷ 1 ∷ 3 ∷ 16 ∷ two 2 1 2 (none 0 (one 1 1 []))
+T-table-1 = 16 ∷ 1 ∷ 3 ∷ 3 ∷ two 2 1 2 (none 0 (one 1 1 []))
 
 unfoldable pub T-table-2 : List ℕ
-T-table-2 = 16 ∷ 2 ∷ 3 ∷ 16 ∷ two 2 1 2 (one 1 2 (none 0 []))
+T-table-2 = 16 ∷ 2 ∷ 3 ∷ 3 ∷ two 2 1 2 (one 1 2 (none 0 []))
 
 -- T, d = 0, in free mode: order 0 2 1, the row of place 1 being 0 2
 unfoldable pub T-table-free : List ℕ
-T-table-free = 16 ∷ 0 ∷ 3 ∷ 16 ∷ none 0 (two 2 0 2 (one 1 0 []))
+T-table-free = 16 ∷ 0 ∷ 3 ∷ 3 ∷ none 0 (two 2 0 2 (one 1 0 []))
 
 -- 01, Two networks by hand: F's rows for d = 0, with K = 16 and with K = 1
 unfoldable pub F-table : List ℕ

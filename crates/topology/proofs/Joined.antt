@@ -22,6 +22,11 @@ pub link-five : (l : Link) → length (linkBytes l) ≡ 5
 unfolding linkBytes inBytes
 link-five l = refl
 
+pub joined-alike : {A : Type 0} (f g : A → List ℕ) → ((x : A) → f x ≡ g x) → (xs : List A) → joinedOver f xs ≡ joinedOver g xs
+unfolding joinedOver
+joined-alike f g same [] = refl
+joined-alike f g same (x ∷ xs) = rw (same x, joined-alike f g same xs)
+
 module _ {A : Type 0} (f : A → List ℕ) where
   pub joined-last : (xs : List A) (x : A) → joinedOver f (xs ++ (x ∷ [])) ≡ joinedOver f xs ++ f x
   unfolding joinedOver

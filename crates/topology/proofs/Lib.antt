@@ -6,4 +6,5 @@ pub mod Rewritten
 pub mod TakenInTurn
 pub mod RoundTrip
 pub mod Outcomes
+pub mod OldStreams
 pub mod Table

@@ -46,21 +46,13 @@ each-record f g [] rest h = refl
 each-record f g (x ∷ xs) rest h =
     rw append-assoc (h x (List·Memᴰ·head refl) _ ∙ ap (λ (rs : List Record). g x ∷ rs) (each-record f g xs rest (λ y m. h y (List·Memᴰ·tail m))))
 
--- record 8 if K is not 16
-unfoldable pub limitRecords : ℕ → List Record
-limitRecords k = cond (eqb k mostNextHops) [] (record-of.Limit k ∷ [])
-
 -- what a topology is written as
 unfoldable pub recordsOf : Contents → List Record
-recordsOf c = limitRecords (c .limit) ++ (map record-of.Router (c .ids) ++ (map record-of.Link (c .links) ++ (record-of.End ∷ [])))
+recordsOf c = record-of.Limit (c .limit) ∷ (map record-of.Router (c .ids) ++ (map record-of.Link (c .links) ++ (record-of.End ∷ [])))
 
-limit-records : (k : ℕ) (rest : List ℕ) → records 0 (limitBytes k ++ rest) ≡ limitRecords k ++ records 0 rest
-unfolding limitBytes limitRecords
-limit-records k rest = cases (eqb k mostNextHops)
-  where
-    cases : (b : Bool) → records 0 (cond b [] (8 ∷ k ∷ []) ++ rest) ≡ cond b [] (record-of.Limit k ∷ []) ++ records 0 rest
-    cases true = refl
-    cases false = next-limit k rest
+limit-records : (k : ℕ) (rest : List ℕ) → records 0 (limitBytes k ++ rest) ≡ record-of.Limit k ∷ records 0 rest
+unfolding limitBytes
+limit-records k rest = next-limit k rest
 
 pub written-records : (t : Topology) → ((id : ℕ) → List·Memᴰ id (contents t .ids) → id < 2 ^ 32) →
     ((l : Link) → List·Memᴰ l (contents t .links) → l .cost < 2 ^ 16) → records 0 (written t) ≡ recordsOf (contents t)

@@ -1,14 +1,14 @@
 -- A sound topology holds its contents and zeros behind them, so reading its stream, whose records are taken with no fault, returns it; what is
 -- written is bytes, as K and places are below 256.
 -- Assumes nothing.
-use Prim.Native.Nat.{ℕ, _+_, _-_, _*_, _≤_, _<_, _^_}
-use mathlib.Core.Bool.{Bool, true, false, cond}
+use Prim.Native.Nat.{ℕ, _+_, _-_, _*_, _/_, _%_, _≤_, _<_, _^_}
 use mathlib.Core.List.{List, [], _∷_, _++_, List·Memᴰ, List·Memᴰ·head, List·Memᴰ·tail, List·Memᴰ·not-nil, List·Memᴰ·cases-cons, Memᴰ·map}
 use mathlib.Core.List.{List·Memᴰ·append-cases}
 use mathlib.Core.Logic.{⊎-elim}
 use mathlib.Core.Path.{_≡_, refl, sym, _∙_, ap}
+use native.Mathlib.Nat.{div-one}
 use native.Mathlib.Omega.{arith}
-use lib.Dec.{T, eqb}
+use lib.Dec.{T}
 use lib.ListN.{length, take, drop, replicate, length-drop, take-append-drop}
 use lib.Seq.{length-take-le}
 use Rattle.network.proofs.Lists.{mem-take}
@@ -28,6 +28,7 @@ use Rattle.stream.proofs.Digits.{byte-below}
 use Rattle.stream.proofs.Returned.{reads-sound}
 use Rattle.topology.specs.Written.{joinedOver, routerBytes, linkBytes, limitBytes, written}
 use Rattle.topology.specs.Theorems.{WrittenRead, SoundIsRead, WrittenLong}
+use Rattle.topology.proofs.Joined.{joined-alike}
 use Rattle.topology.proofs.Rewritten.{written-records}
 use Rattle.topology.proofs.WrittenLength.{written-length}
 use Rattle.topology.proofs.TakenInTurn.{GoodLinks, GoodContents, all-taken}
@@ -66,23 +67,7 @@ bytes-joined g (x ∷ xs) each =
 
 limit-bytes : (k : ℕ) → k < 256 → Bytes (limitBytes k)
 unfolding limitBytes
-limit-bytes k h = cases (eqb k 16)
-  where
-    cases : (b : Bool) → Bytes (cond b [] (8 ∷ k ∷ []))
-    cases true = bytes-none
-    cases false = bytes-cons 8 (k ∷ []) (omega arith) (bytes-cons k [] h bytes-none)
-
-limit-length : (k : ℕ) → length (limitBytes k) ≡ cond (eqb k 16) 0 2
-unfolding limitBytes
-limit-length k = cases (eqb k 16)
-  where
-    cases : (b : Bool) → length {A = ℕ} (cond b [] (8 ∷ k ∷ [])) ≡ cond b 0 2
-    cases true = refl
-    cases false = refl
-
-limit-most : (b : Bool) → cond b 0 2 ≤ 2
-limit-most true = omega arith
-limit-most false = omega arith
+limit-bytes k h = bytes-cons 8 (k ∷ []) (omega arith) (bytes-cons k [] h bytes-none)
 
 module _ (t : Topology) (s : T (sound t)) where
   f : Sound t
@@ -158,10 +143,6 @@ module _ (t : Topology) (s : T (sound t)) where
       bytes-cons 2 _ (omega arith) (bytes-cons (l .first .0) _ first (bytes-cons (l .second .0) _ second (byte-below 2 (l .cost))))))
       (bytes-cons 3 [] (omega arith) bytes-none)))
 
-  written-length-is : length (written t) ≡ cond (eqb (t .limit) 16) 0 2 + 5 * t .routers + 5 * t .links + 1
-  written-length-is =
-      omega (arith, written-length t routers-in links-in, limit-length (t .limit))
-
 pub written-read : WrittenRead
 written-read = read-again
 
@@ -171,10 +152,21 @@ sound-is-read t = (
   λ (s, (bytes, e)). rw e at (reads-sound s bytes .is-sound (ap (λ (r : Reading). r .answer .number) e)),
 )
 
+-- bytes by division; the last byte of a number is its remainder
+router-spelled : (id : ℕ) → routerBytes id ≡ 1 ∷ id / 16777216 % 256 ∷ id / 65536 % 256 ∷ id / 256 % 256 ∷ id % 256 ∷ []
+unfolding routerBytes inBytes
+router-spelled id = simp div-one
+
+link-spelled : (l : Link) → linkBytes l ≡ 2 ∷ l .first .0 ∷ l .second .0 ∷ l .cost / 256 % 256 ∷ l .cost % 256 ∷ []
+unfolding linkBytes inBytes
+link-spelled l = simp div-one
+
 pub written-long : WrittenLong
+unfolding written contents limitBytes
 written-long t s =
     record {
+      stream = rw (joined-alike routerBytes _ router-spelled, joined-alike linkBytes _ link-spelled);
       bytes = written-bytes t s;
-      long = written-length-is t s;
-      most = omega (arith, written-length-is t s, limit-most (eqb (t .limit) 16), f t s .routers-most, f t s .links-most);
+      long = written-length t (routers-in t s) (links-in t s);
+      most = omega (arith, written-length t (routers-in t s) (links-in t s), f t s .routers-most, f t s .links-most);
     }

@@ -29,7 +29,7 @@ use Rattle.stream.specs.declared.Record.the-variants as record-of
 use Rattle.stream.specs.Reading.{accepted, fault, added, width, isEnd, joined, ended, unless, some?, inTurn, nothingListed}
 use Rattle.stream.proofs.NoFault.{NewRouter, NewLink, router-passes, link-passes}
 use Rattle.stream.proofs.InTurn.{goes-on}
-use Rattle.topology.proofs.Rewritten.{limitRecords, recordsOf}
+use Rattle.topology.proofs.Rewritten.{recordsOf}
 
 -- the reading goes on so, from somewhere
 record Goes (r : Reading) (c : Contents) (rs : List Record) : Type 0 where
@@ -108,16 +108,11 @@ module _ (k : ℕ) (ids : List ℕ) (rest : List Record) where
       first (goes-on at (linked before) (record-of.Link l) _ (link-passes (linked before) l .1 (new-link before l after s)) refl)
       (rw e at (links-taken after (before ++ (l ∷ [])) (at + width (record-of.Link l)) (rw e s)))
 
--- K, if it is not the one that stands before the first record
+-- K, in place of the one that stands before the first record
 limit-taken : (k : ℕ) (rest : List Record) → T (within 16 k) →
-    Goes (inTurn 0 nothingListed (limitRecords k ++ rest)) (record { ids = []; links = []; limit = k }) rest
-unfolding limitRecords nothingListed fault added isEnd
-limit-taken k rest t = cases (eqb k 16) refl
-  where
-    cases : (b : Bool) → eqb k 16 ≡ b →
-        Goes (inTurn 0 nothingListed (cond b [] (record-of.Limit k ∷ []) ++ rest)) (record { ids = []; links = []; limit = k }) rest
-    cases true e = record { at = 0; on = rw (eqb-true k 16 e) }
-    cases false e = record { at = _; on = goes-on 0 nothingListed (record-of.Limit k) rest (passes (within 16 k) t 0 16) refl }
+    Goes (inTurn 0 nothingListed (record-of.Limit k ∷ rest)) (record { ids = []; links = []; limit = k }) rest
+unfolding nothingListed fault added isEnd
+limit-taken k rest t = record { at = _; on = goes-on 0 nothingListed (record-of.Limit k) rest (passes (within 16 k) t 0 16) refl }
 
 end-taken : (at : ℕ) (c : Contents) → 0 < length (c .ids) → apart c ≡ [] → inTurn at c (record-of.End ∷ []) ≡ accepted c
 unfolding inTurn unless fault isEnd some? ended joined

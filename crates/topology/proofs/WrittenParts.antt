@@ -2,7 +2,7 @@
 -- Assumes nothing.
 use Prim.Native.Nat.{ℕ, _+_, _*_, _≤_}
 use mathlib.Core.List.{List, _++_, append-assoc}
-use mathlib.Core.Path.{_≡_, _∙_}
+use mathlib.Core.Path.{_≡_, refl, _∙_}
 use native.Mathlib.Omega.{arith}
 use lib.ListN.{length, take, set, length-append}
 use lib.Seq.{length-take-le}
@@ -21,19 +21,19 @@ module _
     (buffer : List ℕ)
     (fits : length (written t) ≤ length buffer)
   where
-    pub parts-written : {one two three : List ℕ} {p q end : ℕ}
-        → (p ≡ length (limitBytes (t .limit))) × (one ≡ over buffer 0 (limitBytes (t .limit)))
-        → (q ≡ p + 5 * t .routers) × (two ≡ over one p (joinedOver routerBytes (contents t .ids)))
+    pub parts-written : {one two three : List ℕ} {q end : ℕ}
+        → one ≡ over buffer 0 (limitBytes (t .limit))
+        → (q ≡ 2 + 5 * t .routers) × (two ≡ over one 2 (joinedOver routerBytes (contents t .ids)))
         → (end ≡ q + 5 * t .links) × (three ≡ over two q (joinedOver linkBytes (contents t .links)))
         → set three end 3 ≡ over buffer 0 (written t)
-    unfolding written contents
-    parts-written {one} {two} {three} {p} {q} {end} (p≡, one≡) (q≡, two≡) (end≡, three≡) =
+    unfolding written contents limitBytes
+    parts-written {one} {two} {three} {q} {end} one≡ (q≡, two≡) (end≡, three≡) =
         let k : List ℕ = limitBytes (t .limit) in
         let rs : List ℕ = joinedOver routerBytes (take (t .routers) (t .id)) in
         let ls : List ℕ = joinedOver linkBytes (take (t .links) (t .link)) in
         let rn : length rs ≡ 5 * t .routers = joined-many routerBytes router-five _ (length-take-le (t .routers) (t .id) ids) in
         let ln : length ls ≡ 5 * t .links = joined-many linkBytes link-five _ (length-take-le (t .links) (t .link) links) in
-        let first : two ≡ over buffer 0 (k ++ rs) = rw (two≡, one≡) (over-over buffer 0 k rs p (omega arith) (omega arith)) in
+        let first : two ≡ over buffer 0 (k ++ rs) = rw (two≡, one≡) (over-over buffer 0 k rs 2 refl (omega arith)) in
         let then : three ≡ over buffer 0 (k ++ rs ++ ls) =
         rw (three≡, first) (over-over buffer 0 (k ++ rs) ls q (simp length-append (omega arith)) (omega arith)) in
         rw then (over-next buffer 0 (k ++ rs ++ ls) 3 end (simp length-append (omega arith)) (omega (arith, written-length t ids links))

@@ -1,4 +1,6 @@
 pub mod Written
 pub mod Inner
+pub mod OldLimit
 pub mod Theorems
+pub mod OldStreams
 pub mod Table

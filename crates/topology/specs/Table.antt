@@ -20,16 +20,16 @@ holds fact = sameNumbers (written (reading (fact .stream) .topology)) (fact .byt
 unfoldable pub writes : List ℕ → List ℕ → Fact
 writes stream bytes = record { stream = stream; bytes = bytes }
 
--- T; T with K 7; K behind the routers; K 16, which is not written; an ID and a cost of different bytes; places as read, the second before the first
+-- T, with the K of a stream that gives none; T with K 7; K behind the routers; K 16; an ID and a cost of different bytes; places as read, the second before the first
 unfoldable pub facts : List Fact
 facts =
     writes T-stream
-    (1 ∷ 0 ∷ 0 ∷ 0 ∷ 1 ∷ 1 ∷ 0 ∷ 0 ∷ 0 ∷ 2 ∷ 1 ∷ 0 ∷ 0 ∷ 0 ∷ 3 ∷ 2 ∷ 0 ∷ 1 ∷ 0 ∷ 1 ∷ 2 ∷ 1 ∷ 2 ∷ 0 ∷ 1 ∷ 2 ∷ 0 ∷ 2 ∷ 0 ∷ 3 ∷ 3 ∷ [])
+    (8 ∷ 3 ∷ 1 ∷ 0 ∷ 0 ∷ 0 ∷ 1 ∷ 1 ∷ 0 ∷ 0 ∷ 0 ∷ 2 ∷ 1 ∷ 0 ∷ 0 ∷ 0 ∷ 3 ∷ 2 ∷ 0 ∷ 1 ∷ 0 ∷ 1 ∷ 2 ∷ 1 ∷ 2 ∷ 0 ∷ 1 ∷ 2 ∷ 0 ∷ 2 ∷ 0 ∷ 3 ∷ 3 ∷ [])
     ∷ writes (8 ∷ 7 ∷ T-stream) (8 ∷ 7 ∷ T-stream)
     ∷ writes (one ++ (8 ∷ 7 ∷ 3 ∷ [])) (8 ∷ 7 ∷ 1 ∷ 0 ∷ 0 ∷ 0 ∷ 1 ∷ 3 ∷ [])
-    ∷ writes (8 ∷ 16 ∷ one ++ (3 ∷ [])) (1 ∷ 0 ∷ 0 ∷ 0 ∷ 1 ∷ 3 ∷ [])
-    ∷ writes (1 ∷ 1 ∷ 2 ∷ 3 ∷ 4 ∷ 3 ∷ []) (1 ∷ 1 ∷ 2 ∷ 3 ∷ 4 ∷ 3 ∷ [])
-    ∷ writes (two ++ (2 ∷ 1 ∷ 0 ∷ 1 ∷ 2 ∷ 3 ∷ [])) (two ++ (2 ∷ 1 ∷ 0 ∷ 1 ∷ 2 ∷ 3 ∷ []))
+    ∷ writes (8 ∷ 16 ∷ one ++ (3 ∷ [])) (8 ∷ 16 ∷ 1 ∷ 0 ∷ 0 ∷ 0 ∷ 1 ∷ 3 ∷ [])
+    ∷ writes (1 ∷ 1 ∷ 2 ∷ 3 ∷ 4 ∷ 3 ∷ []) (8 ∷ 3 ∷ 1 ∷ 1 ∷ 2 ∷ 3 ∷ 4 ∷ 3 ∷ [])
+    ∷ writes (two ++ (2 ∷ 1 ∷ 0 ∷ 1 ∷ 2 ∷ 3 ∷ [])) (8 ∷ 3 ∷ two ++ (2 ∷ 1 ∷ 0 ∷ 1 ∷ 2 ∷ 3 ∷ []))
     ∷ []
 
 -- The one statement: every fact of the list holds, by computing it.

@@ -1,18 +1,18 @@
 -- What is proved of writing, and of reading what was written, over all topology values.
 -- Assumes nothing.
-use Prim.Native.Nat.{ℕ, _+_, _*_, _≤_}
-use mathlib.Core.Bool.{false, cond}
-use mathlib.Core.List.{List}
+use Prim.Native.Nat.{ℕ, _+_, _*_, _/_, _%_, _≤_}
+use mathlib.Core.Bool.{false}
+use mathlib.Core.List.{List, [], _∷_, _++_}
 use mathlib.Core.Logic.{_↔_}
 use mathlib.Core.Path.{_≡_}
-use lib.Dec.{T, eqb}
-use lib.ListN.{length}
+use lib.Dec.{T}
+use lib.ListN.{length, take}
 use Rattle.stations.specs.declared.Topology.{Topology}
 use Rattle.stations.specs.Outcome.{turnedAway, given}
 use Rattle.soundness.specs.Sound.{sound}
 use Rattle.stream.specs.Reading.{reading}
 use Rattle.stream.specs.Theorems.{Bytes, success}
-use Rattle.topology.specs.Written.{written, writing}
+use Rattle.topology.specs.Written.{joinedOver, written, writing}
 
 -- 01, Topology stream: reading what was written returns the same topology.
 abbrev pub WrittenRead : Type 0
@@ -22,10 +22,14 @@ WrittenRead = (t : Topology) → T (sound t) → reading (written t) ≡ success
 abbrev pub SoundIsRead : Type 0
 SoundIsRead = (t : Topology) → T (sound t) ↔ ((s : List ℕ) × (Bytes s × (reading s ≡ success t)))
 
--- 01, Topology stream: what is written is bytes, 2 if K is not 16, 5 for each router and each link, and 1; at most 1,603.
+-- 01, Topology stream, and 02, #101: what is written is bytes, 2 for K, 5 for each router and each link, and 1; at most 1,603. Record 8 stands first,
+-- whatever K is; then kind 1 and the ID of each router, by place, kind 2, the places as read and the cost of each link, by number, and the end.
 pub record Written (t : Topology) : Type 0 where
+  pub stream : written t
+      ≡ 8 ∷ t .limit ∷ (joinedOver (λ id. 1 ∷ id / 16777216 % 256 ∷ id / 65536 % 256 ∷ id / 256 % 256 ∷ id % 256 ∷ []) (take (t .routers) (t .id))
+      ++ (joinedOver (λ l. 2 ∷ l .first .0 ∷ l .second .0 ∷ l .cost / 256 % 256 ∷ l .cost % 256 ∷ []) (take (t .links) (t .link)) ++ (3 ∷ [])))
   pub bytes : Bytes (written t)
-  pub long : length (written t) ≡ cond (eqb (t .limit) 16) 0 2 + 5 * t .routers + 5 * t .links + 1
+  pub long : length (written t) ≡ 2 + 5 * t .routers + 5 * t .links + 1
   pub most : length (written t) ≤ 1603
 
 abbrev pub WrittenLong : Type 0

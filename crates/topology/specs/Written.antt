@@ -3,10 +3,8 @@
 use Prim.Native.Nat.{ℕ}
 use mathlib.Core.Bool.{cond}
 use mathlib.Core.List.{List, [], _∷_, _++_}
-use lib.Dec.{eqb}
 use Rattle.stations.specs.declared.Link.{Link}
 use Rattle.stations.specs.declared.Topology.{Topology}
-use Rattle.stations.specs.Limits.{mostNextHops}
 use Rattle.stations.specs.Topology.{contents}
 use Rattle.stations.specs.Outcome.{Outcome, turnedAway, given}
 use Rattle.soundness.specs.Sound.{sound}
@@ -25,11 +23,11 @@ routerBytes id = 1 ∷ inBytes 4 id
 unfoldable pub linkBytes : Link → List ℕ
 linkBytes l = 2 ∷ l .first .0 ∷ l .second .0 ∷ inBytes 2 (l .cost)
 
--- record 8 if K is not 16
+-- kind 8, K
 unfoldable pub limitBytes : ℕ → List ℕ
-limitBytes k = cond (eqb k mostNextHops) [] (8 ∷ k ∷ [])
+limitBytes k = 8 ∷ k ∷ []
 
--- 01, Topology stream: record 8 first if K is not 16, then routers by place, links by number with their places as read, and the end
+-- 02, #101: always record 8, first; 01, Topology stream: then routers by place, links by number with their places as read, and the end
 unfoldable pub written : Topology → List ℕ
 written t = limitBytes (t .limit) ++ (joinedOver routerBytes (contents t .ids) ++ (joinedOver linkBytes (contents t .links) ++ (3 ∷ [])))
 

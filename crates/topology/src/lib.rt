@@ -3,6 +3,7 @@ mod writing;
 
 pub use soundness::is_sound;
 pub use stations::Answer;
+pub use stations::DEFAULT_NEXT_HOPS;
 pub use stations::LINKS;
 pub use stations::Link;
 pub use stations::NEIGHBOURS;
@@ -15,6 +16,10 @@ pub use stream::Reading;
 pub use stream::read;
 ghost use mathlib.Core.Path.{_≡_};
 ghost use Rattle.topology.specs.Written.{writing};
+ghost use Rattle.topology.specs.OldLimit.{withOldLimit};
+
+// 02, #101: the next-hop limit that a stream from before it means where it gives none.
+const OLD_NEXT_HOPS: u8 = 16;
 
 // Writes a topology's stream: refusals 14 and 24.
 pub fn write(t: Topology, out: &mut [u8]) -> Answer
@@ -30,12 +35,31 @@ pub fn write(t: Topology, out: &mut [u8]) -> Answer
             at: needed,
         };
     }
-    let routers = writing::put_limit(t, out);
-    let links = writing::put_routers(t, out, routers);
+    writing::put_limit(out, t.limit);
+    let links = writing::put_routers(t, out, 2);
     let end = writing::put_links(t, out, links);
     out[end] = 3;
     Answer {
         number: 0,
         at: end + 1,
+    }
+}
+
+// Puts `08 10`, the limit of streams from before 02, #101, in front of a stream, which is not tested: refusal 24.
+pub fn with_old_limit(stream: &[u8], out: &mut [u8]) -> Answer
+    ensures { λ r. ⌜ record { answer = r; buffer = now (out .exit) } ≡ withOldLimit (now (stream .entry)) (now (out .entry)) ⌝ }
+{
+    let needed = stream.len() + 2;
+    if out.len() < needed {
+        return Answer {
+            number: 24,
+            at: needed,
+        };
+    }
+    writing::put_limit(out, OLD_NEXT_HOPS);
+    writing::put_bytes(out, 2, stream);
+    Answer {
+        number: 0,
+        at: needed,
     }
 }

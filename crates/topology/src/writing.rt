@@ -1,6 +1,5 @@
-// Putting records into a lent buffer, from an offset on; each function answers the offset after what it put.
+// Putting records into a lent buffer, from an offset on. `put_routers` and `put_links` answer the offset after what they put.
 use stations::Link;
-use stations::NEXT_HOPS;
 use stations::Topology;
 ghost use mathlib.Core.Path.{_≡_};
 ghost use Prim.Native.Nat.{_+_, _*_, _≤_};
@@ -32,17 +31,13 @@ fn put_link(out: &mut [u8], at: usize, l: Link)
     out[at + 4] = (l.cost % 256) as u8;
 }
 
-// Record 8 at the start, if K is not 16.
-pub(crate) fn put_limit(t: Topology, out: &mut [u8]) -> usize
-    requires { ⌜ length (limitBytes (t .limit)) ≤ length (now out) ⌝ }
-    ensures { λ r. ⌜ (r ≡ length (limitBytes (t .limit))) × (now (out .exit) ≡ over (now (out .entry)) 0 (limitBytes (t .limit))) ⌝ }
+// Record 8, at the start.
+pub(crate) fn put_limit(out: &mut [u8], limit: u8)
+    requires { ⌜ 2 ≤ length (now out) ⌝ }
+    ensures { λ _. ⌜ now (out .exit) ≡ over (now (out .entry)) 0 (limitBytes limit) ⌝ }
 {
-    if t.limit == NEXT_HOPS {
-        return 0;
-    }
     out[0] = 8;
-    out[1] = t.limit;
-    2
+    out[1] = limit;
 }
 
 pub(crate) fn put_routers(t: Topology, out: &mut [u8], at: usize) -> usize
@@ -71,14 +66,22 @@ pub(crate) fn put_links(t: Topology, out: &mut [u8], at: usize) -> usize
     at + 5 * m
 }
 
+// The bytes of another slice.
+pub(crate) fn put_bytes<'a, 'b>(out: &'a mut [u8], at: usize, bytes: &'b [u8])
+    requires { ⌜ at + length (now bytes) ≤ length (now out) ⌝ }
+    ensures { λ _. ⌜ now (out .exit) ≡ over (now (out .entry)) at (now (bytes .entry)) ⌝ }
+{
+    let mut i: usize = 0;
+    while i < bytes.len() {
+        out[at + i] = bytes[i];
+        i += 1;
+    }
+}
+
 // How many bytes writing needs.
 pub(crate) fn length_of(t: Topology) -> usize
     requires { ⌜ Counted t ⌝ }
     ensures { λ r. ⌜ r ≡ length (written t) ⌝ }
 {
-    let rest = 5 * t.routers + 5 * t.links + 1;
-    if t.limit == NEXT_HOPS {
-        return rest;
-    }
-    rest + 2
+    2 + 5 * t.routers + 5 * t.links + 1
 }

@@ -71,7 +71,7 @@ eleven =
       ids = 1 ∷ 2 ∷ 3 ∷ 4 ∷ 5 ∷ 6 ∷ 7 ∷ 8 ∷ 9 ∷ 10 ∷ 11 ∷ [];
       links =
           link 0 1 1 ∷ link 1 2 1 ∷ link 2 3 1 ∷ link 3 4 1 ∷ link 4 5 1 ∷ link 5 6 1 ∷ link 6 7 1 ∷ link 7 8 1 ∷ link 8 9 1 ∷ link 9 10 1 ∷ [];
-      limit = 16;
+      limit = 3;
     })
 
 -- its lines for the last of them

@@ -33,7 +33,7 @@ use Rattle.packet.specs.Schedule.{rowIn, rowCounts, rowsIn, soundLength, wrongS
 use Rattle.packet.specs.Calls.{tested, testedBy, testedOver, figure, figures, countingHops, walking}
 use Rattle.worked.specs.Fact.{upBut, leftAt, callOf, claimHolds, holds}
 use Rattle.worked.specs.Chain.{wrote, endsSo, byTable, byOrder, byReading, follows}
-use Rattle.worked.specs.Starred.{link, T-network, F-network, alone, about, F-stream, F-limited, alone-stream, from, F-schedule, starred, StarredHold}
+use Rattle.worked.specs.Starred.{link, T-network, F-network, alone, about, F-stream, alone-stream, from, F-schedule, starred, StarredHold}
 use Rattle.worked.specs.Starred.{T-reversed, allUp, further, FurtherHold, WorkedWellFormed, StreamsRead}
 
 pub starred-hold : StarredHold
@@ -54,7 +54,7 @@ unfolding numbersFrom below keep every any leastBy greatestBy ahead foremost ins
     unlessRefused filling soundHeader soundRanks differing wrongBytes tableJudging tableChecking room
     rowIn rowCounts rowsIn soundLength wrongStates tested testedBy testedOver figure figures countingHops walking
     upBut leftAt wrote endsSo byTable byOrder byReading follows
-    link F-network F-stream F-limited alone-stream from F-schedule starred
+    link F-network F-stream alone-stream from F-schedule starred
 starred-hold = tt
 
 pub further-hold : FurtherHold
@@ -81,4 +81,4 @@ unfolding numbersFrom below keep every any leastBy member
     bigEndianOn bigEndian bodyLength linkIn decoded recordIn records
     refusal accepted routerFault crowded linkFault fault added width isEnd joined ended unless some? inTurn nothingListed reading
     T-stream link T-network F-network alone F-stream alone-stream
-streams-read = (refl, refl, refl)
+streams-read = (refl, refl, refl, refl)

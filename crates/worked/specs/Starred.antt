@@ -41,16 +41,13 @@ F-stream =
     ∷ 2 ∷ 0 ∷ 1 ∷ 0 ∷ 1 ∷ 2 ∷ 0 ∷ 2 ∷ 0 ∷ 1 ∷ 2 ∷ 1 ∷ 2 ∷ 0 ∷ 1 ∷ 2 ∷ 1 ∷ 3 ∷ 0 ∷ 1
     ∷ 2 ∷ 2 ∷ 4 ∷ 0 ∷ 1 ∷ 2 ∷ 3 ∷ 4 ∷ 0 ∷ 1 ∷ 2 ∷ 3 ∷ 5 ∷ 0 ∷ 1 ∷ 2 ∷ 4 ∷ 5 ∷ 0 ∷ 1 ∷ 3 ∷ []
 
--- F with K = 1: the record `08 01` in front
-unfoldable pub F-limited : List ℕ
-F-limited = 8 ∷ 1 ∷ F-stream
-
 -- one router alone, in bytes
 unfoldable pub alone-stream : List ℕ
 alone-stream = 1 ∷ 0 ∷ 0 ∷ 0 ∷ 1 ∷ 3 ∷ []
 
-unfoldable pub from : List ℕ → ℕ → call.Mode → Expected → Chain
-from stream d m expected = record { stream = stream; destination = d; mode = m; expected = expected }
+-- a fact of a stream with its K: record 8 in front
+unfoldable pub from : ℕ → List ℕ → ℕ → call.Mode → Expected → Chain
+from k stream d m expected = record { stream = 8 ∷ k ∷ stream; destination = d; mode = m; expected = expected }
 
 -- a schedule for F in bytes, a row of 8 for each list of links, these down and the rest up; N - 1 = 5 rows are enough
 unfoldable pub F-schedule : List (List ℕ) → List ℕ
@@ -58,19 +55,19 @@ F-schedule down = joinedOver (upBut F-network) down
 
 unfoldable pub starred : List Chain
 starred =
-    from T-stream 0 ShortestPath (builds (0 ∷ 1 ∷ 2 ∷ []))
-    ∷ from T-stream 1 ShortestPath (builds (1 ∷ 2 ∷ 0 ∷ []))
-    ∷ from T-stream 2 ShortestPath (builds (2 ∷ 1 ∷ 0 ∷ []))
-    ∷ from T-stream 0 Free (builds (0 ∷ 2 ∷ 1 ∷ []))
-    ∷ from T-stream 0 Free (lists 1 (0 ∷ 2 ∷ []))
-    ∷ from F-stream 0 ShortestPath (builds (0 ∷ 2 ∷ 1 ∷ 4 ∷ 3 ∷ 5 ∷ []))
-    ∷ from F-stream 0 ShortestPath (counts (0 ∷ 2 ∷ 1 ∷ 3 ∷ 2 ∷ 4 ∷ []))
-    ∷ from F-limited 0 ShortestPath (counts (0 ∷ 1 ∷ 1 ∷ 2 ∷ 2 ∷ 3 ∷ []))
-    ∷ from F-stream 0 ShortestPath (walks 5 (F-schedule (replicate 5 [])) (delivered 0 3))
-    ∷ from F-stream 0 ShortestPath (walks 5 (F-schedule (replicate 5 (1 ∷ []))) (dropped 2 2))
-    ∷ from F-stream 0 ShortestPath (walks 5 (F-schedule ((7 ∷ []) ∷ (3 ∷ []) ∷ replicate 3 [])) (delivered 0 4))
-    ∷ from alone-stream 0 ShortestPath (builds (0 ∷ []))
-    ∷ from alone-stream 0 ShortestPath (walks 0 [] (delivered 0 0))
+    from 16 T-stream 0 ShortestPath (builds (0 ∷ 1 ∷ 2 ∷ []))
+    ∷ from 16 T-stream 1 ShortestPath (builds (1 ∷ 2 ∷ 0 ∷ []))
+    ∷ from 16 T-stream 2 ShortestPath (builds (2 ∷ 1 ∷ 0 ∷ []))
+    ∷ from 16 T-stream 0 Free (builds (0 ∷ 2 ∷ 1 ∷ []))
+    ∷ from 16 T-stream 0 Free (lists 1 (0 ∷ 2 ∷ []))
+    ∷ from 16 F-stream 0 ShortestPath (builds (0 ∷ 2 ∷ 1 ∷ 4 ∷ 3 ∷ 5 ∷ []))
+    ∷ from 16 F-stream 0 ShortestPath (counts (0 ∷ 2 ∷ 1 ∷ 3 ∷ 2 ∷ 4 ∷ []))
+    ∷ from 1 F-stream 0 ShortestPath (counts (0 ∷ 1 ∷ 1 ∷ 2 ∷ 2 ∷ 3 ∷ []))
+    ∷ from 16 F-stream 0 ShortestPath (walks 5 (F-schedule (replicate 5 [])) (delivered 0 3))
+    ∷ from 16 F-stream 0 ShortestPath (walks 5 (F-schedule (replicate 5 (1 ∷ []))) (dropped 2 2))
+    ∷ from 16 F-stream 0 ShortestPath (walks 5 (F-schedule ((7 ∷ []) ∷ (3 ∷ []) ∷ replicate 3 [])) (delivered 0 4))
+    ∷ from 16 alone-stream 0 ShortestPath (builds (0 ∷ []))
+    ∷ from 16 alone-stream 0 ShortestPath (walks 0 [] (delivered 0 0))
     ∷ []
 
 -- The one statement: every fact of the list holds, by computing all of its calls.
@@ -129,9 +126,10 @@ FurtherHold = T (every holds further)
 abbrev pub WorkedWellFormed : Type 0
 WorkedWellFormed = WellFormed T-network × WellFormed F-network × WellFormed alone
 
--- The streams are read as these networks.
+-- The streams, with the K that the list gives them, are read as these networks.
 abbrev pub StreamsRead : Type 0
 StreamsRead =
-    (networkOf (reading T-stream .topology) ≡ T-network)
-    × (networkOf (reading F-stream .topology) ≡ F-network)
-    × (networkOf (reading alone-stream .topology) ≡ alone)
+    (networkOf (reading (8 ∷ 16 ∷ T-stream) .topology) ≡ T-network)
+    × (networkOf (reading (8 ∷ 16 ∷ F-stream) .topology) ≡ F-network)
+    × (networkOf (reading (8 ∷ 1 ∷ F-stream) .topology) ≡ F-network)
+    × (networkOf (reading (8 ∷ 16 ∷ alone-stream) .topology) ≡ alone)

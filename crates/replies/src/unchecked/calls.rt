@@ -14,7 +14,7 @@ ghost use mathlib.Core.Path.{_≡_};
 ghost use Prim.Native.Nat.{ℕ, _≤_};
 ghost use lib.ListN.{length};
 ghost use Rattle.requests.specs.Requests.{mostLine};
-ghost use Rattle.replies.specs.Calls.{lent, mostRoom, writeIn, orderIn, checkOrderIn, fillIn, checkTable, countIn, walkIn, listIn};
+ghost use Rattle.replies.specs.Calls.{lent, mostRoom, writeIn, orderIn, checkOrderIn, fillIn, checkTable, countIn, walkIn, listIn, oldStreamIn};
 ghost use Rattle.requests.specs.Replies.{Replies, heldIn};
 
 // `write ROOM`
@@ -138,5 +138,21 @@ pub fn list(t: Topology, line: &[u8], buffer: &mut [u8]) -> Reply
         return Reply::Error;
     };
     let answer = report::listing(t, Place(d as u8), &mut buffer[..n]);
+    Reply::Leaves(answer, n)
+}
+
+// `old-stream STREAM ROOM`
+pub fn prefix_limit(line: &[u8], buffer: &mut [u8]) -> Reply
+    requires { ⌜ (length (now line) ≤ mostLine) × (now buffer ≡ lent mostRoom) ⌝ }
+    ensures { λ r. ⌜ Replies (oldStreamIn (now (line .entry))) r (now (buffer .exit)) ⌝ }
+{
+    let mut bytes = asked::room_for_bytes();
+    let Value::Is(k) = asked::bytes_in(line, 1, &mut bytes) else {
+        return Reply::Error;
+    };
+    let Value::Is(n) = asked::number_in(line, 2, ROOM) else {
+        return Reply::Error;
+    };
+    let answer = topology::with_old_limit(&bytes[..k], &mut buffer[..n]);
     Reply::Leaves(answer, n)
 }

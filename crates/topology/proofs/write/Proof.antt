@@ -12,7 +12,7 @@ use Rattle.stations.specs.Inner.{Counted}
 use Rattle.soundness.specs.Sound.{sound}
 use Rattle.soundness.specs.Theorems.{Sound}
 use Rattle.soundness.proofs.Sound.{sound-exact}
-use Rattle.topology.specs.Written.{written, limitBytes, writing}
+use Rattle.topology.specs.Written.{written, writing}
 use Rattle.topology.specs.Inner.{over}
 use Rattle.topology.proofs.Over.{over-start}
 use Rattle.topology.proofs.WrittenLength.{written-length}
@@ -60,7 +60,7 @@ links : (c : tie.Else2) → start c .args .t .links ≤ length (start c .args .t
 links c = let f = facts (c .before .before) in omega (arith, f .links-most, f .link-slots)
 
 needed : (c : tie.Else2)
-    → let t = start c .args .t in length (written t) ≡ length (limitBytes (t .limit)) + (5 * t .routers + (5 * t .links + 1))
+    → let t = start c .args .t in length (written t) ≡ 2 + 5 * t .routers + 5 * t .links + 1
 needed c = written-length (start c .args .t) (ids c) (links c)
 
 fits : (c : tie.Else2) → length (written (start c .args .t)) ≤ length (start c .args .out .now)
@@ -79,8 +79,8 @@ put-links-requires c κs =
 slice-write-out : tie.Need-slice-write-out
 slice-write-out c = let e : tie.Else2 = checked (limit-put (routers-put c)) in omega (arith, needed e, fits e)
 
-add-t9 : tie.Need-add-t9
-add-t9 c = let e : tie.Else2 = checked (limit-put (routers-put c)) in omega (arith, needed e, fits e)
+add-t8 : tie.Need-add-t8
+add-t8 c = let e : tie.Else2 = checked (limit-put (routers-put c)) in omega (arith, needed e, fits e)
 
 same-length : tie.Need-same-length
 same-length c = simp length-set (omega arith)
@@ -109,6 +109,6 @@ write-spec =
     put-routers-requires
     put-links-requires
     slice-write-out
-    add-t9
+    add-t8
     same-length
     returns-3)

@@ -66,13 +66,19 @@ unfolding answer answerTo heldIn
 returns-13 c = rw (asked (c .before .before .before .before .before .before) (c .before .before .before .before .enum-told13 .given .1)) (kept-step (c .before .before .before .before .before .before .before .before .before .before .before .pre .0 .size) (c .before .before .list .ensures))
 
 returns-14 : tie.Need-returns-14
+unfolding answer answerTo heldIn
+returns-14 c = rw (asked (c .before .before .before .before .before .before) (c .before .before .before .before .enum-told14 .given .1)) (kept-step (c .before .before .before .before .before .before .before .before .before .before .before .pre .0 .size) (c .before .before .prefix-limit .ensures))
+
+returns-15 : tie.Need-returns-15
 unfolding answer answerTo
-returns-14 c = rw (asked (c .before .before) (c .enum-told14 .given .1)) (error-step (c .before .before .before .before .before .before .before .pre .0 .size))
+returns-15 c = rw (asked (c .before .before) (c .enum-told15 .given .1)) (error-step (c .before .before .before .before .before .before .before .pre .0 .size))
 
 pub step-spec : {M : Type 1} → statement M
 step-spec =
     tie.close
     (tie.spec
+    (λ c κs. search needs)
+    (λ c. search needs)
     (λ c κs. search needs)
     (λ c. search needs)
     (λ c κs. search needs)
@@ -124,4 +130,6 @@ step-spec =
     returns-12
     (λ c. search needs)
     returns-13
-    returns-14)
+    (λ c. search needs)
+    returns-14
+    returns-15)

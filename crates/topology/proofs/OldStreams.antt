@@ -1,0 +1,326 @@
+-- A record 8 in front moves the reading two bytes on and sets K. No test looks at K, so the records after it are taken alike: the two readings differ in
+-- where a refusal points, and in the K that is held where no record 8 follows.
+-- Assumes nothing.
+use Prim.Native.Nat.{ℕ, zero, suc, _+_, _≤_, _<_}
+use mathlib.Core.Bool.{Bool, true, false, cond, not, _&&_, _||_, true≢false}
+use mathlib.Core.List.{List, [], _∷_, map, List·Memᴰ, List·Memᴰ·head, List·Memᴰ·tail, List·Memᴰ·cases-cons, List·Memᴰ·not-nil}
+use mathlib.Core.Logic.{_≢_, ⊎-elim}
+use mathlib.Core.Path.{_≡_, refl, sym, ap, _∙_}
+use native.Mathlib.Omega.{arith}
+use borrow.Author.Tests.{eq-eqb, lt-ltb, le-ltb}
+use lib.Dec.{T, eqb, ltb, leb}
+use lib.ListN.{length, drop, drop-of-length-le}
+use lib.Seq.{take-append-seam}
+use Rattle.network.specs.Lists.{any, member}
+use Rattle.network.specs.Network.{samePair}
+use Rattle.stations.specs.declared.Link.{Link}
+use Rattle.stations.specs.declared.Topology.{Topology}
+use Rattle.stations.specs.Outcome.{answer, turnedAway, given}
+use Rattle.stations.specs.Topology.{Contents, noLink, padded, held, zeros, seen, networkIn}
+use Rattle.soundness.specs.Apart.{apart}
+use Rattle.soundness.specs.Sound.{within}
+use Rattle.stream.specs.declared.Reading.{Reading}
+use Rattle.stream.specs.declared.Record.{Record}
+use Rattle.stream.specs.declared.Record.the-variants as record-of
+use Rattle.stream.specs.Stream.{bodyLength, decoded, recordIn, records}
+use Rattle.stream.specs.Reading.{refusal, accepted, routerFault, crowded, linkFault, fault, added, width, isEnd, joined, ended, unless, some?, inTurn}
+use Rattle.stream.specs.Reading.{nothingListed, reading}
+use Rattle.stream.specs.Theorems.{success, refused}
+use Rattle.stream.proofs.InTurn.{next-router, next-link, next-limit, next-unknown, next-end, next-cut, goes-on}
+use Rattle.stream.proofs.Stream.{records-drop, no-bytes}
+use Rattle.topology.specs.Inner.{over}
+use Rattle.topology.specs.OldLimit.{withOldLimit}
+use Rattle.topology.specs.OldStreams.{HelpExact, Cut, HasLimit, sixteen, OldRead, readBefore, OldStreamsRead}
+use Rattle.topology.proofs.Over.{over-start, over-over}
+
+pub help-exact : HelpExact
+unfolding withOldLimit given turnedAway
+help-exact stream buffer =
+    let long : length stream + 2 ≡ suc (suc (length stream)) = omega arith in record {
+      no-room = λ h. rw (long, lt-ltb (length buffer) (suc (suc (length stream))) (omega arith));
+      success = λ h. rw (long, le-ltb (length buffer) (suc (suc (length stream))) (omega arith));
+      made = λ h.
+          rw (long, le-ltb (length buffer) (suc (suc (length stream))) (omega arith))
+          (ap (λ (s : List ℕ). 8 ∷ 16 ∷ s) (take-append-seam stream (drop (suc (suc (length stream))) buffer)));
+    }
+
+-- the limit put, and the stream behind it
+pub put-both : (stream buffer : List ℕ) {one two : List ℕ} → length stream + 2 ≤ length buffer → one ≡ over buffer 0 (8 ∷ 16 ∷ []) → two ≡ over one 2 stream →
+    record { answer = answer 0 (length stream + 2); buffer = two } ≡ withOldLimit stream buffer
+put-both stream buffer room e f =
+    let long : length stream + 2 ≡ suc (suc (length stream)) = omega arith in
+    sym (help-exact stream buffer .success room
+    ∙ rw (f, e, over-over buffer 0 (8 ∷ 16 ∷ []) stream 2 refl (omega arith), over-start buffer (8 ∷ 16 ∷ stream), long))
+
+-- a body that is cut short is the last record
+cut-short : (kind : ℕ) (body : List ℕ) → length body < bodyLength kind → records 0 (kind ∷ body) ≡ record-of.Refused 1 ∷ []
+cut-short kind body h =
+    next-cut kind body h ∙ ap (λ rs. record-of.Refused 1 ∷ rs) (records-drop (bodyLength kind) body ∙ rw (drop-of-length-le body {i = bodyLength kind} (omega arith)) no-bytes)
+
+records-cut : Cut
+unfolding bodyLength
+records-cut = record {
+  none = no-bytes;
+  router = next-router;
+  link = next-link;
+  limit = next-limit;
+  end = next-end;
+  router-cut = cut-short 1;
+  link-cut = cut-short 2;
+  limit-cut = cut-short 8 [] (omega arith);
+  unknown = next-unknown;
+}
+
+-- the same of both ways of a test
+either-way : {A : Type 0} (P : A → Type 0) (b : Bool) {x y : A} → P x → P y → P (cond b x y)
+either-way P true p q = p
+either-way P false p q = q
+
+-- 13 is no record's fault
+abbrev Other : ℕ → Type 0
+Other number = number ≢ 13
+
+abbrev Never : Record → Type 0
+Never r = (c : Contents) → Other (fault c r)
+
+other : (number : ℕ) → T (not (eqb number 13)) → Other number
+other number t e = rw (eq-eqb number 13 e) at t
+
+never-router : (id : ℕ) → Never (record-of.Router id)
+unfolding fault routerFault
+never-router id c =
+    either-way Other (member id (c .ids)) (other 3 tt) (either-way Other (leb 64 (length (c .ids))) (other 4 tt) (other 0 tt))
+
+never-link : (l : Link) → Never (record-of.Link l)
+unfolding fault linkFault
+never-link l c =
+    either-way Other (not (ltb (l .first .0) (length (c .ids)) && ltb (l .second .0) (length (c .ids)))) (other 5 tt)
+    (either-way Other (eqb (l .first .0) (l .second .0)) (other 6 tt)
+    (either-way Other (eqb (l .cost) 0) (other 7 tt)
+    (either-way Other (any (samePair (seen l)) (map seen (c .links))) (other 8 tt)
+    (either-way Other (leb 256 (length (c .links))) (other 9 tt)
+    (either-way Other (crowded c (l .first .0) || crowded c (l .second .0)) (other 10 tt) (other 0 tt))))))
+
+never-limit : (k : ℕ) → Never (record-of.Limit k)
+unfolding fault
+never-limit k c = either-way Other (within 16 k) (other 0 tt) (other 16 tt)
+
+never-in : (s : List ℕ) → Never (recordIn s)
+unfolding recordIn decoded fault
+never-in [] = λ c. other 1 tt
+never-in (kind ∷ rest) =
+    either-way Never (ltb (length rest) (bodyLength kind)) (λ c. other 1 tt)
+    (either-way Never (eqb kind 1) (never-router _) (either-way Never (eqb kind 2) (never-link _)
+    (either-way Never (eqb kind 8) (never-limit _) (either-way Never (eqb kind 3) (λ c. other 0 tt) (λ c. other 2 tt)))))
+
+never-among : (n : ℕ) (s : List ℕ) (r : Record) → List·Memᴰ r (records n s) → Never r
+unfolding records
+never-among n [] r m = absurd (List·Memᴰ·not-nil m)
+never-among zero (kind ∷ rest) r m =
+    ⊎-elim (λ e. rw e (never-in (kind ∷ rest))) (λ k. never-among (bodyLength kind) rest r k) (List·Memᴰ·cases-cons m)
+never-among (suc n) (b ∷ rest) r m = never-among n rest r m
+
+-- contents with K 16
+sixteenIn : Contents → Contents
+sixteenIn c = record { ids = c .ids; links = c .links; limit = 16 }
+
+-- what is listed in the two readings: the same once a record 8 was taken, and up to K before that
+data Alike : Bool → Contents → Contents → Type 0 where
+  same : (c : Contents) → Alike true c c
+  but-limit : (c : Contents) → Alike false c (sixteenIn c)
+
+-- whether a record 8 was taken, by the records after
+taken : Bool → List Record → Bool
+taken b [] = b
+taken b (record-of.Router id ∷ rs) = taken b rs
+taken b (record-of.Link l ∷ rs) = taken b rs
+taken b (record-of.Limit k ∷ rs) = taken true rs
+taken b (record-of.End ∷ rs) = taken b rs
+taken b (record-of.Refused number ∷ rs) = taken b rs
+
+-- what the two readings return
+data Moved : Bool → Reading → Reading → Type 0 where
+  on : {b : Bool} (number at : ℕ) → number ≢ 0 → number ≢ 13 → Moved b (refusal number at) (refusal number (at + 2))
+  apart-alike : {b : Bool} (place : ℕ) → Moved b (refusal 13 place) (refusal 13 place)
+  kept : (c : Contents) → Moved true (accepted c) (accepted c)
+  limited : (c : Contents) → Moved false (accepted c) (accepted (sixteenIn c))
+
+fault-alike : {b : Bool} {c d : Contents} → Alike b c d → (r : Record) → fault d r ≡ fault c r
+unfolding sixteenIn fault routerFault linkFault crowded networkIn
+fault-alike (same c) r = refl
+fault-alike (but-limit c) (record-of.Router id) = refl
+fault-alike (but-limit c) (record-of.Link l) = refl
+fault-alike (but-limit c) (record-of.Limit k) = refl
+fault-alike (but-limit c) record-of.End = refl
+fault-alike (but-limit c) (record-of.Refused number) = refl
+
+-- the end record, with bytes behind it and without
+end-followed : {b : Bool} (c d : Contents) (at : ℕ) → Moved b (ended true at c) (ended true (at + 2) d)
+unfolding ended
+end-followed c d at =
+    let turned : at + 2 + 1 ≡ at + 1 + 2 = omega arith in
+    rw turned (on 11 (at + 1) (λ e. omega arith) (λ e. omega arith))
+
+end-alike : {b : Bool} {c d : Contents} → Alike b c d → (at : ℕ) → Moved b (ended false at c) (ended false (at + 2) d)
+unfolding sixteenIn ended joined apart networkIn
+end-alike (same c) at = cases (eqb (length (c .ids)) 0) (apart c)
+  where
+    cases : (none : Bool) (places : List ℕ) →
+        Moved true (cond none (refusal 12 at) (joined c places)) (cond none (refusal 12 (at + 2)) (joined c places))
+    cases true places = on 12 at (λ e. omega arith) (λ e. omega arith)
+    cases false [] = kept c
+    cases false (u ∷ us) = apart-alike u
+end-alike (but-limit c) at = cases (eqb (length (c .ids)) 0) (apart c)
+  where
+    cases : (none : Bool) (places : List ℕ) →
+        Moved false (cond none (refusal 12 at) (joined c places)) (cond none (refusal 12 (at + 2)) (joined (sixteenIn c) places))
+    cases true places = on 12 at (λ e. omega arith) (λ e. omega arith)
+    cases false [] = limited c
+    cases false (u ∷ us) = apart-alike u
+
+unless-moved : {b : Bool} {x y : Reading} (number at : ℕ) → number ≢ 13 → Moved b x y → Moved b (unless number at x) (unless number (at + 2) y)
+unfolding unless
+unless-moved zero at h m = m
+unless-moved (suc number) at h m = on (suc number) at (λ e. omega arith) h
+
+-- a record that is not the end, if the records after it are taken alike
+module _ {b : Bool} {c d : Contents} (a : Alike b c d) (r : Record) (n : Never r) (rs : List Record) (at : ℕ) where
+  more : {f : Bool} → isEnd r ≡ false → Moved f (inTurn (at + width r) (added c r) rs) (inTurn (at + width r + 2) (added d r) rs) →
+      Moved f (inTurn at c (r ∷ rs)) (inTurn (at + 2) d (r ∷ rs))
+  unfolding inTurn
+  more e m =
+      let swap : at + 2 + width r ≡ at + width r + 2 = omega arith in
+      rw (fault-alike a r, e, swap) (unless-moved (fault c r) at (n c) m)
+
+-- records after what is listed alike
+grown : {b : Bool} {c d : Contents} → Alike b c d → (r : Record) → Alike (taken b (r ∷ [])) (added c r) (added d r)
+unfolding taken added sixteenIn
+grown (same c) (record-of.Router id) = same _
+grown (same c) (record-of.Link l) = same _
+grown (same c) (record-of.Limit k) = same _
+grown (same c) record-of.End = same _
+grown (same c) (record-of.Refused number) = same _
+grown (but-limit c) (record-of.Router id) = but-limit _
+grown (but-limit c) (record-of.Link l) = but-limit _
+grown (but-limit c) (record-of.Limit k) = same _
+grown (but-limit c) record-of.End = but-limit _
+grown (but-limit c) (record-of.Refused number) = but-limit _
+
+turns : {b : Bool} {c d : Contents} → Alike b c d → (rs : List Record) → ((r : Record) → List·Memᴰ r rs → Never r) → (at : ℕ) →
+    Moved (taken b rs) (inTurn at c rs) (inTurn (at + 2) d rs)
+unfolding taken inTurn unless fault isEnd some?
+turns a [] never at = on 1 at (λ e. omega arith) (λ e. omega arith)
+turns a (record-of.Router id ∷ rs) never at =
+    more a _ (never _ (List·Memᴰ·head refl)) rs at refl (turns (grown a (record-of.Router id)) rs (λ r m. never r (List·Memᴰ·tail m)) _)
+turns a (record-of.Link l ∷ rs) never at =
+    more a _ (never _ (List·Memᴰ·head refl)) rs at refl (turns (grown a (record-of.Link l)) rs (λ r m. never r (List·Memᴰ·tail m)) _)
+turns a (record-of.Limit k ∷ rs) never at =
+    more a _ (never _ (List·Memᴰ·head refl)) rs at refl (turns (grown a (record-of.Limit k)) rs (λ r m. never r (List·Memᴰ·tail m)) _)
+turns a (record-of.Refused number ∷ rs) never at =
+    more a _ (never _ (List·Memᴰ·head refl)) rs at refl (turns (grown a (record-of.Refused number)) rs (λ r m. never r (List·Memᴰ·tail m)) _)
+turns a (record-of.End ∷ []) never at = end-alike a at
+turns a (record-of.End ∷ (r ∷ rs)) never at = end-followed _ _ at
+
+-- an element behind another one
+behind : {x y : Record} {rs : List Record} → x ≢ y → List·Memᴰ x (y ∷ rs) → List·Memᴰ x rs
+behind other m = ⊎-elim (λ e. absurd (other e)) (λ k. k) (List·Memᴰ·cases-cons m)
+
+-- whether a record 8 stands among them
+taken-already : (rs : List Record) → taken true rs ≡ true
+unfolding taken
+taken-already [] = refl
+taken-already (record-of.Router id ∷ rs) = taken-already rs
+taken-already (record-of.Link l ∷ rs) = taken-already rs
+taken-already (record-of.Limit k ∷ rs) = taken-already rs
+taken-already (record-of.End ∷ rs) = taken-already rs
+taken-already (record-of.Refused number ∷ rs) = taken-already rs
+
+taken-some : (rs : List Record) (k : ℕ) → List·Memᴰ (record-of.Limit k) rs → taken false rs ≡ true
+unfolding taken
+taken-some [] k m = absurd (List·Memᴰ·not-nil m)
+taken-some (record-of.Limit j ∷ rs) k m = taken-already rs
+taken-some (record-of.Router id ∷ rs) k m = taken-some rs k (behind (λ e. let z : _≡_ {A = ℕ} 0 1 = cc in omega arith) m)
+taken-some (record-of.Link l ∷ rs) k m = taken-some rs k (behind (λ e. let z : _≡_ {A = ℕ} 0 1 = cc in omega arith) m)
+taken-some (record-of.End ∷ rs) k m = taken-some rs k (behind (λ e. let z : _≡_ {A = ℕ} 0 1 = cc in omega arith) m)
+taken-some (record-of.Refused number ∷ rs) k m = taken-some rs k (behind (λ e. let z : _≡_ {A = ℕ} 0 1 = cc in omega arith) m)
+
+taken-none : (rs : List Record) → ((k : ℕ) → List·Memᴰ (record-of.Limit k) rs → ⊥) → taken false rs ≡ false
+unfolding taken
+taken-none [] none = refl
+taken-none (record-of.Limit k ∷ rs) none = absurd (none k (List·Memᴰ·head refl))
+taken-none (record-of.Router id ∷ rs) none = taken-none rs (λ k m. none k (List·Memᴰ·tail m))
+taken-none (record-of.Link l ∷ rs) none = taken-none rs (λ k m. none k (List·Memᴰ·tail m))
+taken-none (record-of.End ∷ rs) none = taken-none rs (λ k m. none k (List·Memᴰ·tail m))
+taken-none (record-of.Refused number ∷ rs) none = taken-none rs (λ k m. none k (List·Memᴰ·tail m))
+
+module _ (stream : List ℕ) where
+  -- the reading of the stream, with the K of a stream that gives none, and before
+  front : reading (8 ∷ 16 ∷ stream) ≡ inTurn 2 (sixteenIn nothingListed) (records 0 stream)
+  unfolding reading nothingListed sixteenIn added width fault within isEnd
+  front = rw (next-limit 16 stream, goes-on 0 nothingListed (record-of.Limit 16) (records 0 stream) refl refl)
+
+  moved : Moved (taken false (records 0 stream)) (reading stream) (reading (8 ∷ 16 ∷ stream))
+  unfolding reading
+  moved = rw front (turns (but-limit nothingListed) (records 0 stream) (never-among 0 stream) 0)
+
+  moved-before : Moved (taken true (records 0 stream)) (readBefore stream) (reading (8 ∷ 16 ∷ stream))
+  unfolding readBefore sixteenIn nothingListed
+  moved-before = rw front (turns (same _) (records 0 stream) (never-among 0 stream) 0)
+
+-- what they return
+of-unlimited : {b : Bool} {x y : Reading} → Moved b x y → b ≡ false → (t : Topology) → x ≡ success t → y ≡ success (sixteen t)
+unfolding refusal accepted sixteenIn held
+of-unlimited (on number at some other) e t r = absurd (some (ap (λ (r : Reading). r .answer .number) r))
+of-unlimited (apart-alike place) e t r = absurd (omega (arith, ap (λ (r : Reading). r .answer .number) r))
+of-unlimited (kept c) e t r = absurd (true≢false e)
+of-unlimited (limited c) e t r = ap (λ (r : Reading). success (sixteen (r .topology))) r
+
+of-limited : {b : Bool} {x y : Reading} → Moved b x y → b ≡ true → (t : Topology) → x ≡ success t → y ≡ success t
+unfolding refusal accepted
+of-limited (on number at some other) e t r = absurd (some (ap (λ (r : Reading). r .answer .number) r))
+of-limited (apart-alike place) e t r = absurd (omega (arith, ap (λ (r : Reading). r .answer .number) r))
+of-limited (kept c) e t r = r
+of-limited (limited c) e t r = absurd (true≢false (sym e))
+
+of-same : {b : Bool} {x y : Reading} → Moved b x y → b ≡ true → (y .topology ≡ x .topology) × (y .answer .number ≡ x .answer .number)
+unfolding refusal accepted
+of-same (on number at some other) e = (refl, refl)
+of-same (apart-alike place) e = (refl, refl)
+of-same (kept c) e = (refl, refl)
+of-same (limited c) e = absurd (true≢false (sym e))
+
+of-apart : {b : Bool} {x y : Reading} → Moved b x y → (place : ℕ) → x ≡ refused 13 place → y ≡ refused 13 place
+unfolding refusal accepted
+of-apart (on number at some other) place r = absurd (other (ap (λ (r : Reading). r .answer .number) r))
+of-apart (apart-alike p) place r = r
+of-apart (kept c) place r = absurd (omega (arith, ap (λ (r : Reading). r .answer .number) r))
+of-apart (limited c) place r = absurd (omega (arith, ap (λ (r : Reading). r .answer .number) r))
+
+of-others : {b : Bool} {x y : Reading} → Moved b x y → (number at : ℕ) → number ≢ 0 → number ≢ 13 → x ≡ refused number at →
+    y ≡ refused number (at + 2)
+unfolding refusal accepted zeros noLink held padded
+of-others (on n p s o) number at some other r =
+    rw (ap (λ (r : Reading). r .answer .number) r, ap (λ (r : Reading). r .answer .at) r)
+of-others (apart-alike p) number at some other r = absurd (other (sym (ap (λ (r : Reading). r .answer .number) r)))
+of-others (kept c) number at some other r = absurd (some (sym (ap (λ (r : Reading). r .answer .number) r)))
+of-others (limited c) number at some other r = absurd (some (sym (ap (λ (r : Reading). r .answer .number) r)))
+
+pub old-streams-read : OldStreamsRead
+old-streams-read = (
+  records-cut,
+  λ stream. (
+    record {
+      unlimited = λ none. of-unlimited (moved stream) (taken-none (records 0 stream) (λ k m. none (k, m)));
+      limited = λ (k, m). of-limited (moved stream) (taken-some (records 0 stream) k m);
+      apart = of-apart (moved stream);
+      others = of-others (moved stream);
+    },
+    record {
+      topology = of-same (moved-before stream) (taken-already (records 0 stream)) .0;
+      number = of-same (moved-before stream) (taken-already (records 0 stream)) .1;
+      returned = of-limited (moved-before stream) (taken-already (records 0 stream));
+      apart = of-apart (moved-before stream);
+      others = of-others (moved-before stream);
+    },
+  ),
+)

@@ -1,0 +1,74 @@
+-- What is proved of the helper for old streams (02, #101): what it leaves of a lent buffer, whatever the stream is, and what reading returns of what it
+-- made: what it returned of the stream while K was 16 without record 8.
+-- Assumes nothing.
+use Prim.Native.Nat.{ℕ, _+_, _≤_, _<_}
+use mathlib.Core.List.{List, [], _∷_, _++_, List·Memᴰ}
+use mathlib.Core.Logic.{_≢_}
+use mathlib.Core.Path.{_≡_}
+use lib.ListN.{length, take, drop}
+use Rattle.stations.specs.declared.Topology.{Topology}
+use Rattle.stations.specs.Outcome.{answer}
+use Rattle.stream.specs.declared.Reading.{Reading}
+use Rattle.stream.specs.declared.Record.the-variants as record-of
+use Rattle.stream.specs.Stream.{records}
+use Rattle.stream.specs.Reading.{inTurn, reading}
+use Rattle.stream.specs.Theorems.{Bytes, success, refused, fourBytes, linkOf}
+use Rattle.topology.specs.OldLimit.{withOldLimit}
+
+-- Where there is no room for the stream and two bytes more, 24 at that length, and the buffer stays; else 8 and 16, then the stream, then what stood
+-- there, and at says how many bytes were written.
+pub record Helped (stream buffer : List ℕ) : Type 0 where
+  pub no-room : length buffer < length stream + 2 → withOldLimit stream buffer ≡ record { answer = answer 24 (length stream + 2); buffer = buffer }
+  pub success : length stream + 2 ≤ length buffer →
+      withOldLimit stream buffer
+      ≡ record { answer = answer 0 (length stream + 2); buffer = 8 ∷ 16 ∷ (stream ++ drop (length stream + 2) buffer) }
+  -- the bytes written are what is read below
+  pub made : length stream + 2 ≤ length buffer → take (length stream + 2) (withOldLimit stream buffer .buffer) ≡ 8 ∷ 16 ∷ stream
+
+abbrev pub HelpExact : Type 0
+HelpExact = (stream buffer : List ℕ) → Helped stream buffer
+
+-- The records of a stream, by its bytes: a whole record and those after it; where the kind is unknown or the body is cut short, a refusal in its place.
+pub record Cut : Type 0 where
+  pub none : records 0 [] ≡ []
+  pub router : (a b e f : ℕ) (rest : List ℕ) → records 0 (1 ∷ a ∷ b ∷ e ∷ f ∷ rest) ≡ record-of.Router (fourBytes a b e f) ∷ records 0 rest
+  pub link : (u v e f : ℕ) (rest : List ℕ) → records 0 (2 ∷ u ∷ v ∷ e ∷ f ∷ rest) ≡ record-of.Link (linkOf u v e f) ∷ records 0 rest
+  pub limit : (k : ℕ) (rest : List ℕ) → records 0 (8 ∷ k ∷ rest) ≡ record-of.Limit k ∷ records 0 rest
+  pub end : (rest : List ℕ) → records 0 (3 ∷ rest) ≡ record-of.End ∷ records 0 rest
+  pub router-cut : (body : List ℕ) → length body < 4 → records 0 (1 ∷ body) ≡ record-of.Refused 1 ∷ []
+  pub link-cut : (body : List ℕ) → length body < 4 → records 0 (2 ∷ body) ≡ record-of.Refused 1 ∷ []
+  pub limit-cut : records 0 (8 ∷ []) ≡ record-of.Refused 1 ∷ []
+  pub unknown : (kind : ℕ) → kind ≢ 1 → kind ≢ 2 → kind ≢ 3 → kind ≢ 8 → (rest : List ℕ) →
+      records 0 (kind ∷ rest) ≡ record-of.Refused 2 ∷ records 0 rest
+
+-- the stream has a record 8
+abbrev pub HasLimit : List ℕ → Type 0
+HasLimit stream = (k : ℕ) × List·Memᴰ (record-of.Limit k) (records 0 stream)
+
+-- the same routers and links, K 16
+abbrev pub sixteen : Topology → Topology
+sixteen t = record { routers = t .routers; links = t .links; limit = 16; id = t .id; link = t .link }
+
+-- What is read of `08 10` and the stream behind it. A stream without record 8 has K 16; of one that has a record 8 its own last K stands; what is
+-- refused is refused with its number, at moved by 2 where it points into the stream. 13 points at a place.
+pub record OldRead (stream : List ℕ) : Type 0 where
+  pub unlimited : (HasLimit stream → ⊥) → (t : Topology) → reading stream ≡ success t → reading (8 ∷ 16 ∷ stream) ≡ success (sixteen t)
+  pub limited : HasLimit stream → (t : Topology) → reading stream ≡ success t → reading (8 ∷ 16 ∷ stream) ≡ success t
+  pub apart : (place : ℕ) → reading stream ≡ refused 13 place → reading (8 ∷ 16 ∷ stream) ≡ refused 13 place
+  pub others : (number at : ℕ) → number ≢ 0 → number ≢ 13 → reading stream ≡ refused number at →
+      reading (8 ∷ 16 ∷ stream) ≡ refused number (at + 2)
+
+-- reading, but with K 16 before the first record, as it was before 02, #101
+unfoldable pub readBefore : List ℕ → Reading
+readBefore stream = inTurn 0 (record { ids = []; links = []; limit = 16 }) (records 0 stream)
+
+-- What is read of `08 10` and the stream behind it is what was read of the stream then, refusals at moved as above.
+pub record AsBefore (stream : List ℕ) : Type 0 where
+  pub topology : reading (8 ∷ 16 ∷ stream) .topology ≡ readBefore stream .topology
+  pub number : reading (8 ∷ 16 ∷ stream) .answer .number ≡ readBefore stream .answer .number
+  pub returned : (t : Topology) → readBefore stream ≡ success t → reading (8 ∷ 16 ∷ stream) ≡ success t
+  pub apart : (place : ℕ) → readBefore stream ≡ refused 13 place → reading (8 ∷ 16 ∷ stream) ≡ refused 13 place
+  pub others : (number at : ℕ) → number ≢ 0 → number ≢ 13 → readBefore stream ≡ refused number at → reading (8 ∷ 16 ∷ stream) ≡ refused number (at + 2)
+
+abbrev pub OldStreamsRead : Type 0
+OldStreamsRead = Cut × ((stream : List ℕ) → OldRead stream × AsBefore stream)
