@@ -119,3 +119,16 @@ def listing(stream):
     for a, b, c in links:
         cost[a][b] = cost[b][a] = c
     return "".join(line for d in range(len(ids)) for line in lines(ids, cost, limit, d))
+
+
+def coverage(stream):
+    """What the coverage program prints for this input, counted in what the listing prints."""
+    text = listing(stream)
+    if text.startswith("refused"):
+        return text
+    rows = [line.split() for line in text.splitlines()]
+    count, links = int(rows[-1][0]) + 1, len(read(stream[:65536])[1])
+    hops = [(int(row[0]), 0 if row[4] == "-" else len(row) - 4) for row in rows]
+    figures = [(sum(n >= 2 for _, n in hops), count * (count - 1))]
+    figures += [(sum(n for d, n in hops if d == place), links) for place in range(count)]
+    return "".join("%d %d\n" % figure for figure in figures)

@@ -9,7 +9,7 @@ use lib.ListN.{length, take}
 use Rattle.text.specs.Fields.{asks}
 use Rattle.text.specs.Lines.{Put}
 use Rattle.requests.specs.Requests.{Held, Answered, unchanged, refused, setWord, readIn, loadIn, loadPacketIn, setIn, hopIn}
-use Rattle.replies.specs.Calls.{writeIn, orderIn, checkOrderIn, fillIn, checkTable, countIn, walkIn, listIn, oldStreamIn}
+use Rattle.replies.specs.Calls.{writeIn, orderIn, checkOrderIn, fillIn, checkTable, countIn, walkIn, listIn, oldStreamIn, coverageOf}
 use Rattle.requests.specs.Replies.{heldIn}
 use Rattle.console.specs.declared.answers.Turn.{Turn}
 use Rattle.console.specs.declared.answers.Request.{Request}
@@ -67,6 +67,10 @@ listingWord = 108 ∷ 105 ∷ 115 ∷ 116 ∷ 105 ∷ 110 ∷ 103 ∷ []
 unfoldable pub oldStreamWord : List ℕ
 oldStreamWord = 111 ∷ 108 ∷ 100 ∷ 45 ∷ 115 ∷ 116 ∷ 114 ∷ 101 ∷ 97 ∷ 109 ∷ []
 
+-- `coverage`
+unfoldable pub coverageWord : List ℕ
+coverageWord = 99 ∷ 111 ∷ 118 ∷ 101 ∷ 114 ∷ 97 ∷ 103 ∷ 101 ∷ []
+
 -- A request's first word, and the number of fields after it.
 pub record Form : Type 0 where
   pub word : List ℕ
@@ -88,7 +92,8 @@ forms =
     record { word = hopWord; fields = 1; request = request.Hop } ∷
     record { word = walkWord; fields = 2; request = request.Walk } ∷
     record { word = listingWord; fields = 2; request = request.Listing } ∷
-    record { word = oldStreamWord; fields = 2; request = request.OldStream } ∷ []
+    record { word = oldStreamWord; fields = 2; request = request.OldStream } ∷
+    record { word = coverageWord; fields = 0; request = request.Coverage } ∷ []
 
 -- the request of the first form that a line has
 unfoldable pub formed : List Form → List ℕ → Request
@@ -115,6 +120,7 @@ answerTo request.Hop h line = hopIn h line
 answerTo request.Walk h line = unchanged h (walkIn h line)
 answerTo request.Listing h line = unchanged h (listIn (h .topology) line)
 answerTo request.OldStream h line = unchanged h (oldStreamIn line)
+answerTo request.Coverage h line = unchanged h (coverageOf (h .topology))
 answerTo request.Unknown h line = refused h
 
 -- what a line answers

@@ -31,6 +31,7 @@ pub enum Request {
     Walk,
     Listing,
     OldStream,
+    Coverage,
     Unknown,
 }
 
@@ -44,7 +45,7 @@ pub struct Turn {
 struct Shape(usize, Request);
 
 // In the order of the words in `request_in`.
-const SHAPES: [Shape; 14] = [
+const SHAPES: [Shape; 15] = [
     Shape(1, Request::Topology),
     Shape(1, Request::Write),
     Shape(3, Request::Order),
@@ -59,13 +60,14 @@ const SHAPES: [Shape; 14] = [
     Shape(2, Request::Walk),
     Shape(2, Request::Listing),
     Shape(2, Request::OldStream),
+    Shape(0, Request::Coverage),
 ];
 
 fn request_in(line: &[u8]) -> Request
     ensures { λ r. ⌜ r ≡ requestIn (now (line .entry)) ⌝ }
 {
     let words =
-        b"topology write order check-order fill load-table check-table greatest load-packet set hop walk listing old-stream";
+        b"topology write order check-order fill load-table check-table greatest load-packet set hop walk listing old-stream coverage";
     let shapes = SHAPES;
     let mut k: usize = 0;
     while k < shapes.len() {
@@ -126,6 +128,10 @@ fn step(h: Holding, table: &mut [u8], line: &[u8], buffer: &mut [u8]) -> Step
         Request::OldStream => Step {
             held: h,
             reply: calls::prefix_limit(line, buffer),
+        },
+        Request::Coverage => Step {
+            held: h,
+            reply: calls::cover(t, buffer),
         },
         Request::Unknown => Step {
             held: h,

@@ -22,7 +22,8 @@ use Rattle.text.specs.Lines.{refusedWord, answerText, answerLine, wordLine}
 use Rattle.text.specs.Numbers.{lastDigits, numberText}
 use Rattle.wording.specs.Listing.{spaced, rowFields, lineText, tableFor, lineFor, linesFor, allLines}
 use Rattle.wording.specs.Facts.{T-0, T-1, T-2}
-use Rattle.listing.specs.Output.{printed, output}
+use Rattle.programs.specs.Output.{refusedLine, printed, outputBy}
+use Rattle.listing.specs.Output.{output}
 use Rattle.listing.specs.Facts.{holds, refused, facts, FactsHold}
 
 pub facts-hold : FactsHold
@@ -37,5 +38,5 @@ unfolding numbersFrom below keep every any leastBy greatestBy ahead foremost ins
     T-stream inSequence routers joinedOver rowBytes headerBytes rowOf rowsBytes tableBytes rowStart
     destinationIn rankIn placesIn arcsTo entriesIn listed figure
     none refusedWord answerText answerLine wordLine lastDigits numberText
-    spaced rowFields lineText tableFor lineFor linesFor allLines T-0 T-1 T-2 printed output holds refused facts
+    spaced rowFields lineText tableFor lineFor linesFor allLines T-0 T-1 T-2 refusedLine printed outputBy output holds refused facts
 facts-hold = tt

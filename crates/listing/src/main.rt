@@ -1,9 +1,6 @@
 // The listing program (01, Two networks by hand): reads a topology stream on standard input, at most 65,536 bytes, and prints, in shortest-path mode, a
 // line for each destination and within it each router, by place: destination, router, rank, greatest hop count and row, `-` if it is empty. A refused
 // stream prints one line: `refused`, number, at. The rest of a longer input is not read.
-use libc::STDIN_FILENO;
-use libc::STDOUT_FILENO;
-use text::unchecked::lines;
 ghost use mathlib.Core.Path.{_≡_};
 ghost use Prim.Native.Nat.{_≤_};
 ghost use lib.ListN.{length};
@@ -28,18 +25,18 @@ fn put_output(stream: &[u8], out: &mut [u8]) -> usize
     let reading = topology::read(stream);
     let answer = reading.answer;
     if answer.number != 0 {
-        return lines::put_word_line(out, b"refused", answer.number, answer.at);
+        return programs::unchecked::put_refused(out, answer);
     }
     let t = reading.topology;
     report::unchecked::put_all(t, arcs::unchecked::of(t), out)
 }
 
 // What is read and written no contract says. That the bytes are the first 65,536 of standard input, and that their output goes to standard output once, is
-// read here, and tried by examples/edges.
+// read here and in `programs`, and tried by examples/edges.
 fn main() {
-    let mut input = io::large_buffer();
-    let n = io::read_full(STDIN_FILENO, &mut input);
+    let mut input = programs::room_for_input();
+    let n = programs::read_input(&mut input);
     let mut out = room();
     let end = put_output(&input[..n], &mut out);
-    io::write_all(STDOUT_FILENO, &out[..end]);
+    programs::write_output(&out[..end]);
 }

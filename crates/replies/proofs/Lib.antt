@@ -1,2 +1,4 @@
 pub mod Lent
 pub mod Room
+pub mod Covered
+pub mod Facts

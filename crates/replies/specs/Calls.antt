@@ -1,7 +1,9 @@
 -- The requests that leave what is held as it is: what each answers, by the fields of its line.
 -- Assumes nothing.
 use Prim.Native.Nat.{ℕ}
-use mathlib.Core.List.{List}
+use mathlib.Core.Bool.{cond}
+use mathlib.Core.List.{List, [], _∷_, _++_, map}
+use lib.Dec.{eqb}
 use lib.ListN.{replicate}
 use Rattle.network.specs.Forwarding.{Walk, delivered-at, dropped-at, unfinished-at}
 use Rattle.stations.specs.declared.Topology.{Topology}
@@ -12,13 +14,16 @@ use Rattle.order.specs.Calls.{building, checking}
 use Rattle.table.specs.Calls.{filling, tableChecking}
 use Rattle.packet.specs.Calls as said
 use Rattle.packet.specs.Calls.{Said, countingHops, walking}
-use Rattle.wording.specs.Listing.{listing}
+use Rattle.wording.specs.Listing.{spaced, listing}
+use Rattle.figures.specs.declared.Coverage.{Coverage}
+use Rattle.figures.specs.Coverage.{coverage}
+use Rattle.figures.specs.Printed.{numbers}
 use Rattle.text.specs.declared.unchecked.fields.Value.{Value}
 use Rattle.text.specs.declared.unchecked.fields.Value.the-variants.{Is, Wrong}
 use Rattle.text.specs.Fields.{field}
-use Rattle.text.specs.Numbers.{number}
+use Rattle.text.specs.Numbers.{number, numberText}
 use Rattle.text.specs.Hex.{byteCount, bytes}
-use Rattle.text.specs.Lines.{errorLine, refusedWord, wordLine, bufferLine}
+use Rattle.text.specs.Lines.{newline, errorLine, refusedWord, wordLine, bufferLine}
 use Rattle.requests.specs.declared.unchecked.asked.Aim.{Aim}
 use Rattle.requests.specs.declared.unchecked.asked.Aim.the-variants as aim
 use Rattle.requests.specs.Requests.{mostByte, Held, answerOf, deliveredWord, droppedWord, packetLine, aimIn}
@@ -92,6 +97,14 @@ unfoldable pub oldStreamBy : Value → List ℕ → Value → List ℕ
 oldStreamBy (Is n) stream (Is room) = bufferOf (withOldLimit stream (lent room))
 oldStreamBy (Is n) stream Wrong = errorLine
 oldStreamBy Wrong stream room = errorLine
+
+-- `coverage`: NUMBER AT, and after `0 0` the numbers in the order in which the program prints them
+unfoldable pub coverageLine : Coverage → List ℕ
+coverageLine c =
+    cond (eqb (c .answer .number) 0) (spaced (map numberText (0 ∷ 0 ∷ numbers c)) ++ (newline ∷ [])) (answerOf (c .answer))
+
+unfoldable pub coverageOf : Topology → List ℕ
+coverageOf t = coverageLine (coverage t)
 
 -- each request, by the fields of its line
 unfoldable pub writeIn : Topology → List ℕ → List ℕ

@@ -1,12 +1,15 @@
-// The listing (01, Two networks by hand): a line for each router, one destination at a time.
+// The listing (01, Two networks by hand): a line for each router, one destination at a time; and the coverage figures (02, #102).
 use stations::Answer;
 use stations::Place;
+use stations::ROUTERS;
 use stations::Topology;
 
 mod printing;
 pub mod unchecked;
 
+pub use figures::Coverage;
 ghost use mathlib.Core.Path.{_≡_};
+ghost use Rattle.figures.specs.Coverage as «said-coverage»;
 ghost use Rattle.wording.specs.Listing as said;
 
 // The lines of a destination, in shortest-path mode: refusals 14, 15 and 24.
@@ -33,4 +36,21 @@ pub fn listing(t: Topology, destination: Place, out: &mut [u8]) -> Answer
         number: 0,
         at: needed,
     }
+}
+
+// The coverage figures, over the listing's tables: refusal 14.
+pub fn coverage(t: Topology) -> Coverage
+    ensures { λ r. ⌜ r ≡ «said-coverage».coverage t ⌝ }
+{
+    if !soundness::is_sound(t) {
+        return Coverage {
+            answer: Answer { number: 14, at: 0 },
+            covered: 0,
+            pairs: 0,
+            destinations: 0,
+            links: 0,
+            listed: [0; ROUTERS],
+        };
+    }
+    counting::unchecked::coverage(t, arcs::unchecked::of(t))
 }

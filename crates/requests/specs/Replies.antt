@@ -1,16 +1,16 @@
 -- What the code's structs stand for, with the buffers beside them, and what its functions leave.
 -- Assumes nothing.
 use Prim.Native.Nat.{ℕ, _≤_}
-use mathlib.Core.List.{List}
+use mathlib.Core.List.{List, [], _∷_, _++_}
 use mathlib.Core.Path.{_≡_}
 use lib.ListN.{length, take}
 use Rattle.text.specs.declared.unchecked.fields.Value.{Value}
 use Rattle.text.specs.declared.unchecked.fields.Value.the-variants.{Is, Wrong}
 use Rattle.text.specs.Hex.{byteCount, bytes}
-use Rattle.text.specs.Lines.{refusedWord, errorLine, wordLine, bufferLine}
+use Rattle.text.specs.Lines.{newline, refusedWord, errorLine, wordLine, bufferLine}
 use Rattle.packet.specs.Calls.{packetIn}
 use Rattle.requests.specs.declared.unchecked.holding.Reply.{Reply}
-use Rattle.requests.specs.declared.unchecked.holding.Reply.the-variants.{Error, Says, Leaves, Set, Delivered, Moved, Dropped, Refused}
+use Rattle.requests.specs.declared.unchecked.holding.Reply.the-variants.{Error, Says, Leaves, Line, Set, Delivered, Moved, Dropped, Refused}
 use Rattle.requests.specs.declared.unchecked.holding.Holding.{Holding}
 use Rattle.requests.specs.declared.unchecked.holding.Step.{Step}
 use Rattle.requests.specs.Requests.{mostTable, Held, Answered, setWord, deliveredWord, movedWord, droppedWord, answerOf, packetLine}
@@ -35,6 +35,7 @@ unfoldable pub replyText : Reply → List ℕ → List ℕ
 replyText Error buffer = errorLine
 replyText (Says a) buffer = answerOf a
 replyText (Leaves a n) buffer = bufferLine (a .number) (a .at) (take n buffer)
+replyText (Line n) buffer = take n buffer ++ (newline ∷ [])
 replyText (Set p) buffer = packetLine setWord (packetIn p)
 replyText (Delivered p) buffer = packetLine deliveredWord (packetIn p)
 replyText (Moved p) buffer = packetLine movedWord (packetIn p)
@@ -46,6 +47,7 @@ unfoldable pub roomOf : Reply → ℕ
 roomOf Error = 0
 roomOf (Says a) = 0
 roomOf (Leaves a n) = n
+roomOf (Line n) = n
 roomOf (Set p) = 0
 roomOf (Delivered p) = 0
 roomOf (Moved p) = 0

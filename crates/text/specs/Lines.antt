@@ -45,7 +45,7 @@ errorLine = 101 ∷ 114 ∷ 114 ∷ 111 ∷ 114 ∷ newline ∷ []
 unfoldable pub refusedWord : List ℕ
 refusedWord = 114 ∷ 101 ∷ 102 ∷ 117 ∷ 115 ∷ 101 ∷ 100 ∷ []
 
--- NUMBER AT
+-- two numbers, one space between, as NUMBER AT
 unfoldable pub answerText : ℕ → ℕ → List ℕ
 answerText number at = numberText number ++ (space ∷ numberText at)
 

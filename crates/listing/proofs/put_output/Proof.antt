@@ -6,13 +6,10 @@ use borrow.Author.Tests.{eq-eqb, ne-eqb}
 use lib.Dec.{T}
 use Rattle.soundness.specs.Sound.{sound}
 use Rattle.soundness.proofs.Sound.{sound-exact}
-use Rattle.stream.specs.Theorems.{Bytes}
-use Rattle.stream.proofs.Returned.{reads-sound}
-use Rattle.order.proofs.Ranges.{mem-getD}
-use Rattle.text.specs.Lines.{refusedWord}
-use Rattle.text.proofs.Texts.{word-line-length}
 use Rattle.wording.proofs.Tables.{all-length}
-use Rattle.listing.specs.Output.{printed, output}
+use Rattle.programs.specs.Output.{printed, outputBy}
+use Rattle.programs.proofs.Right.{refused-length, read-sound}
+use Rattle.listing.specs.Output.{output}
 use borrow.Author.Needs.{needs}
 use Rattle.listing.proofs.put_output.Statement.{statement}
 use Rattle.listing.proofs.put_output.Tie as tie
@@ -22,19 +19,15 @@ module _ (c : tie.After-read) where
   abbrev start : tie.Start
   start = c .before .before .before
 
-  its-bytes : Bytes (start .args .stream .now)
-  its-bytes b m = let (i, h, e) = mem-getD 0 m in omega (arith, e, c .before .before .shared-slice-known .given i)
-
   its-topology : c .read .result .answer .number ≡ 0 → T (sound (c .read .result .topology))
-  its-topology e = rw (c .read .ensures) (reads-sound _ its-bytes .is-sound (rw (← c .read .ensures) e))
+  its-topology = read-sound (start .args .stream .now) (λ i. omega (arith, c .before .before .shared-slice-known .given i)) (c .read .ensures)
 
 returns : tie.Need-returns
-unfolding output printed refusedWord
+unfolding output outputBy printed
 returns c =
-    let r = c .before .before .before .before .before .before .before .before in
-    let line = word-line-length refusedWord (r .read .result .answer .number) (r .read .result .answer .at) in
-    let put = c .before .before .put-word-line .ensures in
-    (omega (arith, line, put .after), rw (← r .read .ensures, ne-eqb _ _ (c .before .before .before .before .before .if1 .taken)) put)
+    let r = c .before .before .before .before .before .before .before in
+    let put = c .before .before .put-refused .ensures in
+    (omega (arith, refused-length (r .read .result .answer), put .after), rw (← r .read .ensures, ne-eqb _ _ (c .before .before .before .before .if1 .taken)) put)
 
 of-requires : tie.Need-of-requires
 of-requires c κs = its-topology (c .before .before .before .before) (c .before .if1 .left)
@@ -46,7 +39,7 @@ put-all-requires c κs =
     (good, c .before .of .ensures, omega (arith, sound-exact _ .0 good .routers-most, start r .pre))
 
 returns-2 : tie.Need-returns-2
-unfolding output printed
+unfolding output outputBy printed
 returns-2 c =
     let r = c .before .before .before .before .before .before .before .before .before in
     let none = c .before .before .before .before .before .before .if1 .left in
@@ -59,7 +52,6 @@ put-output-spec =
     tie.close
     (tie.spec
     (λ c κs. search needs)
-    (λ c. search needs)
     (λ c κs. search needs)
     (λ c. search needs)
     returns

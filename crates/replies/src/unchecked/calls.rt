@@ -7,6 +7,7 @@ use requests::unchecked::asked::BYTE;
 use requests::unchecked::holding::Holding;
 use requests::unchecked::holding::Reply;
 use text::unchecked::fields::Value;
+use text::unchecked::lines;
 use topology::Place;
 use topology::Topology;
 ghost use mathlib.Core.List.{List};
@@ -14,7 +15,7 @@ ghost use mathlib.Core.Path.{_≡_};
 ghost use Prim.Native.Nat.{ℕ, _≤_};
 ghost use lib.ListN.{length};
 ghost use Rattle.requests.specs.Requests.{mostLine};
-ghost use Rattle.replies.specs.Calls.{lent, mostRoom, writeIn, orderIn, checkOrderIn, fillIn, checkTable, countIn, walkIn, listIn, oldStreamIn};
+ghost use Rattle.replies.specs.Calls.{lent, mostRoom, writeIn, orderIn, checkOrderIn, fillIn, checkTable, countIn, walkIn, listIn, oldStreamIn, coverageOf};
 ghost use Rattle.requests.specs.Replies.{Replies, heldIn};
 
 // `write ROOM`
@@ -155,4 +156,19 @@ pub fn prefix_limit(line: &[u8], buffer: &mut [u8]) -> Reply
     };
     let answer = topology::with_old_limit(&bytes[..k], &mut buffer[..n]);
     Reply::Leaves(answer, n)
+}
+
+// `coverage`: the figures are put with a space behind each number, and the last space is left out.
+pub fn cover(t: Topology, buffer: &mut [u8]) -> Reply
+    requires { ⌜ now buffer ≡ lent mostRoom ⌝ }
+    ensures { λ r. ⌜ Replies (coverageOf t) r (now (buffer .exit)) ⌝ }
+{
+    let figures = report::coverage(t);
+    let answer = figures.answer;
+    if answer.number != 0 {
+        return Reply::Says(answer);
+    }
+    let start = lines::put(buffer, 0, b"0 0 ");
+    let end = counting::unchecked::put_coverage(figures, buffer, start, b' ');
+    Reply::Line(end - 1)
 }

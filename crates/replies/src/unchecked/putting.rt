@@ -51,6 +51,10 @@ pub fn put_reply(reply: Reply, buffer: &[u8], out: &mut [u8]) -> usize
         Reply::Leaves(answer, n) => {
             lines::put_buffer_line(out, answer.number, answer.at, &buffer[..n])
         }
+        Reply::Line(n) => {
+            let end = lines::put(out, 0, &buffer[..n]);
+            lines::put(out, end, b"\n")
+        }
         Reply::Set(p) => put_packet(out, b"set", p),
         Reply::Delivered(p) => put_packet(out, b"delivered", p),
         Reply::Moved(p) => put_packet(out, b"moved", p),

@@ -18,12 +18,13 @@ pub struct Holding {
     pub packet: Packet,
 }
 
-// That the line is no request; a call's answer; that and as many bytes, from its start, of the buffer that was lent; or what became of a packet, as
-// it is now, or that the call refused.
+// That the line is no request; a call's answer; that and as many bytes, from its start, of the buffer that was lent; a line of as many bytes, which
+// stand there, and its end; or what became of a packet, as it is now, or that the call refused.
 pub enum Reply {
     Error,
     Says(Answer),
     Leaves(Answer, usize),
+    Line(usize),
     Set(Packet),
     Delivered(Packet),
     Moved(Packet),

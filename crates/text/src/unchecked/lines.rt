@@ -97,13 +97,21 @@ pub fn put_error(out: &mut [u8]) -> usize
     put(out, 0, b"error\n")
 }
 
+// Puts two numbers, one space between.
+pub fn put_pair(out: &mut [u8], start: usize, first: usize, second: usize) -> usize
+    requires { ⌜ start + 41 ≤ length (now out) ⌝ }
+    ensures { λ r. ⌜ Put (now (out .entry)) start (answerText first second) r (now (out .exit)) ⌝ }
+{
+    let space = put_number(out, start, first);
+    let next = put(out, space, b" ");
+    put_number(out, next, second)
+}
+
 fn put_answer(out: &mut [u8], start: usize, number: u8, at: usize) -> usize
     requires { ⌜ start + 41 ≤ length (now out) ⌝ }
     ensures { λ r. ⌜ Put (now (out .entry)) start (answerText number at) r (now (out .exit)) ⌝ }
 {
-    let space = put_number(out, start, number as usize);
-    let next = put(out, space, b" ");
-    put_number(out, next, at)
+    put_pair(out, start, number as usize, at)
 }
 
 // NUMBER AT

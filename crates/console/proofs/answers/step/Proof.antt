@@ -70,13 +70,19 @@ unfolding answer answerTo heldIn
 returns-14 c = rw (asked (c .before .before .before .before .before .before) (c .before .before .before .before .enum-told14 .given .1)) (kept-step (c .before .before .before .before .before .before .before .before .before .before .before .pre .0 .size) (c .before .before .prefix-limit .ensures))
 
 returns-15 : tie.Need-returns-15
+unfolding answer answerTo heldIn
+returns-15 c = rw (asked (c .before .before .before .before .before .before) (c .before .before .before .before .enum-told15 .given .1)) (kept-step (c .before .before .before .before .before .before .before .before .before .before .before .pre .0 .size) (c .before .before .cover .ensures))
+
+returns-16 : tie.Need-returns-16
 unfolding answer answerTo
-returns-15 c = rw (asked (c .before .before) (c .enum-told15 .given .1)) (error-step (c .before .before .before .before .before .before .before .pre .0 .size))
+returns-16 c = rw (asked (c .before .before) (c .enum-told16 .given .1)) (error-step (c .before .before .before .before .before .before .before .pre .0 .size))
 
 pub step-spec : {M : Type 1} → statement M
 step-spec =
     tie.close
     (tie.spec
+    (λ c κs. search needs)
+    (λ c. search needs)
     (λ c κs. search needs)
     (λ c. search needs)
     (λ c κs. search needs)
@@ -132,4 +138,6 @@ step-spec =
     returns-13
     (λ c. search needs)
     returns-14
-    returns-15)
+    (λ c. search needs)
+    returns-15
+    returns-16)

@@ -5,16 +5,16 @@ use Rattle.text.specs.Lines.{answerText}
 use Rattle.text.proofs.Stores.{behind}
 use Rattle.text.proofs.Texts.{number-length}
 use borrow.Author.Needs.{needs}
-use Rattle.text.proofs.unchecked.lines.put_answer.Statement.{statement}
-use Rattle.text.proofs.unchecked.lines.put_answer.Tie as tie
+use Rattle.text.proofs.unchecked.lines.put_pair.Statement.{statement}
+use Rattle.text.proofs.unchecked.lines.put_pair.Tie as tie
 
 put-requires : tie.Need-put-requires
 put-requires c κs =
-    omega (arith, number-length (c .before .before .before .before .before .before .before .args .number))
+    omega (arith, number-length (c .before .before .before .before .before .before .before .args .first))
 
 put-number-requires-2 : tie.Need-put-number-requires-2
 put-number-requires-2 c κs =
-    omega (arith, number-length (c .before .before .before .before .before .before .before .before .before .before .before .args .number))
+    omega (arith, number-length (c .before .before .before .before .before .before .before .before .before .before .before .args .first))
 
 returns : tie.Need-returns
 unfolding answerText
@@ -22,8 +22,8 @@ returns c =
     let number = c .before .before .before .before .before .before .before .before .before .before .before .put-number .ensures in
     behind number (behind (c .before .before .before .before .before .before .put .ensures) (c .before .before .put-number2 .ensures))
 
-pub put-answer-spec : {M : Type 1} → statement M
-put-answer-spec =
+pub put-pair-spec : {M : Type 1} → statement M
+put-pair-spec =
     tie.close
     (tie.spec
     (λ c κs. search needs)

@@ -1,0 +1,17 @@
+-- The output is the program's by the reading's number; a reading with number 0 has a sound topology, whose figures and lines are right.
+-- Assumes nothing.
+use mathlib.Core.Path.{_∙_}
+use Rattle.stream.proofs.Returned.{reads-sound}
+use Rattle.figures.proofs.Right.{figures-right, lines-right}
+use Rattle.programs.proofs.Right.{all-print}
+use Rattle.coverage.specs.Output.{figuresText, output}
+use Rattle.coverage.specs.Theorems.{PrintsRight}
+
+pub prints-right : PrintsRight
+unfolding output figuresText
+prints-right stream bytes =
+    record {
+      refused = all-print figuresText stream .refused;
+      counted = λ none. all-print figuresText stream .read none ∙ lines-right _ (reads-sound stream bytes .is-sound none) .lines;
+      figures = λ none. figures-right _ (reads-sound stream bytes .is-sound none);
+    }

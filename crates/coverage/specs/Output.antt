@@ -1,0 +1,16 @@
+-- What the coverage program prints for what it has read (02, #102).
+-- Assumes nothing.
+use Prim.Native.Nat.{ℕ}
+use mathlib.Core.List.{List}
+use Rattle.stations.specs.declared.Topology.{Topology}
+use Rattle.figures.specs.Coverage.{coverage}
+use Rattle.figures.specs.Printed.{coverageText}
+use Rattle.programs.specs.Output.{outputBy}
+
+-- the lines of a topology's figures
+unfoldable pub figuresText : Topology → List ℕ
+figuresText t = coverageText (coverage t)
+
+-- the whole output: the figures; a refused stream prints the listing's line
+unfoldable pub output : List ℕ → List ℕ
+output stream = outputBy figuresText stream
