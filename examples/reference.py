@@ -1,5 +1,6 @@
 """The listing, written from the words of the rules alone: slow and short, to check programs by."""
 
+import itertools
 from math import inf
 
 BODY = {1: 4, 2: 4, 3: 0, 8: 1}
@@ -132,3 +133,25 @@ def coverage(stream):
     figures = [(sum(n >= 2 for _, n in hops), count * (count - 1))]
     figures += [(sum(n for d, n in hops if d == place), links) for place in range(count)]
     return "".join("%d %d\n" % figure for figure in figures)
+
+
+def routes(stream):
+    """What the program for routes prints for this input, along the rows that the listing prints."""
+    text = listing(stream)
+    if text.startswith("refused"):
+        return text
+    rows = {(int(row[0]), int(row[1])): [] if row[4] == "-" else row[4:] for row in map(str.split, text.splitlines())}
+
+    def ways(d, u):
+        if u == d:
+            yield [u]
+        for v in rows[d, u]:
+            for way in ways(d, int(v)):
+                yield [u] + way
+
+    printed = []
+    for d, u in sorted(rows):
+        found = list(itertools.islice(ways(d, u), 513))
+        said = [" ".join(map(str, way)) for way in found] if len(found) < 513 else ["more than 512 paths"]
+        printed += ["%d %d : %s\n" % (d, u, words) for words in said]
+    return "".join(printed)

@@ -9,7 +9,7 @@ use lib.ListN.{length, take}
 use Rattle.text.specs.Fields.{asks}
 use Rattle.text.specs.Lines.{Put}
 use Rattle.requests.specs.Requests.{Held, Answered, unchanged, refused, setWord, readIn, loadIn, loadPacketIn, setIn, hopIn}
-use Rattle.replies.specs.Calls.{writeIn, orderIn, checkOrderIn, fillIn, checkTable, countIn, walkIn, listIn, oldStreamIn, coverageOf}
+use Rattle.replies.specs.Calls.{writeIn, orderIn, checkOrderIn, fillIn, checkTable, countIn, walkIn, listIn, oldStreamIn, coverageOf, pathsIn}
 use Rattle.requests.specs.Replies.{heldIn}
 use Rattle.console.specs.declared.answers.Turn.{Turn}
 use Rattle.console.specs.declared.answers.Request.{Request}
@@ -71,6 +71,10 @@ oldStreamWord = 111 ∷ 108 ∷ 100 ∷ 45 ∷ 115 ∷ 116 ∷ 114 ∷ 101 ∷ 9
 unfoldable pub coverageWord : List ℕ
 coverageWord = 99 ∷ 111 ∷ 118 ∷ 101 ∷ 114 ∷ 97 ∷ 103 ∷ 101 ∷ []
 
+-- `paths`
+unfoldable pub pathsWord : List ℕ
+pathsWord = 112 ∷ 97 ∷ 116 ∷ 104 ∷ 115 ∷ []
+
 -- A request's first word, and the number of fields after it.
 pub record Form : Type 0 where
   pub word : List ℕ
@@ -93,7 +97,8 @@ forms =
     record { word = walkWord; fields = 2; request = request.Walk } ∷
     record { word = listingWord; fields = 2; request = request.Listing } ∷
     record { word = oldStreamWord; fields = 2; request = request.OldStream } ∷
-    record { word = coverageWord; fields = 0; request = request.Coverage } ∷ []
+    record { word = coverageWord; fields = 0; request = request.Coverage } ∷
+    record { word = pathsWord; fields = 2; request = request.Paths } ∷ []
 
 -- the request of the first form that a line has
 unfoldable pub formed : List Form → List ℕ → Request
@@ -121,6 +126,7 @@ answerTo request.Walk h line = unchanged h (walkIn h line)
 answerTo request.Listing h line = unchanged h (listIn (h .topology) line)
 answerTo request.OldStream h line = unchanged h (oldStreamIn line)
 answerTo request.Coverage h line = unchanged h (coverageOf (h .topology))
+answerTo request.Paths h line = unchanged h (pathsIn h line)
 answerTo request.Unknown h line = refused h
 
 -- what a line answers

@@ -32,6 +32,7 @@ pub enum Request {
     Listing,
     OldStream,
     Coverage,
+    Paths,
     Unknown,
 }
 
@@ -45,7 +46,7 @@ pub struct Turn {
 struct Shape(usize, Request);
 
 // In the order of the words in `request_in`.
-const SHAPES: [Shape; 15] = [
+const SHAPES: [Shape; 16] = [
     Shape(1, Request::Topology),
     Shape(1, Request::Write),
     Shape(3, Request::Order),
@@ -61,13 +62,14 @@ const SHAPES: [Shape; 15] = [
     Shape(2, Request::Listing),
     Shape(2, Request::OldStream),
     Shape(0, Request::Coverage),
+    Shape(2, Request::Paths),
 ];
 
 fn request_in(line: &[u8]) -> Request
     ensures { λ r. ⌜ r ≡ requestIn (now (line .entry)) ⌝ }
 {
     let words =
-        b"topology write order check-order fill load-table check-table greatest load-packet set hop walk listing old-stream coverage";
+        b"topology write order check-order fill load-table check-table greatest load-packet set hop walk listing old-stream coverage paths";
     let shapes = SHAPES;
     let mut k: usize = 0;
     while k < shapes.len() {
@@ -132,6 +134,10 @@ fn step(h: Holding, table: &mut [u8], line: &[u8], buffer: &mut [u8]) -> Step
         Request::Coverage => Step {
             held: h,
             reply: calls::cover(t, buffer),
+        },
+        Request::Paths => Step {
+            held: h,
+            reply: calls::write_paths(h, table, line, buffer),
         },
         Request::Unknown => Step {
             held: h,

@@ -12,7 +12,7 @@ use Rattle.text.proofs.Texts.{answer-length}
 use Rattle.wording.specs.Listing.{spaced}
 use Rattle.wording.proofs.InTurn.{joined-most}
 use Rattle.figures.specs.declared.Coverage.{Coverage}
-use Rattle.figures.specs.Printed.{Fraction, overLinks, fractions, fractionText, fractionsText, coverageText}
+use Rattle.figures.specs.Printed.{Fraction, overLinks, fractions, fractionText, fractionsText}
 use Rattle.figures.specs.Inner.{mostFraction, mostText}
 use Rattle.figures.proofs.Coverage.{the-row}
 

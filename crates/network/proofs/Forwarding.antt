@@ -32,7 +32,7 @@ all-valid stop x m = absurd (List·Memᴰ·not-nil m)
 all-valid (down e v c w) x (List·Memᴰ·head h) = rw h v
 all-valid (down e v c w) x (List·Memᴰ·tail m) = all-valid w x m
 
-mem-replicate : {A : Type 0} {a x : A} (n : ℕ) → List·Memᴰ x (replicate n a) → x ≡ a
+pub mem-replicate : {A : Type 0} {a x : A} (n : ℕ) → List·Memᴰ x (replicate n a) → x ≡ a
 mem-replicate zero m = absurd (List·Memᴰ·not-nil m)
 mem-replicate (suc n) (List·Memᴰ·head e) = e
 mem-replicate (suc n) (List·Memᴰ·tail m) = mem-replicate n m

@@ -30,7 +30,7 @@ hopped f x p = go (f .home (p .station)) refl (f .choose x (p .station)) refl
     go false h none e = stuck (λ t. rw h at t) e
     go false h (some y) e = went (λ t. rw h at t) y e
 
-clash : {A : Type 0} → _≡_ {A = ℕ} 0 1 → A
+pub clash : {A : Type 0} → _≡_ {A = ℕ} 0 1 → A
 clash e = absurd (omega arith)
 
 pub hops-chosen : HopsChosen

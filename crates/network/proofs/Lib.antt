@@ -25,3 +25,9 @@ pub mod Calls
 pub mod Live
 pub mod Routing
 pub mod ShortestWalk
+pub mod Counted
+pub mod Paths
+pub mod PathOrder
+pub mod PathMoves
+pub mod PathWalks
+pub mod RouterPaths

@@ -3,7 +3,7 @@
 use Prim.Native.Nat.{ℕ, zero, suc}
 use mathlib.Core.Bool.{Bool, true, false, cond, _&&_}
 use mathlib.Core.List.{List, [], _∷_, _++_, List·Memᴰ, List·Memᴰ·head, List·Memᴰ·tail, List·Memᴰ·cases-cons, List·Memᴰ·not-nil, Memᴰ·cast}
-use mathlib.Core.List.{Memᴰ·append-right}
+use mathlib.Core.List.{List·Memᴰ·append-cases, Memᴰ·append-right, Memᴰ·of-map, map}
 use mathlib.Core.Logic.{_⊎_, inl, inr, ⊎-elim}
 use mathlib.Core.Path.{_≡_, refl, sym, ap, subst}
 use lib.Dec.{T, eqb, eqb→eq, eqb-refl}
@@ -107,11 +107,23 @@ module _ {A : Type 0} where
     pairwise-take (suc k) nothing = nothing
     pairwise-take (suc k) (then {x} {xs} h p) = then (λ y m. h y (mem-take k xs m)) (pairwise-take k p)
 
+    -- and of each two of two lists together, if it holds of each one of the first and each one of the second
+    pub pairwise-append : {xs ys : List A} → Pairwise R xs → Pairwise R ys → ((x y : A) → List·Memᴰ x xs → List·Memᴰ y ys → R x y) → Pairwise R (xs ++ ys)
+    pairwise-append nothing q h = q
+    pairwise-append (then {x} {xs} k p) q h =
+        then (λ y m. ⊎-elim (k y) (h x y (List·Memᴰ·head refl)) (List·Memᴰ·append-cases xs m))
+        (pairwise-append p q (λ z y m. h z y (List·Memᴰ·tail m)))
+
     pub pairwise-split : (before : List A) (u : A) (after : List A) → Pairwise R (before ++ (u ∷ after)) → (v : A) → List·Memᴰ v before → R v u
     pairwise-split [] u after p v m = absurd (List·Memᴰ·not-nil m)
     pairwise-split (w ∷ before) u after (then h p) v m =
         ⊎-elim (λ e. subst (λ (x : A). R x u) (sym e) (h u (Memᴰ·append-right before (List·Memᴰ·head refl)))) (pairwise-split before u after p v)
         (List·Memᴰ·cases-cons m)
+
+-- what holds of each two elements as a function gives them holds of each two that it gives
+pub pairwise-over : {A B : Type 0} {R : B → B → Type 0} (g : A → B) {xs : List A} → Pairwise (λ x y. R (g x) (g y)) xs → Pairwise R (map g xs)
+pairwise-over g nothing = nothing
+pairwise-over {R} g (then {x} {xs} h p) = then (λ y m. let (z, k, e) = Memᴰ·of-map g xs m in subst (R (g x)) e (h z k)) (pairwise-over g p)
 
 pub member-mem : (u : ℕ) (us : List ℕ) → T (member u us) → List·Memᴰ u us
 unfolding member

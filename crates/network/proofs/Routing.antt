@@ -48,7 +48,7 @@ tests-right n d limit order = (
 )
 
 module _ (n : Network) (wf : WellFormed n) (d : ℕ) (in-network : d < size n) (limit : ℕ) (order : List ℕ) (t : T (accepted n d free order)) where
-  as-accepted : Accepted n d free order
+  pub as-accepted : Accepted n d free order
   as-accepted = acceptance-exact n wf d in-network free order .0 t
 
   -- an entry of a row is an arc of the router
@@ -72,7 +72,7 @@ module _ (n : Network) (wf : WellFormed n) (d : ℕ) (in-network : d < size n) (
         some-valid = (onlyUp n 0, only-valid n 0);
       }
 
-  rank-fits : (u : ℕ) → rank order u ≤ size n
+  pub rank-fits : (u : ℕ) → rank order u ≤ size n
   rank-fits u = omega (arith, rank-most order u, order-fits n wf d in-network free as-accepted)
 
   exact : (u : ℕ) → Exact (routers n d limit order) (rank order) (λ states. T (validStates n states)) u (greatestHop n d limit order u)

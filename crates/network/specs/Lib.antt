@@ -4,6 +4,7 @@ pub mod Distance
 pub mod Order
 pub mod Row
 pub mod Forwarding
+pub mod Paths
 pub mod Calls
 pub mod Routing
 pub mod Theorems

@@ -1,12 +1,13 @@
 -- Plain lists: tests over them, what stands first or is least in them, and what holds of each two elements. Every section of 01 speaks of such lists;
 -- only the rule for ties is a rule of 01.
 -- Assumes nothing.
-use Prim.Native.Nat.{ℕ, zero, suc, min, max}
+use Prim.Native.Nat.{ℕ, zero, suc, _+_, min, max}
 use mathlib.Core.Bool.{Bool, true, false, cond, _&&_, _||_}
 use mathlib.Core.List.{List, [], _∷_, List·Memᴰ}
 use mathlib.Core.Option.{Option, none, some}
 use mathlib.Core.Logic.{_≢_}
 use lib.Dec.{eqb, ltb}
+use lib.ListN.{length}
 
 -- `count` numbers one after the other, the first of them `first`
 unfoldable pub numbersFrom : ℕ → ℕ → List ℕ
@@ -42,6 +43,10 @@ module _ {A : Type 0} where
   unfoldable pub greatestBy : (A → ℕ) → List A → ℕ
   greatestBy f [] = 0
   greatestBy f (x ∷ xs) = max (f x) (greatestBy f xs)
+
+  -- how many elements there are, counted on from `total`; a count beyond `most` stops at one more than that
+  unfoldable pub counted : ℕ → ℕ → List A → ℕ
+  counted most total xs = min (suc most) (total + length xs)
 
   -- x, unless there is another, which x does not precede
   unfoldable pub ahead : (A → A → Bool) → A → Option A → A

@@ -11,6 +11,7 @@ use Rattle.network.specs.Network.{Arc, Network, size}
 use Rattle.network.specs.Distance.{distances}
 use Rattle.network.specs.Row.{row}
 use Rattle.network.specs.Forwarding.{Forwarding, longest}
+use Rattle.network.specs.Paths.{pathsFrom}
 use Rattle.network.specs.Calls.{Tests}
 
 -- 01, Packet, hop and schedule: link states are one byte per link, 1 up, 0 down
@@ -46,6 +47,10 @@ greatestHop n d limit order u = longest (routers n d limit order) (size n) u
 -- 01, Packet, hop and schedule: for all places, the figures that we report
 unfoldable pub greatestHops : Network → ℕ → ℕ → List ℕ → List ℕ
 greatestHops n d limit order = map (greatestHop n d limit order) (below (size n))
+
+-- 02, 103: every path from u to d, each as the places that it goes by
+unfoldable pub everyPath : Network → ℕ → ℕ → List ℕ → ℕ → List (List ℕ)
+everyPath n d limit order u = pathsFrom (routers n d limit order) (size n) u
 
 -- 01, Refusals, 15, 22 and 23, for what is not refused: a start, a packet's station and its hops made are below N; link states are one byte per
 -- link, none over 1

@@ -5,3 +5,4 @@ pub mod Row
 pub mod Forwarding
 pub mod Calls
 pub mod Routing
+pub mod Paths

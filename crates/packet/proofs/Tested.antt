@@ -91,7 +91,7 @@ pub flat-five : {A B C D E : Type 0} → (A × (B × (C × (D × E)))) ↔ (A ×
 flat-five = (λ (a, (b, (c, (d, e)))). (a, b, c, d, e), λ (a, b, c, d, e). (a, (b, (c, (d, e)))))
 
 -- what checking a table answers on a sound topology: 0, or 21
-abbrev Kind : Answer → Type 0
+abbrev pub Kind : Answer → Type 0
 Kind a = (a ≡ answer 0 0) ⊎ ((at : ℕ) × (a ≡ answer 21 at))
 
 kind-tested : (a : Answer) → Kind a → Decides (eqb (a .number) 0) (a ≡ answer 0 0) ((at : ℕ) × (a ≡ answer 21 at))
@@ -107,7 +107,7 @@ kind-tested a (inr (at, e)) =
     }
 
 module _ (t : Topology) (good : T (sound t)) (table : List ℕ) where
-  kind : Kind (tableChecking t table)
+  pub kind : Kind (tableChecking t table)
   unfolding tableChecking tableJudging atFirst rowStart
   kind =
       rw (as-true (sound t) good)

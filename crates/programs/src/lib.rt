@@ -24,7 +24,7 @@ pub fn read_input(input: &mut [u8]) -> usize
     io::read_full(STDIN_FILENO, input)
 }
 
-// Writes the text to standard output. Where that fails there is nobody to tell.
-pub fn write_output(text: &[u8]) {
-    io::write_all(STDOUT_FILENO, text);
+// Writes the text to standard output and answers whether that went well. Where it fails there is nobody to tell, and nothing more to write.
+pub fn write_output(text: &[u8]) -> bool {
+    io::write_all(STDOUT_FILENO, text)
 }

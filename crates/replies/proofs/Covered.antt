@@ -16,9 +16,9 @@ use Rattle.topology.specs.Written.{joinedOver}
 use Rattle.text.specs.Fields.{space}
 use Rattle.text.specs.Lines.{Put}
 use Rattle.text.specs.Numbers.{lastDigits, numberText}
-use Rattle.text.proofs.Stores.{behind}
+use Rattle.text.proofs.Stores.{behind, put-start}
 use Rattle.wording.specs.Listing.{spaced}
-use Rattle.wording.proofs.InTurn.{put-length, put-start}
+use Rattle.wording.proofs.InTurn.{put-length}
 use Rattle.figures.specs.declared.Coverage.{Coverage}
 use Rattle.figures.specs.Coverage.{coverage}
 use Rattle.figures.specs.Printed.{Fraction, fractions, numbers, fractionText, fractionsText}

@@ -14,6 +14,7 @@ use Rattle.order.specs.Calls.{building, checking}
 use Rattle.table.specs.Calls.{filling, tableChecking}
 use Rattle.packet.specs.Calls as said
 use Rattle.packet.specs.Calls.{Said, countingHops, walking}
+use Rattle.ways.specs.Calls.{writingPaths}
 use Rattle.wording.specs.Listing.{spaced, listing}
 use Rattle.figures.specs.declared.Coverage.{Coverage}
 use Rattle.figures.specs.Coverage.{coverage}
@@ -98,6 +99,12 @@ oldStreamBy (Is n) stream (Is room) = bufferOf (withOldLimit stream (lent room))
 oldStreamBy (Is n) stream Wrong = errorLine
 oldStreamBy Wrong stream room = errorLine
 
+-- `paths START ROOM`, where the fields hold this
+unfoldable pub pathsBy : Held → Value → Value → List ℕ
+pathsBy h (Is u) (Is room) = bufferOf (writingPaths (h .topology) (h .table) u (lent room))
+pathsBy h (Is u) Wrong = errorLine
+pathsBy h Wrong room = errorLine
+
 -- `coverage`: NUMBER AT, and after `0 0` the numbers in the order in which the program prints them
 unfoldable pub coverageLine : Coverage → List ℕ
 coverageLine c =
@@ -135,3 +142,6 @@ walkIn h line = walkBy h (number mostByte (field 1 line)) (byteCount (field 2 li
 
 unfoldable pub oldStreamIn : List ℕ → List ℕ
 oldStreamIn line = oldStreamBy (byteCount (field 1 line)) (bytes (field 1 line)) (number mostRoom (field 2 line))
+
+unfoldable pub pathsIn : Held → List ℕ → List ℕ
+pathsIn h line = pathsBy h (number mostByte (field 1 line)) (number mostRoom (field 2 line))

@@ -4,6 +4,7 @@ use stations::Place;
 use stations::ROUTERS;
 use stations::Topology;
 
+mod fields;
 mod printing;
 pub mod unchecked;
 

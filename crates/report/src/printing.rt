@@ -1,4 +1,6 @@
 // Putting lines into a lent buffer: each number is put behind the one before, which answers where it ends.
+use super::fields::put_field;
+use super::fields::put_fields;
 use rows::ENTRIES;
 use rows::FRONT;
 use rows::HEADER;
@@ -7,14 +9,11 @@ use rows::TABLE;
 use stations::ROUTERS;
 use text::unchecked::lines;
 use wording::Front;
-ghost use mathlib.Core.List.{_∷_};
 ghost use mathlib.Core.Path.{_≡_};
 ghost use Prim.Native.Nat.{_+_, _*_, _≤_, _<_};
 ghost use lib.ListN.{length};
 ghost use Rattle.stations.specs.Limits.{mostRouters};
-ghost use Rattle.text.specs.Fields.{space};
 ghost use Rattle.text.specs.Lines.{Put};
-ghost use Rattle.text.specs.Numbers.{numberText};
 ghost use Rattle.wording.specs.Inner.{mostLine, mostLines, rowText, frontText, lineOf, Row, Small, Listable, tableText};
 
 // Room for a line, and for the lines of a destination.
@@ -41,15 +40,6 @@ pub(crate) fn room_for_hops() -> [u8; ROUTERS]
     [0; ROUTERS]
 }
 
-// A space and a number.
-fn put_field(out: &mut [u8], at: usize, n: u8) -> usize
-    requires { ⌜ (n < 100) × (at + 3 ≤ length (now out)) ⌝ }
-    ensures { λ r. ⌜ Put (now (out .entry)) at (space ∷ numberText n) r (now (out .exit)) ⌝ }
-{
-    out[at] = b' ';
-    lines::put_small(out, at + 1, n)
-}
-
 // The row, a space before each field.
 fn put_row(out: &mut [u8], at: usize, row: &[u8]) -> usize
     requires { ⌜ Row (now row) × (at + 48 ≤ length (now out)) ⌝ }
@@ -58,13 +48,7 @@ fn put_row(out: &mut [u8], at: usize, row: &[u8]) -> usize
     if row.len() == 0 {
         return lines::put(out, at, b" -");
     }
-    let mut end = at;
-    let mut i: usize = 0;
-    while i < row.len() {
-        end = put_field(out, end, row[i]);
-        i += 1;
-    }
-    end
+    put_fields(out, at, row)
 }
 
 // The fields of a line before its row.

@@ -1,4 +1,5 @@
 // For callers that have tested the topology, laid out its arcs and lent the room.
+pub use super::fields::put_fields;
 use super::printing;
 use arcs::Arcs;
 use order::Mode;

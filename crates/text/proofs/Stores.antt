@@ -3,7 +3,7 @@
 use Prim.Native.Nat.{ℕ, suc, _+_, _≤_}
 use mathlib.Core.List.{List, [], _∷_, _++_}
 use mathlib.Core.Path.{_≡_, _∙_}
-use native.Mathlib.Nat.{add-zero, add-suc, suc-add}
+use native.Mathlib.Nat.{add-zero, zero-add, add-suc, suc-add}
 use native.Mathlib.Numerals.{add-one}
 use native.Mathlib.Omega.{arith}
 use lib.ListN.{length, set, take, drop, length-append}
@@ -33,3 +33,9 @@ behind {b} {at} {s} {r} {b′} {t} p q = record {
 -- the start of a buffer, where a text was put
 pub start : (b s b′ : List ℕ) (n : ℕ) → b′ ≡ sets b 0 s → length s ≡ n → n ≤ length b → take n b′ ≡ s
 start b s b′ n e l h = rw (e, ← l, sets-eq s b 0 (omega arith)) (take-append-seam s (drop (0 + length s) b))
+
+-- a text put at the start, and the rest of the buffer
+pub put-start : {b s : List ℕ} {r : ℕ} {b′ : List ℕ} → Put b 0 s r b′ → length s ≤ length b → b′ ≡ s ++ drop (length s) b
+put-start {b} {s} p h =
+    let whole : 0 + length s ≤ length b = omega arith in
+    p .stored ∙ sets-eq s b 0 whole ∙ rw zero-add

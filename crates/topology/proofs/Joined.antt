@@ -1,8 +1,8 @@
 -- Records of one width, one for each element of a list: how long they are, and one more put behind the others.
 -- Assumes nothing.
 use Prim.Native.Nat.{ℕ, _+_, _*_, _≤_, _<_}
-use mathlib.Core.List.{List, [], _∷_, _++_, append-assoc, append-nil}
-use mathlib.Core.Path.{_≡_, refl, sym, ap, _∙_}
+use mathlib.Core.List.{List, [], _∷_, _++_, append-assoc, append-nil, List·Memᴰ, List·Memᴰ·head, List·Memᴰ·tail}
+use mathlib.Core.Path.{_≡_, refl, sym, ap, ap₂, _∙_}
 use native.Mathlib.Nat.{mul-zero, mul-suc, mul-le-mul-left}
 use native.Mathlib.Omega.{arith}
 use lib.ListN.{length, take, getD, length-append}
@@ -22,12 +22,20 @@ pub link-five : (l : Link) → length (linkBytes l) ≡ 5
 unfolding linkBytes inBytes
 link-five l = refl
 
-pub joined-alike : {A : Type 0} (f g : A → List ℕ) → ((x : A) → f x ≡ g x) → (xs : List A) → joinedOver f xs ≡ joinedOver g xs
+-- texts that are the same for each element
+pub joined-same : {A : Type 0} (f g : A → List ℕ) (xs : List A) → ((x : A) → List·Memᴰ x xs → f x ≡ g x) → joinedOver f xs ≡ joinedOver g xs
 unfolding joinedOver
-joined-alike f g same [] = refl
-joined-alike f g same (x ∷ xs) = rw (same x, joined-alike f g same xs)
+joined-same f g [] each = refl
+joined-same f g (x ∷ xs) each =
+    ap₂ (λ (l r : List ℕ). l ++ r) (each x (List·Memᴰ·head refl)) (joined-same f g xs (λ y m. each y (List·Memᴰ·tail m)))
 
 module _ {A : Type 0} (f : A → List ℕ) where
+  -- those of two lists, one behind the other
+  pub joined-behind : (xs ys : List A) → joinedOver f (xs ++ ys) ≡ joinedOver f xs ++ joinedOver f ys
+  unfolding joinedOver
+  joined-behind [] ys = refl
+  joined-behind (x ∷ xs) ys = rw (joined-behind xs ys, append-assoc)
+
   pub joined-last : (xs : List A) (x : A) → joinedOver f (xs ++ (x ∷ [])) ≡ joinedOver f xs ++ f x
   unfolding joinedOver
   joined-last [] x = append-nil (f x)

@@ -30,7 +30,7 @@ use Rattle.stream.proofs.InTurn.{next-router, next-link, next-limit, next-unkno
 use Rattle.stream.proofs.Stream.{records-drop, no-bytes}
 use Rattle.topology.specs.Inner.{over}
 use Rattle.topology.specs.OldLimit.{withOldLimit}
-use Rattle.topology.specs.OldStreams.{HelpExact, Cut, HasLimit, sixteen, OldRead, readBefore, OldStreamsRead}
+use Rattle.topology.specs.OldStreams.{HelpExact, Cut, sixteen, readBefore, OldStreamsRead}
 use Rattle.topology.proofs.Over.{over-start, over-over}
 
 pub help-exact : HelpExact

@@ -1,7 +1,7 @@
 -- A sound topology holds its contents and zeros behind them, so reading its stream, whose records are taken with no fault, returns it; what is
 -- written is bytes, as K and places are below 256.
 -- Assumes nothing.
-use Prim.Native.Nat.{ℕ, _+_, _-_, _*_, _/_, _%_, _≤_, _<_, _^_}
+use Prim.Native.Nat.{ℕ, _+_, _-_, _/_, _%_, _≤_, _<_, _^_}
 use mathlib.Core.List.{List, [], _∷_, _++_, List·Memᴰ, List·Memᴰ·head, List·Memᴰ·tail, List·Memᴰ·not-nil, List·Memᴰ·cases-cons, Memᴰ·map}
 use mathlib.Core.List.{List·Memᴰ·append-cases}
 use mathlib.Core.Logic.{⊎-elim}
@@ -28,7 +28,7 @@ use Rattle.stream.proofs.Digits.{byte-below}
 use Rattle.stream.proofs.Returned.{reads-sound}
 use Rattle.topology.specs.Written.{joinedOver, routerBytes, linkBytes, limitBytes, written}
 use Rattle.topology.specs.Theorems.{WrittenRead, SoundIsRead, WrittenLong}
-use Rattle.topology.proofs.Joined.{joined-alike}
+use Rattle.topology.proofs.Joined.{joined-same}
 use Rattle.topology.proofs.Rewritten.{written-records}
 use Rattle.topology.proofs.WrittenLength.{written-length}
 use Rattle.topology.proofs.TakenInTurn.{GoodLinks, GoodContents, all-taken}
@@ -165,7 +165,7 @@ pub written-long : WrittenLong
 unfolding written contents limitBytes
 written-long t s =
     record {
-      stream = rw (joined-alike routerBytes _ router-spelled, joined-alike linkBytes _ link-spelled);
+      stream = rw (joined-same routerBytes _ _ (λ id m. router-spelled id), joined-same linkBytes _ _ (λ l m. link-spelled l));
       bytes = written-bytes t s;
       long = written-length t (routers-in t s) (links-in t s);
       most = omega (arith, written-length t (routers-in t s) (links-in t s), f t s .routers-most, f t s .links-most);

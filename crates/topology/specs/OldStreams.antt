@@ -12,7 +12,7 @@ use Rattle.stream.specs.declared.Reading.{Reading}
 use Rattle.stream.specs.declared.Record.the-variants as record-of
 use Rattle.stream.specs.Stream.{records}
 use Rattle.stream.specs.Reading.{inTurn, reading}
-use Rattle.stream.specs.Theorems.{Bytes, success, refused, fourBytes, linkOf}
+use Rattle.stream.specs.Theorems.{success, refused, fourBytes, linkOf}
 use Rattle.topology.specs.OldLimit.{withOldLimit}
 
 -- Where there is no room for the stream and two bytes more, 24 at that length, and the buffer stays; else 8 and 16, then the stream, then what stood

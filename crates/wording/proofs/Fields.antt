@@ -6,7 +6,7 @@ use mathlib.Core.Logic.{_≢_}
 use mathlib.Core.Path.{_≡_, refl, ap, sym}
 use native.Mathlib.Decide.{ℕ-discrete}
 use native.Mathlib.Omega.{arith}
-use lib.ListN.{length, getD, length-append}
+use lib.ListN.{length, length-append}
 use Rattle.topology.specs.Written.{joinedOver}
 use Rattle.text.specs.Fields.{space}
 use Rattle.text.specs.Hex.{none}
@@ -15,20 +15,16 @@ use Rattle.text.specs.Numbers.{numberText}
 use Rattle.text.proofs.Texts.{small-length}
 use Rattle.wording.specs.Listing.{spaced, rowFields, lineText}
 use Rattle.wording.specs.declared.Front.{Front}
-use Rattle.wording.specs.Inner.{mostLine, rowText, frontText, lineOf, Row, Small}
+use Rattle.wording.specs.Inner.{mostLine, field, fieldsText, Short, rowText, frontText, lineOf, Row, Small}
 
 -- each field but the first behind a space
-spaced-first : (f : List ℕ) (fs : List (List ℕ)) → spaced (f ∷ fs) ≡ f ++ joinedOver (λ g. space ∷ g) fs
+pub spaced-first : (f : List ℕ) (fs : List (List ℕ)) → spaced (f ∷ fs) ≡ f ++ joinedOver (λ g. space ∷ g) fs
 unfolding spaced joinedOver
 spaced-first f [] = sym (append-nil f)
 spaced-first f (g ∷ gs) = ap (λ (l : List ℕ). f ++ (space ∷ l)) (spaced-first g gs)
 
--- a number behind a space
-abbrev pub field : ℕ → List ℕ
-field v = space ∷ numberText v
-
-joined-fields : (vs : List ℕ) → joinedOver (λ g. space ∷ g) (map numberText vs) ≡ joinedOver field vs
-unfolding joinedOver
+pub joined-fields : (vs : List ℕ) → joinedOver (λ g. space ∷ g) (map numberText vs) ≡ fieldsText vs
+unfolding fieldsText joinedOver
 joined-fields [] = refl
 joined-fields (v ∷ vs) = ap (λ (l : List ℕ). field v ++ l) (joined-fields vs)
 
@@ -37,7 +33,7 @@ unfolding rowText rowFields joinedOver none
 row-none [] h = refl
 row-none (v ∷ vs) h = absurd (omega arith)
 
-pub row-some : (row : List ℕ) → length row ≢ 0 → rowText row ≡ joinedOver field row
+pub row-some : (row : List ℕ) → length row ≢ 0 → rowText row ≡ fieldsText row
 unfolding rowText rowFields
 row-some [] h = absurd (h refl)
 row-some (v ∷ vs) h = joined-fields (v ∷ vs)
@@ -56,18 +52,18 @@ front-length f s =
     (omega (arith, small-length _ (s .destination), small-length _ (s .router), small-length _ (s .rank), small-length _ (s .hops)))
 
 -- fields of at most three bytes each
-joined-length : (vs : List ℕ) → ((i : ℕ) → i < length vs → getD vs i 0 < 100) → length (joinedOver field vs) ≤ 3 * length vs
-unfolding joinedOver
-joined-length [] h = omega arith
-joined-length (v ∷ vs) h =
-    simp (length-append) (omega (arith, small-length v (h 0 (omega arith)), joined-length vs (λ i k. h (suc i) (omega arith))))
+pub fields-length : (vs : List ℕ) → Short vs → length (fieldsText vs) ≤ 3 * length vs
+unfolding fieldsText joinedOver
+fields-length [] h = omega arith
+fields-length (v ∷ vs) h =
+    simp (length-append) (omega (arith, small-length v (h 0 (omega arith)), fields-length vs (λ i k. h (suc i) (omega arith))))
 
 pub row-length : (row : List ℕ) → Row row → length (rowText row) ≤ 48
 row-length row r = cases (ℕ-discrete (length row) 0)
   where
     cases : Dec (length row ≡ 0) → length (rowText row) ≤ 48
     cases (yes e) = rw (row-none row e) (omega arith)
-    cases (no o) = rw (row-some row o) (omega (arith, joined-length row (r .small), r .few))
+    cases (no o) = rw (row-some row o) (omega (arith, fields-length row (r .small), r .few))
 
 pub line-length : (f : Front) (row : List ℕ) → Small f → Row row → length (lineOf f row) ≤ mostLine
 line-length f row s r = rw (line-fields f row) (simp length-append (omega (arith, front-length f s, row-length row r)))

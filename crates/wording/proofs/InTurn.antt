@@ -3,11 +3,11 @@
 use Prim.Native.Nat.{ℕ, suc, _+_, _*_, _≤_}
 use mathlib.Core.List.{List, [], _∷_, _++_, List·Memᴰ, List·Memᴰ·head, List·Memᴰ·tail}
 use mathlib.Core.Path.{_≡_, refl, ap, sym, _∙_}
-use native.Mathlib.Nat.{add-zero, zero-add, mul-suc}
+use native.Mathlib.Nat.{add-zero, mul-suc}
 use native.Mathlib.Numerals.{add-one}
 use native.Mathlib.Omega.{arith}
-use lib.ListN.{length, set, drop, length-append}
-use lib.Seq.{sets-eq, length-sets}
+use lib.ListN.{length, set, length-append}
+use lib.Seq.{length-sets}
 use Rattle.topology.specs.Written.{joinedOver}
 use Rattle.topology.proofs.Joined.{joined-last}
 use Rattle.text.specs.Lines.{Put}
@@ -20,12 +20,6 @@ put-length {b} {at} {s} p = ap length (p .stored) ∙ length-sets b at s
 -- where a text of at most k bytes ends
 pub ended : {b : List ℕ} {at : ℕ} {s : List ℕ} {r : ℕ} {b′ : List ℕ} → Put b at s r b′ → {k : ℕ} → length s ≤ k → (r ≤ at + k) × (length b′ ≡ length b)
 ended p h = (omega (arith, p .after), put-length p)
-
--- a text put at the start, and the rest of the buffer
-pub put-start : {b s : List ℕ} {r : ℕ} {b′ : List ℕ} → Put b 0 s r b′ → length s ≤ length b → b′ ≡ s ++ drop (length s) b
-put-start {b} {s} p h =
-    let whole : 0 + length s ≤ length b = omega arith in
-    p .stored ∙ sets-eq s b 0 whole ∙ rw zero-add
 
 -- one byte is one store
 pub put-byte : (b : List ℕ) (at x : ℕ) → Put b at (x ∷ []) (at + 1) (set b at x)

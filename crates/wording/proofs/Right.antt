@@ -31,9 +31,9 @@ use Rattle.text.specs.Numbers.{numberText}
 use Rattle.text.proofs.Texts.{one-digit, more-digits}
 use Rattle.wording.specs.declared.Front.{Front}
 use Rattle.wording.specs.Listing.{tableFor, lineFor, linesFor, allLines, listing}
-use Rattle.wording.specs.Inner.{lineOf, frontText, rowText}
+use Rattle.wording.specs.Inner.{field, fieldsText, lineOf, frontText, rowText}
 use Rattle.wording.specs.Theorems.{NumbersSpelled, JoinsInTurn, lineWith, LineIs, ListsRight, ListingRefuses, AllRight}
-use Rattle.wording.proofs.Fields.{field, row-none, row-some, line-fields}
+use Rattle.wording.proofs.Fields.{row-none, row-some, line-fields}
 use Rattle.wording.proofs.Tables.{given as its-given, accepted, ranks, hop-counts}
 
 pub numbers-spelled : NumbersSpelled
@@ -88,6 +88,7 @@ module _ (t : Topology) (good : T (sound t)) (d : ℕ) (place : d < t .routers) 
 
     some-row : (a : Arc) (rest : List Arc) → entries ≡ a ∷ rest →
         rowText (map (λ b. b .to) entries) ≡ joinedOver (λ (b : Arc). 32 ∷ numberText (b .to)) entries
+    unfolding fieldsText
     some-row a rest e = rw e (row-some (map (λ b. b .to) (a ∷ rest)) (λ z. omega arith) ∙ joined-entries (a ∷ rest))
 
     line-is : LineIs t d order table u (lineFor t d table u)

@@ -1,8 +1,8 @@
 -- The table of a destination is accepted, since the order that is built is; so its ranks and hop counts are below N, and its entries are places.
 -- Assumes nothing.
 use Prim.Native.Nat.{ℕ, _+_, _*_, _≤_, _<_}
-use mathlib.Core.List.{List, [], _∷_, _++_, List·Memᴰ, List·Memᴰ·head, List·Memᴰ·tail}
-use mathlib.Core.Path.{_≡_, refl, ap₂, _∙_}
+use mathlib.Core.List.{List, _++_}
+use mathlib.Core.Path.{_≡_, refl, _∙_}
 use native.Mathlib.Omega.{arith}
 use lib.Dec.{T}
 use lib.ListN.{length, getD, length-append, List·getD-append}
@@ -13,7 +13,7 @@ use Rattle.stations.specs.declared.Topology.{Topology}
 use Rattle.stations.specs.Topology.{networkOf}
 use Rattle.soundness.specs.Sound.{sound}
 use Rattle.soundness.proofs.Sound.{sound-exact}
-use Rattle.topology.specs.Written.{joinedOver}
+use Rattle.topology.proofs.Joined.{joined-same}
 use Rattle.order.specs.declared.Mode.the-variants as mode
 use Rattle.order.specs.Calls.{modeOf}
 use Rattle.order.proofs.Ranges.{getD-mem}
@@ -34,12 +34,6 @@ use Rattle.wording.specs.Listing.{tableFor, lineFor, linesFor, allLines}
 use Rattle.wording.specs.Inner.{mostLine, mostLines, Row, Listable, lineOf, lineIn, tableText}
 use Rattle.wording.proofs.InTurn.{joined-most}
 use Rattle.wording.proofs.Fields.{line-length}
-
-joined-same : {A : Type 0} (f g : A → List ℕ) (xs : List A) → ((x : A) → List·Memᴰ x xs → f x ≡ g x) → joinedOver f xs ≡ joinedOver g xs
-unfolding joinedOver
-joined-same f g [] each = refl
-joined-same f g (x ∷ xs) each =
-    ap₂ (λ (l r : List ℕ). l ++ r) (each x (List·Memᴰ·head refl)) (joined-same f g xs (λ y m. each y (List·Memᴰ·tail m)))
 
 module _ (t : Topology) (good : T (sound t)) (d : ℕ) (place : d < t .routers) where
   abbrev table : List ℕ

@@ -1,5 +1,5 @@
 -- What the inner functions of `report` ask of the bytes that they print, and what they make of them; of the open contracts only those of its `unchecked`
--- name it, for the room that they ask for.
+-- name it, for the room that they ask for and the fields that `put_fields` puts.
 -- Assumes nothing.
 use Prim.Native.Nat.{ℕ, _+_, _≤_, _<_}
 use mathlib.Core.List.{List, _∷_, _++_}
@@ -23,6 +23,18 @@ mostLine = 60
 abbrev pub mostLines : ℕ
 mostLines = 3840
 
+-- a number behind a space
+abbrev pub field : ℕ → List ℕ
+field n = space ∷ numberText n
+
+-- numbers, a space before each
+unfoldable pub fieldsText : List ℕ → List ℕ
+fieldsText numbers = joinedOver field numbers
+
+-- numbers of one digit or two
+abbrev pub Short : List ℕ → Type 0
+Short numbers = (i : ℕ) → i < length numbers → getD numbers i 0 < 100
+
 -- the row with a space before each field
 unfoldable pub rowText : List ℕ → List ℕ
 rowText row = joinedOver (λ f. space ∷ f) (rowFields row)
@@ -30,7 +42,7 @@ rowText row = joinedOver (λ f. space ∷ f) (rowFields row)
 -- numbers of one digit or two, at most as many as a row has
 pub record Row (row : List ℕ) : Type 0 where
   pub few : length row ≤ mostNextHops
-  pub small : (i : ℕ) → i < length row → getD row i 0 < 100
+  pub small : Short row
 
 -- the fields before the row, each but the first behind a space
 unfoldable pub frontText : Front → List ℕ

@@ -10,8 +10,9 @@ use Rattle.network.specs.Order.{reached, shortestNextHops, leadsInto, ready, ca
 use Rattle.network.specs.Order.{candidatesInTurn, holdsEachOnce, firstIs, othersInTurn}
 use Rattle.network.specs.Row.{rank, sortsBefore, rankedBefore, fullRow, row}
 use Rattle.network.specs.Forwarding.{hopTo, hop, walkOn, walkEnd, walk, start, routeOn, route, longest}
+use Rattle.network.specs.Paths.{pathsAt, throughEach, pathsFrom}
 use Rattle.network.specs.Calls.{afterHop, afterCall, afterCalls}
-use Rattle.network.specs.Routing.{up, firstLive, validStates, greatestHop, greatestHops, costOf}
+use Rattle.network.specs.Routing.{up, firstLive, validStates, greatestHop, greatestHops, everyPath, costOf}
 use Rattle.network.proofs.Linked.{linked-well-formed}
 use Rattle.stations.specs.Inner.{firstOr}
 use Rattle.stations.specs.Outcome.{turnedAway, given}
@@ -31,7 +32,7 @@ use Rattle.table.specs.Calls.{unlessRefused, filling, soundHeader, soundRanks, 
 use Rattle.table.specs.Facts.{room}
 use Rattle.packet.specs.Schedule.{rowIn, rowCounts, rowsIn, soundLength, wrongStates}
 use Rattle.packet.specs.Calls.{tested, testedBy, testedOver, figure, figures, countingHops, walking}
-use Rattle.worked.specs.Fact.{upBut, leftAt, callOf, claimHolds, holds}
+use Rattle.worked.specs.Fact.{upBut, leftAt, callOf, samePaths, claimHolds, holds}
 use Rattle.worked.specs.Chain.{wrote, endsSo, byTable, byOrder, byReading, follows}
 use Rattle.worked.specs.Starred.{link, T-network, F-network, alone, about, F-stream, alone-stream, from, F-schedule, starred, StarredHold}
 use Rattle.worked.specs.Starred.{T-reversed, allUp, further, FurtherHold, WorkedWellFormed, StreamsRead}
@@ -64,8 +65,8 @@ unfolding numbersFrom below keep every any leastBy greatestBy ahead foremost ins
     reached shortestNextHops leadsInto ready candidate placedNeighbours preferred select continued placing build
     rank sortsBefore rankedBefore fullRow row
     hopTo hop start routeOn route longest afterHop afterCall afterCalls
-    up firstLive validStates greatestHop greatestHops costOf
-    upBut leftAt callOf claimHolds holds
+    up firstLive validStates greatestHop greatestHops pathsAt throughEach pathsFrom everyPath costOf
+    upBut leftAt callOf samePaths claimHolds holds
     link T-network F-network T-reversed about allUp further
 further-hold = tt
 

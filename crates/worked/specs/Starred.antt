@@ -14,7 +14,7 @@ use Rattle.stream.specs.Table.{T-stream}
 use Rattle.topology.specs.Written.{joinedOver}
 use Rattle.order.specs.declared.Mode as call
 use Rattle.order.specs.declared.Mode.the-variants.{ShortestPath, Free}
-use Rattle.worked.specs.Fact.{Fact, Claim, order-is, row-is, greatest-are, walk-costs, calls-leave, set, hop, upBut, holds}
+use Rattle.worked.specs.Fact.{Fact, Claim, order-is, row-is, greatest-are, paths-are, walk-costs, calls-leave, set, hop, upBut, holds}
 use Rattle.worked.specs.Chain.{Chain, Expected, builds, lists, counts, walks, delivered, dropped, follows}
 
 unfoldable pub link : ℕ → ℕ → ℕ → Link
@@ -86,7 +86,7 @@ unfoldable pub about : Network → ℕ → Mode → Claim → Fact
 about n d mode claim = record { network = n; destination = d; mode = mode; claim = claim }
 
 -- Facts beside the starred ones: 01's listing of T and its rows of F, where a tie stands in a row; T with its IDs reversed, where an ID taken for a
--- place would show; lists of calls, refused ones included, and what walks cost, worked by hand.
+-- place would show; every path from a start; lists of calls, refused ones included, and what walks cost, worked by hand.
 unfoldable pub further : List Fact
 further =
     about T-network 0 shortest-path (greatest-are 16 (0 ∷ 1 ∷ 2 ∷ []))
@@ -108,6 +108,11 @@ further =
     ∷ about T-reversed 0 free (order-is (0 ∷ 1 ∷ 2 ∷ []))
     ∷ about T-reversed 2 free (order-is (2 ∷ 0 ∷ 1 ∷ []))
     ∷ about T-reversed 2 free (row-is 16 1 (2 ∷ 0 ∷ []))
+    ∷ about T-network 0 shortest-path (paths-are 16 0 ((0 ∷ []) ∷ []))
+    ∷ about T-network 0 shortest-path (paths-are 16 2 ((2 ∷ 1 ∷ 0 ∷ []) ∷ (2 ∷ 0 ∷ []) ∷ []))
+    ∷ about F-network 0 shortest-path
+    (paths-are 16 5 ((5 ∷ 4 ∷ 2 ∷ 0 ∷ []) ∷ (5 ∷ 3 ∷ 1 ∷ 0 ∷ []) ∷ (5 ∷ 3 ∷ 1 ∷ 2 ∷ 0 ∷ []) ∷ (5 ∷ 3 ∷ 4 ∷ 2 ∷ 0 ∷ []) ∷ []))
+    ∷ about F-network 0 shortest-path (paths-are 1 5 ((5 ∷ 4 ∷ 2 ∷ 0 ∷ []) ∷ []))
     ∷ about T-network 0 shortest-path (walk-costs 16 2 (allUp ∷ allUp ∷ []) 2)
     ∷ about T-network 0 shortest-path (walk-costs 16 2 (upBut T-network (1 ∷ []) ∷ allUp ∷ []) 3)
     ∷ about F-network 0 shortest-path (walk-costs 16 5 (replicate 5 (upBut F-network [])) 3)

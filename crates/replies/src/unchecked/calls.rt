@@ -15,7 +15,7 @@ ghost use mathlib.Core.Path.{_≡_};
 ghost use Prim.Native.Nat.{ℕ, _≤_};
 ghost use lib.ListN.{length};
 ghost use Rattle.requests.specs.Requests.{mostLine};
-ghost use Rattle.replies.specs.Calls.{lent, mostRoom, writeIn, orderIn, checkOrderIn, fillIn, checkTable, countIn, walkIn, listIn, oldStreamIn, coverageOf};
+ghost use Rattle.replies.specs.Calls.{lent, mostRoom, writeIn, orderIn, checkOrderIn, fillIn, checkTable, countIn, walkIn, listIn, oldStreamIn, coverageOf, pathsIn};
 ghost use Rattle.requests.specs.Replies.{Replies, heldIn};
 
 // `write ROOM`
@@ -171,4 +171,21 @@ pub fn cover(t: Topology, buffer: &mut [u8]) -> Reply
     let start = lines::put(buffer, 0, b"0 0 ");
     let end = counting::unchecked::put_coverage(figures, buffer, start, b' ');
     Reply::Line(end - 1)
+}
+
+// `paths START ROOM`
+pub fn write_paths(h: Holding, table: &[u8], line: &[u8], buffer: &mut [u8]) -> Reply
+    requires { ⌜ (h .size ≤ length (now table)) × (now buffer ≡ lent mostRoom) ⌝ }
+    ensures { λ r. ⌜ Replies (pathsIn (heldIn h (now (table .entry))) (now (line .entry))) r (now (buffer .exit)) ⌝ }
+{
+    let t = h.topology;
+    let size = h.size;
+    let Value::Is(u) = asked::number_in(line, 1, BYTE) else {
+        return Reply::Error;
+    };
+    let Value::Is(n) = asked::number_in(line, 2, ROOM) else {
+        return Reply::Error;
+    };
+    let answer = paths::write(t, &table[..size], Place(u as u8), &mut buffer[..n]);
+    Reply::Leaves(answer, n)
 }

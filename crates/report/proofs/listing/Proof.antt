@@ -10,9 +10,9 @@ use lib.Dec.{T, ltb}
 use lib.ListN.{length, take}
 use Rattle.stations.specs.Outcome.{given, turnedAway}
 use Rattle.soundness.specs.Sound.{sound}
-use Rattle.text.proofs.Stores.{start}
+use Rattle.text.proofs.Stores.{start, put-start}
 use Rattle.wording.specs.Listing.{linesFor, listing}
-use Rattle.wording.proofs.InTurn.{put-length, put-start}
+use Rattle.wording.proofs.InTurn.{put-length}
 use Rattle.wording.proofs.Tables.{lines-length}
 use borrow.Author.Needs.{needs}
 use Rattle.report.proofs.listing.Statement.{statement}

@@ -74,13 +74,19 @@ unfolding answer answerTo heldIn
 returns-15 c = rw (asked (c .before .before .before .before .before .before) (c .before .before .before .before .enum-told15 .given .1)) (kept-step (c .before .before .before .before .before .before .before .before .before .before .before .pre .0 .size) (c .before .before .cover .ensures))
 
 returns-16 : tie.Need-returns-16
+unfolding answer answerTo heldIn
+returns-16 c = rw (asked (c .before .before .before .before .before .before .before) (c .before .before .before .before .before .enum-told16 .given .1)) (kept-step (c .before .before .before .before .before .before .before .before .before .before .before .before .pre .0 .size) (c .before .before .write-paths .ensures))
+
+returns-17 : tie.Need-returns-17
 unfolding answer answerTo
-returns-16 c = rw (asked (c .before .before) (c .enum-told16 .given .1)) (error-step (c .before .before .before .before .before .before .before .pre .0 .size))
+returns-17 c = rw (asked (c .before .before) (c .enum-told17 .given .1)) (error-step (c .before .before .before .before .before .before .before .pre .0 .size))
 
 pub step-spec : {M : Type 1} → statement M
 step-spec =
     tie.close
     (tie.spec
+    (λ c κs. search needs)
+    (λ c. search needs)
     (λ c κs. search needs)
     (λ c. search needs)
     (λ c κs. search needs)
@@ -140,4 +146,7 @@ step-spec =
     returns-14
     (λ c. search needs)
     returns-15
-    returns-16)
+    (λ c. search needs)
+    (λ c. search needs)
+    returns-16
+    returns-17)

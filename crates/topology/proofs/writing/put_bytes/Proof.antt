@@ -1,9 +1,9 @@
 -- What was put is the first i bytes, and a turn puts one more behind them. The measure is how many are left.
 -- Assumes nothing.
-use Prim.Native.Nat.{_+_, _-_, _≤_}
+use Prim.Native.Nat.{_-_, _≤_}
 use mathlib.Core.Path.{_≡_, sym, ap, _∙_}
 use native.Mathlib.Omega.{arith}
-use lib.ListN.{length, take, length-set}
+use lib.ListN.{length, take}
 use lib.Seq.{length-take-le, take-all}
 use Rattle.stations.proofs.Prefix.{take-more}
 use Rattle.topology.specs.Inner.{over}

@@ -1,6 +1,5 @@
 -- `0 0 ` and the figures are put into the buffer, one behind the other, and the reply names all of it but the last space.
 -- Assumes nothing.
-use Prim.Native.Nat.{_≤_}
 use mathlib.Core.Path.{_≡_, refl, ap, _∙_}
 use native.Mathlib.Omega.{arith}
 use borrow.Author.Needs.{needs}

@@ -1,0 +1,97 @@
+-- The rule for paths, turn by turn, over the paths gathered so far. Ranks fall along entries, and a rank is below 64.
+-- Assumes nothing.
+use Prim.Native.Nat.{ℕ, _+_, _*_, _≤_, _<_}
+use mathlib.Core.List.{List, [], _∷_, _++_}
+use mathlib.Core.Path.{_≡_}
+use native.Mathlib.Numerals.{add-one}
+use native.Mathlib.Omega.{arith}
+use lib.ListN.{length, getD, set}
+use Rattle.network.specs.Lists.{counted}
+use Rattle.stations.specs.declared.Place.{Place}
+use Rattle.stations.specs.declared.Topology.{Topology}
+use Rattle.soundness.proofs.Sound.{sound-exact}
+use Rattle.topology.specs.Written.{joinedOver}
+use Rattle.rows.specs.Bytes.{rowStart}
+use Rattle.packet.specs.Theorems.{rankByte, Lists}
+use Rattle.packet.proofs.Listed.{Over}
+use Rattle.hops.specs.Inner.{RowOf}
+use Rattle.hops.proofs.Bounds as bounds
+use Rattle.ways.specs.Calls.{pathsOf, pathsPast}
+use Rattle.ways.specs.Theorems.{Passed, PathRule}
+use Rattle.ways.proofs.Listed.{o, lower}
+use Rattle.ways.proofs.Entries.{turn}
+use Rattle.ways.proofs.Rule.{paths-by-rule}
+use Rattle.paths.specs.declared.gathering.Entry.{Entry}
+use Rattle.paths.specs.declared.gathering.Entry.the-variants as entry
+use Rattle.paths.specs.Inner.{Reads, Asked, Gathered}
+use Rattle.paths.proofs.Behind.{onward}
+
+module _ {t : Topology} {table : List ℕ} {u : ℕ} (on : Passed t table u) where
+  rule : PathRule t table u
+  rule = paths-by-rule t (on .is-sound) table (on .accepted) u (on .place)
+
+  abbrev listed : Over t table
+  listed = o t (on .is-sound) table (on .accepted)
+
+  -- its row stands in the table
+  pub row-of : RowOf table u
+  row-of = bounds.row-of t (on .is-sound) table listed u (on .place)
+
+  pub table-long : 1 < length table
+  unfolding rowStart
+  table-long = omega (arith, row-of .whole)
+
+  pub few-entries : getD table (4 + 19 * u + 2) 0 ≤ 16
+  unfolding rowStart
+  few-entries = row-of .few
+
+  pub rank-few : rankByte table u < 64
+  rank-few = omega (arith, listed .rank-is u (on .place), listed .rank-below u (on .place), sound-exact t .0 (on .is-sound) .routers-most)
+
+  module _ {route : List ℕ} {moves : ℕ} {b : List ℕ} {count r : ℕ} {b′ : List ℕ} where
+    -- at the destination
+    pub arrives : u ≡ getD table 1 0 → Gathered (set route moves u) 64 b count ([] ∷ []) r b′ → Gathered route moves b count (pathsOf t table u) r b′
+    unfolding counted joinedOver
+    arrives e g = rw (rule .at-destination e) (record { total = g .total; put = g .put })
+
+    -- elsewhere
+    pub goes-on : (u ≡ getD table 1 0 → ⊥) → Gathered (set route moves u) (moves + 1) b count (pathsPast t table u 0) r b′ →
+        Gathered route moves b count (pathsOf t table u) r b′
+    goes-on off g = rw (rule .elsewhere off) (onward u g)
+
+  -- the entry i, and those behind it
+  pub record Next (i v : ℕ) : Type 0 where
+    pub stands : Passed t table v
+    pub lower : rankByte table v < rankByte table u
+    pub inside : i < getD table (4 + 19 * u + 2) 0
+    pub paths : pathsPast t table u i ≡ pathsOf t table v ++ pathsPast t table u (i + 1)
+
+  listed-next : (i v : ℕ) → Lists table u i v → Next i v
+  listed-next i v l =
+      let f = turn t (on .is-sound) table (on .accepted) u i v l in
+      let (there, less) = lower t (on .is-sound) table (on .accepted) u (on .place) (f .arc) (f .among) in
+      record {
+        stands = record { is-sound = on .is-sound; accepted = on .accepted; place = rw (f .to) at there };
+        lower = rw (f .to) at less;
+        inside = l .0;
+        paths = rw add-one (rule .entry i v l);
+      }
+
+  -- by what was read as the entry i
+  module _ (i : ℕ) (r : Entry) (reads : Reads table u i r) where
+    pub past : r ≡ entry.Past → pathsPast t table u i ≡ []
+    unfolding Reads
+    past e = rule .past i (rw e at reads)
+
+    pub next : (v : Place) → r ≡ entry.To v → Next i (v .0)
+    unfolding Reads
+    next v e = listed-next i (v .0) (rw e at reads)
+
+-- What is asked of the place that an entry names; and of the same station with other paths gathered, or one fewer to come.
+module _ {table : List ℕ} {u moves count : ℕ} {out : List ℕ} (a : Asked table u moves count out) where
+  pub asked-next : {i v : ℕ} → Next (a .on) i v → count ≤ 512 → Asked table v (moves + 1) (count + 1) out
+  asked-next n few =
+      record { topology = a .topology; on = n .stands; short = omega (arith, a .short, n .lower); few = omega arith; room = a .room }
+
+  pub asked-again : {now : ℕ} → now ≤ 513 → {left : List ℕ} → length left ≡ length out → Asked table u moves now left
+  asked-again few long = record { topology = a .topology; on = a .on; short = a .short; few = few; room = omega (arith, a .room) }

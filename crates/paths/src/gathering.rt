@@ -1,0 +1,91 @@
+// Every path from a station, gathered one behind the other: each is put over the route by which the station was reached, 64 bytes, 255 where no place is.
+use super::PATH;
+use super::PATHS;
+use rows::FRONT;
+use rows::HEADER;
+use rows::ROW;
+use stations::Place;
+use text::unchecked::lines;
+ghost use mathlib.Core.List.{[], _∷_};
+ghost use Prim.Native.Nat.{_+_, _≤_};
+ghost use lib.ListN.{length};
+ghost use Rattle.stations.specs.declared.Topology.{Topology};
+ghost use Rattle.stations.specs.Limits.{mostRouters};
+ghost use Rattle.hops.specs.Inner.{RowOf};
+ghost use Rattle.ways.specs.Calls.{mostPaths, pathsOf, pathsPast};
+ghost use Rattle.ways.specs.Theorems.{Passed};
+ghost use Rattle.paths.specs.Inner.{mostBytes, Reads, Asked, Gathered};
+
+// An entry of a row, unless the row has fewer.
+enum Entry {
+    To(Place),
+    Past,
+}
+
+// The entry i of a station's row.
+fn entry_of(table: &[u8], station: Place, i: usize) -> Entry
+    requires { ⌜ RowOf (now table) (station .0) ⌝ }
+    ensures { λ r. ⌜ Reads (now (table .entry)) (station .0) i r ⌝ }
+{
+    let row = HEADER + ROW * station.0 as usize;
+    let entries = table[row + 2] as usize;
+    if entries <= i {
+        return Entry::Past;
+    }
+    Entry::To(Place(table[row + FRONT + i]))
+}
+
+// A path that has come to its end; one beyond 512 is not put. Answers how many there are then.
+fn put_path(path: [u8; PATH], out: &mut [u8], count: usize) -> usize
+    requires { ⌜ (count ≤ mostPaths) × (mostBytes ≤ length (now out)) ⌝ }
+    ensures { λ r. ⌜ Gathered path mostRouters (now (out .entry)) count ([] ∷ []) r (now (out .exit)) ⌝ }
+{
+    if PATHS <= count {
+        return count + 1;
+    }
+    lines::put(out, PATH * count, &path);
+    count + 1
+}
+
+// The paths from a station, which is reached by a route of so many moves.
+pub(crate) fn from_station(
+    table: &[u8],
+    station: Place,
+    route: [u8; PATH],
+    moves: usize,
+    out: &mut [u8],
+    count: usize,
+) -> usize
+    requires { ⌜ Asked (now table) (station .0) (moves + 1) (count + 1) (now out) ⌝ }
+    ensures { λ r. ⌜ ((t : Topology) → Passed t (now (table .entry)) (station .0) → Gathered route moves (now (out .entry)) count (pathsOf t (now (table .entry)) (station .0)) r (now (out .exit))) ⌝ }
+{
+    let mut here = route;
+    here[moves] = station.0;
+    if station.0 == table[1] {
+        return put_path(here, out, count);
+    }
+    through_entries(table, station, 0, here, moves + 1, out, count)
+}
+
+// The paths through the entries of a station's row, from the entry i on; a count beyond 512 goes no further.
+fn through_entries(
+    table: &[u8],
+    station: Place,
+    i: usize,
+    route: [u8; PATH],
+    moves: usize,
+    out: &mut [u8],
+    count: usize,
+) -> usize
+    requires { ⌜ Asked (now table) (station .0) moves count (now out) ⌝ }
+    ensures { λ r. ⌜ ((t : Topology) → Passed t (now (table .entry)) (station .0) → Gathered route moves (now (out .entry)) count (pathsPast t (now (table .entry)) (station .0) i) r (now (out .exit))) ⌝ }
+{
+    if PATHS < count {
+        return count;
+    }
+    let Entry::To(next) = entry_of(table, station, i) else {
+        return count;
+    };
+    let more = from_station(table, next, route, moves, out, count);
+    through_entries(table, station, i + 1, route, moves, out, more)
+}

@@ -1,0 +1,29 @@
+// The fields of a line: numbers of one digit or two, a space before each.
+use text::unchecked::lines;
+ghost use Prim.Native.Nat.{_+_, _*_, _≤_, _<_};
+ghost use lib.ListN.{length};
+ghost use Rattle.text.specs.Lines.{Put};
+ghost use Rattle.wording.specs.Inner.{field, fieldsText, Short};
+
+// A space and a number.
+pub(crate) fn put_field(out: &mut [u8], at: usize, n: u8) -> usize
+    requires { ⌜ (n < 100) × (at + 3 ≤ length (now out)) ⌝ }
+    ensures { λ r. ⌜ Put (now (out .entry)) at (field n) r (now (out .exit)) ⌝ }
+{
+    out[at] = b' ';
+    lines::put_small(out, at + 1, n)
+}
+
+// Numbers from an offset of the slice on; answers the offset after them.
+pub fn put_fields(out: &mut [u8], at: usize, numbers: &[u8]) -> usize
+    requires { ⌜ Short (now numbers) × (at + 3 * length (now numbers) ≤ length (now out)) ⌝ }
+    ensures { λ r. ⌜ Put (now (out .entry)) at (fieldsText (now (numbers .entry))) r (now (out .exit)) ⌝ }
+{
+    let mut end = at;
+    let mut i: usize = 0;
+    while i < numbers.len() {
+        end = put_field(out, end, numbers[i]);
+        i += 1;
+    }
+    end
+}

@@ -1,0 +1,18 @@
+-- The output is the program's by the reading's number; a reading with number 0 has a sound topology, of which the lines are right.
+-- Assumes nothing.
+use mathlib.Core.Path.{_∙_}
+use Rattle.stream.proofs.Returned.{reads-sound}
+use Rattle.programs.proofs.Right.{all-print}
+use Rattle.tracing.specs.Lines.{allPaths}
+use Rattle.tracing.proofs.Right.{lines-right, all-in-turn}
+use Rattle.routes.specs.Output.{output}
+use Rattle.routes.specs.Theorems.{PrintsRight}
+
+pub prints-right : PrintsRight
+unfolding output
+prints-right stream bytes =
+    record {
+      refused = all-print allPaths stream .refused;
+      read = λ none. all-print allPaths stream .read none ∙ all-in-turn _;
+      lines = λ none. lines-right _ (reads-sound stream bytes .is-sound none);
+    }

@@ -1,0 +1,10 @@
+-- What the program for the repair crews prints for what it has read (02, 103).
+-- Assumes nothing.
+use Prim.Native.Nat.{ℕ}
+use mathlib.Core.List.{List}
+use Rattle.programs.specs.Output.{outputBy}
+use Rattle.tracing.specs.Lines.{allPaths}
+
+-- the whole output: the lines of every path; a refused stream prints the listing's line
+unfoldable pub output : List ℕ → List ℕ
+output stream = outputBy allPaths stream

@@ -1,0 +1,87 @@
+// The program for the repair crews (02, 103): reads a topology stream on standard input as the listing does, and prints, by the listing's tables, for each
+// destination and within it each start, by place, every path as places, one a line: destination, start, `:`, places. A start with more than 512 paths has
+// one line: destination, start, `: more than 512 paths`. A refused stream prints the listing's line: `refused`, number, at.
+use arcs::Arcs;
+use order::Mode;
+use rows::HEADER;
+use rows::ROW;
+use rows::TABLE;
+use topology::Place;
+use topology::Topology;
+ghost use mathlib.Core.Path.{_≡_};
+ghost use Prim.Native.Nat.{_≤_, _<_};
+ghost use lib.Dec.{T};
+ghost use lib.ListN.{length};
+ghost use Rattle.stations.specs.Topology.{networkOf};
+ghost use Rattle.soundness.specs.Sound.{sound};
+ghost use Rattle.arcs.specs.Arcs.{Holds};
+ghost use Rattle.tracing.specs.Inner.{mostLines};
+
+// An array that comes out of a function is known by what the function ensures.
+fn room() -> [u8; TABLE]
+    ensures { λ r. ⌜ 1220 ≡ length r ⌝ }
+{
+    [0; TABLE]
+}
+
+// Writes the lines of a destination, start by start, by place; answers whether that went well.
+fn write_to(t: Topology, a: Arcs, destination: Place, out: &mut [u8]) -> bool
+    requires { ⌜ T (sound t) × Holds (networkOf t) a × (destination .0 < t .routers) × (mostLines ≤ length (now out)) ⌝ }
+{
+    let length = HEADER + ROW * t.routers;
+    let mut table = room();
+    table::unchecked::build(t, a, destination, Mode::ShortestPath, &mut table);
+    let mut u: usize = 0;
+    while u < t.routers {
+        let end = tracing::unchecked::put_lines(
+            t,
+            &table[..length],
+            destination,
+            Place(u as u8),
+            out,
+        );
+        if !programs::write_output(&out[..end]) {
+            return false;
+        }
+        u += 1;
+    }
+    true
+}
+
+// Writes the lines of all destinations, by place, until that fails.
+fn write_all(t: Topology, a: Arcs, out: &mut [u8])
+    requires { ⌜ T (sound t) × Holds (networkOf t) a × (mostLines ≤ length (now out)) ⌝ }
+{
+    let mut d: usize = 0;
+    while d < t.routers {
+        if !write_to(t, a, Place(d as u8), out) {
+            return;
+        }
+        d += 1;
+    }
+}
+
+// Writes the output for a stream.
+fn write_for(stream: &[u8], out: &mut [u8])
+    requires { ⌜ mostLines ≤ length (now out) ⌝ }
+{
+    let reading = topology::read(stream);
+    let answer = reading.answer;
+    if answer.number != 0 {
+        let end = programs::unchecked::put_refused(out, answer);
+        programs::write_output(&out[..end]);
+        return;
+    }
+    let t = reading.topology;
+    write_all(t, arcs::unchecked::of(t), out);
+}
+
+// What is read and written no contract says. That the bytes are the first 65,536 of standard input, that the lines of every start of every destination,
+// which `put_lines` makes, go to standard output once, by place, until that fails, and that of a refused stream only its line does, is read here, in
+// `write_for` and in the two loops, and tried by examples/edges.
+fn main() {
+    let mut input = programs::room_for_input();
+    let n = programs::read_input(&mut input);
+    let mut out = tracing::unchecked::room_for_lines();
+    write_for(&input[..n], &mut out);
+}

@@ -1,0 +1,4 @@
+pub mod Lines
+pub mod Inner
+pub mod Theorems
+pub mod Facts
