@@ -1,6 +1,7 @@
 // The coverage program (02, #102): reads a topology stream on standard input as the listing does, and prints, from the listing's tables, two numbers a line,
 // unreduced: how many pairs of a router and another destination have two or more next hops, over N(N - 1); then for each destination, by place, how many
 // next hops its rows list, over the number of links. A refused stream prints the listing's line: `refused`, number, at.
+use libc::STDOUT_FILENO;
 ghost use mathlib.Core.Path.{_≡_};
 ghost use Prim.Native.Nat.{_≤_};
 ghost use lib.ListN.{length};
@@ -38,5 +39,5 @@ fn main() {
     let n = programs::read_input(&mut input);
     let mut out = room();
     let end = put_output(&input[..n], &mut out);
-    programs::write_output(&out[..end]);
+    io::write_all(STDOUT_FILENO, &out[..end]);
 }

@@ -1,6 +1,5 @@
-// What the programs share that read a topology stream and print its text: standard input, the line of a refused stream, and standard output.
+// What the programs share that read a topology stream and print its text: standard input, and the line of a refused stream.
 use libc::STDIN_FILENO;
-use libc::STDOUT_FILENO;
 ghost use mathlib.Core.Path.{_≡_};
 ghost use lib.ListN.{length};
 ghost use Rattle.io.specs.Counts.{Counts};
@@ -22,9 +21,4 @@ pub fn read_input(input: &mut [u8]) -> usize
     ensures { λ r. ⌜ Counts r (now (input .exit)) ⌝ }
 {
     io::read_full(STDIN_FILENO, input)
-}
-
-// Writes the text to standard output and answers whether that went well. Where it fails there is nobody to tell, and nothing more to write.
-pub fn write_output(text: &[u8]) -> bool {
-    io::write_all(STDOUT_FILENO, text)
 }

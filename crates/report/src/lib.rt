@@ -4,7 +4,6 @@ use stations::Place;
 use stations::ROUTERS;
 use stations::Topology;
 
-mod fields;
 mod printing;
 pub mod unchecked;
 

@@ -1,6 +1,6 @@
 // Putting lines into a lent buffer: each number is put behind the one before, which answers where it ends.
-use super::fields::put_field;
-use super::fields::put_fields;
+use super::unchecked::fields::put_field;
+use super::unchecked::fields::put_fields;
 use rows::ENTRIES;
 use rows::FRONT;
 use rows::HEADER;

@@ -1,5 +1,6 @@
 // For callers that have tested the topology, laid out its arcs and lent the room.
-pub use super::fields::put_fields;
+pub mod fields;
+
 use super::printing;
 use arcs::Arcs;
 use order::Mode;

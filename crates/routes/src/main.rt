@@ -2,6 +2,7 @@
 // destination and within it each start, by place, every path as places, one a line: destination, start, `:`, places. A start with more than 512 paths has
 // one line: destination, start, `: more than 512 paths`. A refused stream prints the listing's line: `refused`, number, at.
 use arcs::Arcs;
+use libc::STDOUT_FILENO;
 use order::Mode;
 use rows::HEADER;
 use rows::ROW;
@@ -40,7 +41,7 @@ fn write_to(t: Topology, a: Arcs, destination: Place, out: &mut [u8]) -> bool
             Place(u as u8),
             out,
         );
-        if !programs::write_output(&out[..end]) {
+        if !io::write_all(STDOUT_FILENO, &out[..end]) {
             return false;
         }
         u += 1;
@@ -49,7 +50,7 @@ fn write_to(t: Topology, a: Arcs, destination: Place, out: &mut [u8]) -> bool
 }
 
 // Writes the lines of all destinations, by place, until that fails.
-fn write_all(t: Topology, a: Arcs, out: &mut [u8])
+fn write_each(t: Topology, a: Arcs, out: &mut [u8])
     requires { ⌜ T (sound t) × Holds (networkOf t) a × (mostLines ≤ length (now out)) ⌝ }
 {
     let mut d: usize = 0;
@@ -69,11 +70,11 @@ fn write_for(stream: &[u8], out: &mut [u8])
     let answer = reading.answer;
     if answer.number != 0 {
         let end = programs::unchecked::put_refused(out, answer);
-        programs::write_output(&out[..end]);
+        io::write_all(STDOUT_FILENO, &out[..end]);
         return;
     }
     let t = reading.topology;
-    write_all(t, arcs::unchecked::of(t), out);
+    write_each(t, arcs::unchecked::of(t), out);
 }
 
 // What is read and written no contract says. That the bytes are the first 65,536 of standard input, that the lines of every start of every destination,

@@ -37,7 +37,7 @@ fn put_path(out: &mut [u8], at: usize, destination: u8, start: u8, path: &[u8]) 
 {
     let middle = put_front(out, at, destination, start);
     let places = fields::width(path, 255);
-    let end = report::unchecked::put_fields(out, middle, &path[..places]);
+    let end = report::unchecked::fields::put_fields(out, middle, &path[..places]);
     out[end] = b'\n';
     end + 1
 }

@@ -19,8 +19,8 @@ fits c =
     let start = c .before .before .before .before .before .before .before .before in
     omega (arith, ended (c .put-refused .ensures) (refused-length _), start .pre)
 
-slice-aggregate-write-output : tie.Need-slice-aggregate-write-output
-slice-aggregate-write-output c = sym (length-take-le _ _ (fits (c .before .before .before)))
+slice-aggregate-write-all : tie.Need-slice-aggregate-write-all
+slice-aggregate-write-all c = sym (length-take-le _ _ (fits (c .before .before .before)))
 
 -- what was read
 its-topology : (c : tie.Else1) → T (sound (c .before .before .before .read .result .topology))
@@ -28,8 +28,8 @@ its-topology c =
     let r = c .before .before .before in
     read-sound (r .before .before .before .args .stream .now) (λ i. omega (arith, r .before .before .shared-slice-known .given i)) (r .read .ensures) (c .if1 .left)
 
-write-all-requires : tie.Need-write-all-requires
-write-all-requires c κs =
+write-each-requires : tie.Need-write-each-requires
+write-each-requires c κs =
     let else : tie.Else1 = c .before .before .before in
     (its-topology else, c .before .of .ensures, else .before .before .before .before .before .before .pre)
 
@@ -40,11 +40,11 @@ write-for-spec =
     (λ c κs. search needs)
     (λ c κs. search needs)
     (λ c. fits (c .before .before))
-    slice-aggregate-write-output
+    slice-aggregate-write-all
     (λ c κs. search needs)
     (λ c. search needs)
     (λ c. search needs)
     (λ c κs. its-topology (c .before))
-    write-all-requires
+    write-each-requires
     (λ c. search needs)
     (λ c. search needs))

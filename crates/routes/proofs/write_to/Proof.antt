@@ -80,8 +80,8 @@ module _ (c : tie.After-put-lines Inv-loop μ-loop) where
   same : length (c .put-lines .last .1 .1 .1 .1 .0) ≡ length (start (built turn) .args .out .now)
   same = put-length (c .put-lines .ensures) ∙ turn .before .before .loop .inv .1
 
-slice-aggregate-write-output : tie.Need-slice-aggregate-write-output Inv-loop μ-loop
-slice-aggregate-write-output c = sym (length-take-le _ _ (fits (c .before .before .before)))
+slice-aggregate-write-all : tie.Need-slice-aggregate-write-all Inv-loop μ-loop
+slice-aggregate-write-all c = sym (length-take-le _ _ (fits (c .before .before .before)))
 
 loop-again : tie.Need-loop-again Inv-loop μ-loop
 loop-again c =
@@ -105,7 +105,7 @@ write-to-spec =
     (λ c. omega (arith, c .before .if1 .taken, most (built (c .before))))
     put-lines-requires
     (λ c. fits (c .before .before))
-    slice-aggregate-write-output
+    slice-aggregate-write-all
     (λ c κs. search needs)
     (λ c. same (c .before .before .before .before .before))
     (λ c. search needs)

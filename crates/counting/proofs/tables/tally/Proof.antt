@@ -64,38 +64,8 @@ module _ (c : tie.In-loop Inv-loop μ-loop) where
   unfolding entriesAt rowStart twoIn
   none-more h = omega (arith, c .before .loop .inv .1, count-same (λ v. leb 2 (entriesAt table v)) u (lt-leb 2 _ h))
 
-mul-count : tie.Need-mul-count Inv-loop μ-loop
-mul-count c = omega (arith, turn c)
-
-add-count : tie.Need-add-count Inv-loop μ-loop
-add-count c = omega (arith, turn c)
-
-add-count-2 : tie.Need-add-count-2 Inv-loop μ-loop
-add-count-2 c = omega (arith, turn c)
-
-shared-slice-read-count : tie.Need-shared-slice-read-count Inv-loop μ-loop
-shared-slice-read-count c = omega (arith, turn (c .before))
-
-cast-count : tie.Need-cast-count Inv-loop μ-loop
-cast-count c = omega (arith, turn (c .before))
-
-add-entries : tie.Need-add-entries Inv-loop μ-loop
-add-entries c = omega (arith, turn (c .before))
-
-add-u : tie.Need-add-u Inv-loop μ-loop
-add-u c = omega (arith, turn (c .before))
-
-add-two : tie.Need-add-two Inv-loop μ-loop
-add-two c = omega (arith, turn (c .before .before))
-
-loop-less : tie.Need-loop-less Inv-loop μ-loop
-loop-less c = omega (arith, turn (c .before .before))
-
 loop-again : tie.Need-loop-again Inv-loop μ-loop
 loop-again c = let at = c .before .before in (omega (arith, turn at), one-more at (c .if1 .taken), more-entries at)
-
-loop-less-2 : tie.Need-loop-less-2 Inv-loop μ-loop
-loop-less-2 c = omega (arith, turn (c .before .before))
 
 loop-again-2 : tie.Need-loop-again-2 Inv-loop μ-loop
 loop-again-2 c = let at = c .before .before in (omega (arith, turn at), none-more at (c .if1 .left), more-entries at)
@@ -113,16 +83,16 @@ tally-spec =
     Inv-loop
     μ-loop
     loop-holds
-    mul-count
-    add-count
-    add-count-2
-    shared-slice-read-count
-    cast-count
-    add-entries
-    add-u
-    add-two
-    loop-less
+    (λ c. omega (arith, turn c))
+    (λ c. omega (arith, turn c))
+    (λ c. omega (arith, turn c))
+    (λ c. omega (arith, turn (c .before)))
+    (λ c. omega (arith, turn (c .before)))
+    (λ c. omega (arith, turn (c .before)))
+    (λ c. omega (arith, turn (c .before)))
+    (λ c. omega (arith, turn (c .before .before)))
+    (λ c. omega (arith, turn (c .before .before)))
     loop-again
-    loop-less-2
+    (λ c. omega (arith, turn (c .before .before)))
     loop-again-2
     returns)

@@ -70,48 +70,6 @@ module _ (c : tie.In-loop Inv-loop μ-loop) where
       let many : first + count - first ≡ count = omega arith in
       rw many
 
-mul-start : tie.Need-mul-start Inv-loop μ-loop
-mul-start c = omega (arith, in-table c)
-
-add-start : tie.Need-add-start Inv-loop μ-loop
-add-start c = omega (arith, in-table c)
-
-add-first : tie.Need-add-first Inv-loop μ-loop
-add-first c = omega (arith, in-table c)
-
-add-last : tie.Need-add-last Inv-loop μ-loop
-add-last c = omega (arith, in-table c)
-
-shared-slice-read-last : tie.Need-shared-slice-read-last Inv-loop μ-loop
-shared-slice-read-last c = omega (arith, in-table (c .before))
-
-cast-last : tie.Need-cast-last Inv-loop μ-loop
-cast-last c = omega (arith, in-table (c .before))
-
-add-last-2 : tie.Need-add-last-2 Inv-loop μ-loop
-add-last-2 c = omega (arith, in-table (c .before))
-
-cast-t16 : tie.Need-cast-t16 Inv-loop μ-loop
-cast-t16 c = omega (arith, in-table (c .before))
-
-add-t14 : tie.Need-add-t14 Inv-loop μ-loop
-add-t14 c = omega (arith, in-table (c .before))
-
-shared-slice-read-t19 : tie.Need-shared-slice-read-t19 Inv-loop μ-loop
-shared-slice-read-t19 c = omega (arith, in-table (c .before .before))
-
-shared-slice-read-t21 : tie.Need-shared-slice-read-t21 Inv-loop μ-loop
-shared-slice-read-t21 c = omega (arith, in-table (c .before .before .before), c .before .before .before .before .before .before .before .before .pre .0 .counted)
-
-sub-put-line : tie.Need-sub-put-line Inv-loop μ-loop
-sub-put-line c = omega (arith, in-table (c .before .before .before .before))
-
-part-put-line-start : tie.Need-part-put-line-start Inv-loop μ-loop
-part-put-line-start c = omega (arith, in-table (c .before .before .before .before))
-
-part-put-line-end : tie.Need-part-put-line-end Inv-loop μ-loop
-part-put-line-end c = omega (arith, in-table (c .before .before .before .before))
-
 put-line-requires : tie.Need-put-line-requires Inv-loop μ-loop
 unfolding front rankIn rowStart
 put-line-requires c κs =
@@ -122,12 +80,6 @@ put-line-requires c κs =
       rw (entries turn) (pre .0 .row _ (turn .loop-test .taken)),
       omega (arith, at .ends, at .long, pre .1, turn .loop-test .taken),
     )
-
-add-u : tie.Need-add-u Inv-loop μ-loop
-add-u c = omega (arith, in-table (c .before .before .before .before .before .before .before .before))
-
-loop-less : tie.Need-loop-less Inv-loop μ-loop
-loop-less c = omega (arith, in-table (c .before .before .before .before .before .before .before .before))
 
 loop-again : tie.Need-loop-again Inv-loop μ-loop
 unfolding front rankIn rowStart lineIn lineOf
@@ -140,9 +92,6 @@ loop-again c =
       more (lineIn (start .args .table .now) (start .args .hops .now) (start .args .destination)) mostLine (turn .before .loop .inv .1) u few
           (rw (entries turn) at (c .before .before .put-line .ensures)) (below-more u),
     )
-
-same-length : tie.Need-same-length Inv-loop μ-loop
-same-length c = c .before .loop .inv .1 .long
 
 returns : tie.Need-returns Inv-loop μ-loop
 unfolding tableText
@@ -157,23 +106,23 @@ put-table-spec =
     Inv-loop
     μ-loop
     loop-holds
-    mul-start
-    add-start
-    add-first
-    add-last
-    shared-slice-read-last
-    cast-last
-    add-last-2
-    cast-t16
-    add-t14
-    shared-slice-read-t19
-    shared-slice-read-t21
-    sub-put-line
-    part-put-line-start
-    part-put-line-end
+    (λ c. omega (arith, in-table c))
+    (λ c. omega (arith, in-table c))
+    (λ c. omega (arith, in-table c))
+    (λ c. omega (arith, in-table c))
+    (λ c. omega (arith, in-table (c .before)))
+    (λ c. omega (arith, in-table (c .before)))
+    (λ c. omega (arith, in-table (c .before)))
+    (λ c. omega (arith, in-table (c .before)))
+    (λ c. omega (arith, in-table (c .before)))
+    (λ c. omega (arith, in-table (c .before .before)))
+    (λ c. omega (arith, in-table (c .before .before .before), c .before .before .before .before .before .before .before .before .pre .0 .counted))
+    (λ c. omega (arith, in-table (c .before .before .before .before)))
+    (λ c. omega (arith, in-table (c .before .before .before .before)))
+    (λ c. omega (arith, in-table (c .before .before .before .before)))
     put-line-requires
-    add-u
-    loop-less
+    (λ c. omega (arith, in-table (c .before .before .before .before .before .before .before .before)))
+    (λ c. omega (arith, in-table (c .before .before .before .before .before .before .before .before)))
     loop-again
-    same-length
+    (λ c. c .before .loop .inv .1 .long)
     returns)

@@ -7,8 +7,8 @@ use lib.ListN.{length-set}
 use Rattle.text.specs.Fields.{space}
 use Rattle.text.proofs.Stores.{behind}
 use Rattle.wording.proofs.InTurn.{put-length, put-byte}
-use Rattle.report.proofs.fields.put_field.Statement.{statement}
-use Rattle.report.proofs.fields.put_field.Tie as tie
+use Rattle.report.proofs.unchecked.fields.put_field.Statement.{statement}
+use Rattle.report.proofs.unchecked.fields.put_field.Tie as tie
 
 put-small-requires : tie.Need-put-small-requires
 put-small-requires c κs = (c .before .before .pre .0, simp length-set (omega arith))

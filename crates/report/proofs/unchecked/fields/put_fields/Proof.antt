@@ -9,8 +9,8 @@ use lib.Seq.{take-suc, take-all}
 use Rattle.wording.specs.Inner.{field, fieldsText}
 use Rattle.wording.proofs.InTurn.{SoFar, none, more}
 use Rattle.wording.proofs.Fields.{field-length}
-use Rattle.report.proofs.fields.put_fields.Statement.{statement}
-use Rattle.report.proofs.fields.put_fields.Tie as tie
+use Rattle.report.proofs.unchecked.fields.put_fields.Statement.{statement}
+use Rattle.report.proofs.unchecked.fields.put_fields.Tie as tie
 
 abbrev Inv-loop : tie.InvT-loop
 Inv-loop out₀ at numbers end₀ i₀ out end i = (i ≤ length numbers) × SoFar field 3 out₀ at (take i numbers) i end out

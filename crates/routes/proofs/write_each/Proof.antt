@@ -6,8 +6,8 @@ use native.Mathlib.Omega.{arith}
 use lib.ListN.{length}
 use Rattle.soundness.proofs.Sound.{sound-exact}
 use borrow.Author.Needs.{needs}
-use Rattle.routes.proofs.write_all.Statement.{statement}
-use Rattle.routes.proofs.write_all.Tie as tie
+use Rattle.routes.proofs.write_each.Statement.{statement}
+use Rattle.routes.proofs.write_each.Tie as tie
 
 abbrev Inv-loop : tie.InvT-loop
 Inv-loop t a out₀ d₀ out d = (d ≤ t .routers) × (length out ≡ length out₀)
@@ -37,8 +37,8 @@ module _ (c : tie.After-slice-known2 Inv-loop μ-loop) where
   same : length (c .before .before .write-to .last .1 .1 .1 .0) ≡ length (start turn .args .out .now)
   same = c .before .before .write-to .kept .1 .1 .1 .0 ∙ turn .before .before .loop .inv .1
 
-pub write-all-spec : {M : Type 1} → statement M
-write-all-spec =
+pub write-each-spec : {M : Type 1} → statement M
+write-each-spec =
     tie.close
     (tie.spec
     Inv-loop
