@@ -3,20 +3,27 @@
 //! counts, `w` for walks, `W` for walks over ten times the rows. In `blocks` the states of a schedule are tested in blocks, in `plain` one by one. `input`
 //! makes the input: it takes a network's name, the kind and how often.
 mod plain;
+#[allow(dead_code)]
+mod reading;
 
-use plain::{Link, Mode, Topology, Walked, LINKS, ROUTERS, TABLE};
+use plain::{Mode, Topology, Walked, ROUTERS, TABLE};
 use std::io::{Read, Write};
 
-/// The links of a network: two places and a cost each.
-type Links = Vec<(u8, u8, u16)>;
+/// The links of a network: two places each, the cost from the first to the second, and the cost back.
+type Links = Vec<(u8, u8, u16, u16)>;
+
+/// Links at one cost both ways.
+fn level(links: impl Iterator<Item = (u8, u8, u16)>) -> Links {
+    links.map(|(a, b, cost)| (a, b, cost, cost)).collect()
+}
 
 /// A ring in which each router is linked to the next few, the first of them at cost 1, the others at this cost.
 fn ring(routers: u32, next: u32, cost: u16) -> Links {
-    (0..routers).flat_map(|u| (1..=next).map(move |k| (u as u8, ((u + k) % routers) as u8, if k == 1 { 1 } else { cost }))).collect()
+    level((0..routers).flat_map(|u| (1..=next).map(move |k| (u as u8, ((u + k) % routers) as u8, if k == 1 { 1 } else { cost }))))
 }
 
-/// A random network of 64: a random tree, and then random links up to 256, at most 16 neighbours to a router, costs 1 to 65,535.
-fn random() -> Links {
+/// A random network of 64: a random tree, and then random links up to 256, at most 16 neighbours to a router, costs 1 to 65,535; each way, if told so.
+fn random(each_way: bool) -> Links {
     let mut seed: u64 = 42;
     let mut next = |n: u64| {
         seed = seed.wrapping_mul(6364136223846793005).wrapping_add(1442695040888963407);
@@ -34,7 +41,8 @@ fn random() -> Links {
         }
         degree[a as usize] += 1;
         degree[b as usize] += 1;
-        links.push((a, b, next(65535) as u16 + 1));
+        let cost = next(65535) as u16 + 1;
+        links.push((a, b, cost, if each_way { next(65535) as u16 + 1 } else { cost }));
     }
     links
 }
@@ -43,31 +51,32 @@ fn random() -> Links {
 fn grid() -> Links {
     let across = (0..64u8).filter(|u| u % 8 < 7).map(|u| (u, u + 1, 1));
     let down = (0..56u8).map(|u| (u, u + 8, 1));
-    across.chain(down).collect()
+    level(across.chain(down))
 }
 
 /// A line of 64 in the order of places, all at cost 1: 63 links.
 fn line() -> Links {
-    (0..63).map(|u| (u, u + 1, 1)).collect()
+    level((0..63).map(|u| (u, u + 1, 1)))
 }
 
 /// A line of 64 against the order of places at cost 1, with chords over one router so dear that every shortest path goes along the line: 125 links.
 fn against() -> Links {
     let along = (1..64u8).rev().map(|u| (u, u - 1, 1));
     let over = (2..64u8).rev().map(|u| (u, u - 2, 65535));
-    along.chain(over).collect()
+    level(along.chain(over))
 }
 
 /// A binary tree of 64, all at cost 1: 63 links.
 fn tree() -> Links {
-    (1..64).map(|u| ((u - 1) / 2, u, 1)).collect()
+    level((1..64).map(|u| ((u - 1) / 2, u, 1)))
 }
 
 fn network(name: &str) -> Links {
     match name {
         // Each router is linked to the next four, all at cost 1: 256 links, and many equal paths.
         "ring" => ring(64, 4, 1),
-        "random" => random(),
+        "random" => random(false),
+        "slopes" => random(true),
         "grid" => grid(),
         "line" => line(),
         "against" => against(),
@@ -87,32 +96,20 @@ fn input(kind: u8, times: u16, links: &Links) -> Vec<u8> {
         bytes.push(1);
         bytes.extend(id.wrapping_mul(2654435761).to_be_bytes());
     }
-    for &(a, b, cost) in links {
-        bytes.extend([2, a, b]);
+    let mut record = |kind: u8, from: u8, to: u8, cost: u16| {
+        bytes.extend([kind, from, to]);
         bytes.extend(cost.to_be_bytes());
+    };
+    for &(a, b, cost, back) in links {
+        if cost == back {
+            record(2, a, b, cost);
+        } else {
+            record(4, a, b, cost);
+            record(4, b, a, back);
+        }
     }
     bytes.push(3);
     bytes
-}
-
-/// The topology of a stream that `input` made.
-fn topology(stream: &[u8]) -> Topology {
-    let none = Link { first: 0, second: 0, cost: 0 };
-    let mut t = Topology { routers: 0, links: 0, limit: stream[1], id: [0; ROUTERS], link: [none; LINKS] };
-    for record in stream[2..].chunks(5) {
-        match record[0] {
-            1 => {
-                t.id[t.routers] = u32::from_be_bytes([record[1], record[2], record[3], record[4]]);
-                t.routers += 1;
-            }
-            2 => {
-                t.link[t.links] = Link { first: record[1], second: record[2], cost: u16::from_be_bytes([record[3], record[4]]) };
-                t.links += 1;
-            }
-            _ => {}
-        }
-    }
-    t
 }
 
 fn added(sum: u32, byte: u8) -> u32 {
@@ -205,7 +202,7 @@ fn main() {
     std::io::stdin().read_to_end(&mut bytes).expect("standard input");
     let mode = if bytes[0].to_ascii_lowercase() == b's' { Mode::ShortestPath } else { Mode::Free };
     let times = u32::from(bytes[1]) * 256 + u32::from(bytes[2]);
-    let t = topology(&bytes[3..]);
+    let t = reading::trusted(&bytes[3..]);
     match args[1].as_str() {
         "plain" if bytes[0] == b'g' => println!("{}", counts(&t, times)),
         "plain" if bytes[0] == b'w' => println!("{}", walks(&t, t.routers - 1, times, plain::first_over)),

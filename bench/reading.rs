@@ -1,38 +1,74 @@
 //! Reading a topology stream in plain Rust, with every refusal of the rules, and without any.
 use crate::plain::{Link, Topology, LINKS, NEIGHBOURS, ROUTERS};
 
-const NONE: Link = Link { first: 0, second: 0, cost: 0 };
+const NONE: Link = Link { first: 0, second: 0, cost: 0, back: 0 };
+/// The halves that a stream has at most, lone ones too.
+const HALVES: usize = 2 * LINKS;
 
 fn empty() -> Topology {
     Topology { routers: 0, links: 0, limit: 3, id: [0; ROUTERS], link: [NONE; LINKS] }
 }
 
-/// Which pairs are linked: by place a bit for each neighbour.
-type Linked = [u64; ROUTERS];
+/// The halves listed so far: how many, by sender a bit for each receiver, and by both the cost.
+struct Halves {
+    count: usize,
+    to: [u64; ROUTERS],
+    cost: [[u16; ROUTERS]; ROUTERS],
+}
 
-/// The number of the first test that a link fails, 5 to 10, or 0.
-fn link_fault(t: &Topology, linked: &Linked, l: Link) -> u8 {
-    let (a, b) = (l.first as usize, l.second as usize);
-    let crowded = |u: usize| linked[u].count_ones() as usize == NEIGHBOURS;
-    if a >= t.routers || b >= t.routers {
-        5
-    } else if a == b {
-        6
-    } else if l.cost == 0 {
-        7
-    } else if linked[a] >> b & 1 == 1 {
-        8
-    } else if t.links == LINKS {
-        9
-    } else if crowded(a) || crowded(b) {
-        10
-    } else {
-        0
+impl Halves {
+    fn none() -> Halves {
+        Halves { count: 0, to: [0; ROUTERS], cost: [[0; ROUTERS]; ROUTERS] }
+    }
+
+    fn has(&self, from: usize, to: usize) -> bool {
+        self.to[from] >> to & 1 == 1
+    }
+
+    fn crowded(&self, from: usize) -> bool {
+        self.to[from].count_ones() as usize == NEIGHBOURS
+    }
+
+    /// The number of the first test that a half fails, or a link as both its halves, 5 to 10, or 0.
+    fn fault(&self, routers: usize, from: u8, to: u8, cost: u16, both: bool) -> u8 {
+        let (a, b) = (from as usize, to as usize);
+        if a >= routers || b >= routers {
+            5
+        } else if a == b {
+            6
+        } else if cost == 0 {
+            7
+        } else if self.has(a, b) || both && self.has(b, a) {
+            8
+        } else if self.count + usize::from(both) >= HALVES {
+            9
+        } else if self.crowded(a) || both && self.crowded(b) {
+            10
+        } else {
+            0
+        }
+    }
+
+    /// Lists a half; where its opposite is listed, the two are the topology's next link.
+    fn add(&mut self, t: &mut Topology, from: u8, to: u8, cost: u16) {
+        let (a, b) = (from as usize, to as usize);
+        self.count += 1;
+        self.to[a] |= 1 << b;
+        self.cost[a][b] = cost;
+        if self.has(b, a) {
+            t.link[t.links] = Link { first: to, second: from, cost: self.cost[b][a], back: cost };
+            t.links += 1;
+        }
     }
 }
 
 /// The lowest place that has no path to place 0.
-fn lowest_apart(n: usize, linked: &Linked) -> Option<usize> {
+fn lowest_apart(t: &Topology) -> Option<usize> {
+    let mut linked = [0u64; ROUTERS];
+    for l in &t.link[..t.links] {
+        linked[l.first as usize] |= 1 << l.second;
+        linked[l.second as usize] |= 1 << l.first;
+    }
     let (mut reached, mut done) = (1u64, 0u64);
     while reached != done {
         let u = (reached & !done).trailing_zeros() as usize;
@@ -40,13 +76,13 @@ fn lowest_apart(n: usize, linked: &Linked) -> Option<usize> {
         reached |= linked[u];
     }
     let lowest = reached.trailing_ones() as usize;
-    (lowest < n).then_some(lowest)
+    (lowest < t.routers).then_some(lowest)
 }
 
 /// The topology of a stream, or the number of a refusal and where it points.
 pub fn read(stream: &[u8]) -> Result<Topology, (u8, usize)> {
     let mut t = empty();
-    let mut linked = [0; ROUTERS];
+    let mut halves = Halves::none();
     let mut at = 0;
     while let [kind, rest @ ..] = &stream[at..] {
         let mut fault = 0;
@@ -63,20 +99,20 @@ pub fn read(stream: &[u8]) -> Result<Topology, (u8, usize)> {
                 }
                 4
             }
-            (2, &[first, second, high, low, ..]) => {
-                let l = Link { first, second, cost: u16::from_be_bytes([high, low]) };
-                fault = link_fault(&t, &linked, l);
+            (2 | 4, &[from, to, high, low, ..]) => {
+                let (cost, both) = (u16::from_be_bytes([high, low]), *kind == 2);
+                fault = halves.fault(t.routers, from, to, cost, both);
                 if fault == 0 {
-                    linked[first as usize] |= 1 << second;
-                    linked[second as usize] |= 1 << first;
-                    t.link[t.links] = l;
-                    t.links += 1;
+                    halves.add(&mut t, from, to, cost);
+                    if both {
+                        halves.add(&mut t, to, from, cost);
+                    }
                 }
                 4
             }
             (3, []) if t.routers == 0 => return Err((12, at)),
             (3, []) => {
-                return match lowest_apart(t.routers, &linked) {
+                return match lowest_apart(&t) {
                     Some(place) => Err((13, place)),
                     None => Ok(t),
                 }
@@ -89,7 +125,7 @@ pub fn read(stream: &[u8]) -> Result<Topology, (u8, usize)> {
                 t.limit = limit;
                 1
             }
-            (1 | 2 | 8, _) => return Err((1, at)),
+            (1 | 2 | 4 | 8, _) => return Err((1, at)),
             _ => return Err((2, at)),
         };
         if fault != 0 {
@@ -103,6 +139,7 @@ pub fn read(stream: &[u8]) -> Result<Topology, (u8, usize)> {
 /// The topology of a stream that is taken to be sound.
 pub fn trusted(stream: &[u8]) -> Topology {
     let mut t = empty();
+    let mut halves = Halves::none();
     let mut rest = stream;
     loop {
         rest = match *rest {
@@ -112,8 +149,13 @@ pub fn trusted(stream: &[u8]) -> Topology {
                 rest
             }
             [2, first, second, high, low, ref rest @ ..] => {
-                t.link[t.links] = Link { first, second, cost: u16::from_be_bytes([high, low]) };
+                let cost = u16::from_be_bytes([high, low]);
+                t.link[t.links] = Link { first, second, cost, back: cost };
                 t.links += 1;
+                rest
+            }
+            [4, from, to, high, low, ref rest @ ..] => {
+                halves.add(&mut t, from, to, u16::from_be_bytes([high, low]));
                 rest
             }
             [8, limit, ref rest @ ..] => {

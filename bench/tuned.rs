@@ -14,10 +14,11 @@ fn places(set: u64) -> impl Iterator<Item = usize> {
     })
 }
 
-/// The arcs of the router at u: place and cost.
-fn arcs(a: &Arcs, u: usize) -> impl Iterator<Item = (usize, u32)> + '_ {
+/// The arcs of the router at u: place, the cost of sending there, and that of sending back.
+fn arcs(a: &Arcs, u: usize) -> impl Iterator<Item = (usize, u32, u32)> + '_ {
     let slots = u * NEIGHBOURS..u * NEIGHBOURS + a.count[u] as usize;
-    a.to[slots.clone()].iter().zip(&a.cost[slots]).map(|(&v, &cost)| (v as usize % ROUTERS, cost as u32))
+    let costs = a.cost[slots.clone()].iter().zip(&a.back[slots.clone()]);
+    a.to[slots].iter().zip(costs).map(|(&v, (&cost, &back))| (v as usize % ROUTERS, cost as u32, back as u32))
 }
 
 /// What is known of one destination.
@@ -48,8 +49,8 @@ fn distances(a: &Arcs, d: usize) -> ([u32; ROUTERS], [u8; ROUTERS]) {
             }
         }
         open ^= 1 << u;
-        for (v, cost) in arcs(a, u) {
-            let through = nearest + cost;
+        for (v, _, back) in arcs(a, u) {
+            let through = nearest + back;
             if through < ds[v] {
                 ds[v] = through;
                 left[v] = 1;
@@ -71,7 +72,7 @@ pub fn fill(t: &Topology, a: &Arcs, d: usize, lines: &mut Lines) {
     for rank in 0..t.routers {
         let u = next;
         let mut n = 0;
-        for (v, cost) in arcs(a, u) {
+        for (v, cost, back) in arcs(a, u) {
             if placed >> v & 1 == 1 {
                 let mut carried = ((cost + ds[v]) as u64) << 40 | ((u32::MAX - t.id[v]) as u64) << 8 | v as u64;
                 for here in &mut keys[..n] {
@@ -81,7 +82,7 @@ pub fn fill(t: &Topology, a: &Arcs, d: usize, lines: &mut Lines) {
                 n += 1;
             } else {
                 weight[v] += 1 << 32;
-                if ds[u] + cost == ds[v] {
+                if ds[u] + back == ds[v] {
                     left[v] -= 1;
                     ready |= u64::from(left[v] == 0) << v;
                 }

@@ -3,7 +3,7 @@
 import itertools
 from math import inf
 
-BODY = {1: 4, 2: 4, 3: 0, 8: 1}
+BODY = {1: 4, 2: 4, 3: 0, 4: 4, 8: 1}
 
 
 class Refused(Exception):
@@ -14,34 +14,34 @@ def fault_of_router(ids, new):
     return 3 if new in ids else 4 if len(ids) == 64 else 0
 
 
-def fault_of_link(ids, links, a, b, cost):
-    def neighbours(u):
-        return sum(u in link[:2] for link in links)
-
+def fault_of_halves(ids, halves, new, cost):
+    """Of one half or of both, each a sender and a receiver."""
+    a, b = new[0]
     if a >= len(ids) or b >= len(ids):
         return 5
     if a == b:
         return 6
     if cost == 0:
         return 7
-    if any({a, b} == set(link[:2]) for link in links):
+    if any(half in halves for half in new):
         return 8
-    if len(links) == 256:
+    if len(halves) + len(new) > 512:
         return 9
-    return 10 if 16 in (neighbours(a), neighbours(b)) else 0
+    senders = [sender for sender, _ in halves]
+    return 10 if any(senders.count(sender) == 16 for sender, _ in new) else 0
 
 
 def apart(ids, links):
     """The places without a path to place 0."""
     reached = {0}
     for _ in ids:
-        reached |= {v for a, b, _ in links for v in (a, b) if a in reached or b in reached}
+        reached |= {v for link in links for v in link if reached & set(link)}
     return [u for u in range(len(ids)) if u not in reached]
 
 
 def read(stream):
-    """IDs by place, links by number, and K."""
-    ids, links, limit, at = [], [], 3, 0
+    """IDs by place, links by number, each with its places and the cost that either sends at, and K."""
+    ids, halves, links, limit, at = [], {}, [], 3, 0
     while at < len(stream):
         kind, fault = stream[at], 0
         if kind not in BODY:
@@ -54,10 +54,14 @@ def read(stream):
             new = int.from_bytes(body, "big")
             fault = fault_of_router(ids, new)
             ids.append(new)
-        elif kind == 2:
-            new = body[0], body[1], int.from_bytes(body[2:], "big")
-            fault = fault_of_link(ids, links, *new)
-            links.append(new)
+        elif kind in (2, 4):
+            a, b, cost = body[0], body[1], int.from_bytes(body[2:], "big")
+            new = [(a, b), (b, a)] if kind == 2 else [(a, b)]
+            fault = fault_of_halves(ids, halves, new, cost)
+            for sender, receiver in new:
+                halves[sender, receiver] = cost
+                if (receiver, sender) in halves:
+                    links.append((receiver, sender))
         elif kind == 8:
             limit = body[0]
             fault = 0 if 1 <= limit <= 16 else 16
@@ -68,7 +72,7 @@ def read(stream):
         elif apart(ids, links):
             raise Refused(13, apart(ids, links)[0])
         else:
-            return ids, links, limit
+            return ids, [(a, b, halves[a, b], halves[b, a]) for a, b in links], limit
         if fault:
             raise Refused(fault, at)
         at = after
@@ -117,8 +121,8 @@ def listing(stream):
     except Refused as refused:
         return "refused %d %d\n" % refused.args
     cost = [{} for _ in ids]
-    for a, b, c in links:
-        cost[a][b] = cost[b][a] = c
+    for a, b, there, back in links:
+        cost[a][b], cost[b][a] = there, back
     return "".join(line for d in range(len(ids)) for line in lines(ids, cost, limit, d))
 
 

@@ -17,7 +17,7 @@ unfoldable pub there : Link → ℕ → Arc
 there l number = record { to = l .second; cost = l .cost; link = number }
 
 unfoldable pub back : Link → ℕ → Arc
-back l number = record { to = l .first; cost = l .cost; link = number }
+back l number = record { to = l .first; cost = l .back; link = number }
 
 part : (p q : Bool) (x y : Arc) (both one other : List Arc) → both ≡ one ++ other →
     cond p (x ∷ both) (cond q (y ∷ both) both) ≡ cond p (x ∷ one) (cond q (y ∷ one) one) ++ other

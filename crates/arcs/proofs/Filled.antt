@@ -49,44 +49,44 @@ module _ {routers : ℕ} {ls : List Link} {l : Link} {number : ℕ} {a : Arcs} (
   pub room-first : getD (a .count) (l .first) 0 < 16
   room-first = room (l .first) (there l number) (w .first-in) (among-first ls l number (w .long))
 
-  pub room-second : getD (withArc a (l .first) (there l number) .count) (l .second) 0 < 16
-  room-second = rw (count-elsewhere a (l .first) (there l number) (l .second) (λ e. w .apart (sym e)))
+  pub room-second : getD (withArc a (l .first) (there l number) (l .back) .count) (l .second) 0 < 16
+  room-second = rw (count-elsewhere a (l .first) (there l number) (l .back) (l .second) (λ e. w .apart (sym e)))
       (room (l .second) (back l number) (w .second-in) (among-second ls l number (w .long) (w .apart)))
 
   -- after the first store its router has the link's arc, and each other what it had
   once : Arcs
-  once = withArc a (l .first) (there l number)
+  once = withArc a (l .first) (there l number) (l .back)
 
   once-slotted : Slotted once
   unfolding once
-  once-slotted = still-slotted a (l .first) (there l number) (f .slots)
+  once-slotted = still-slotted a (l .first) (there l number) (l .back) (f .slots)
 
   once-first : slotArcs once (l .first) ≡ arcsAmong (l .first) 0 (ls ++ (l ∷ []))
   unfolding once
   once-first =
-      arc-there a (f .slots) (l .first) (there l number) (omega (arith, w .first-in, w .limit)) room-first
+      arc-there a (f .slots) (l .first) (there l number) (l .back) (omega (arith, w .first-in, w .limit)) room-first
       ∙ ap (λ (xs : List Arc). xs ++ (there l number ∷ [])) (f .each (l .first) (w .first-in))
       ∙ sym (among-first ls l number (w .long))
 
   once-other : (u : ℕ) → u < routers → u ≢ l .first → slotArcs once u ≡ arcsAmong u 0 ls
   unfolding once
   once-other u h e =
-      arcs-elsewhere a (f .slots) (l .first) (there l number) (omega (arith, w .first-in, w .limit)) room-first u e (crowd u h) ∙ f .each u h
+      arcs-elsewhere a (f .slots) (l .first) (there l number) (l .back) (omega (arith, w .first-in, w .limit)) room-first u e (crowd u h) ∙ f .each u h
 
   -- so too after the second
-  twice-second : slotArcs (withArc once (l .second) (back l number)) (l .second) ≡ arcsAmong (l .second) 0 (ls ++ (l ∷ []))
+  twice-second : slotArcs (withArc once (l .second) (back l number) (l .cost)) (l .second) ≡ arcsAmong (l .second) 0 (ls ++ (l ∷ []))
   twice-second =
-      arc-there once once-slotted (l .second) (back l number) (omega (arith, w .second-in, w .limit)) (unfold once in room-second)
+      arc-there once once-slotted (l .second) (back l number) (l .cost) (omega (arith, w .second-in, w .limit)) (unfold once in room-second)
       ∙ ap (λ (xs : List Arc). xs ++ (back l number ∷ [])) (once-other (l .second) (w .second-in) (λ e. w .apart (sym e)))
       ∙ sym (among-second ls l number (w .long) (w .apart))
 
-  twice-other : (u : ℕ) → u ≢ l .second → length (slotArcs once u) ≤ 16 → slotArcs (withArc once (l .second) (back l number)) u ≡ slotArcs once u
+  twice-other : (u : ℕ) → u ≢ l .second → length (slotArcs once u) ≤ 16 → slotArcs (withArc once (l .second) (back l number) (l .cost)) u ≡ slotArcs once u
   twice-other u e few =
-      arcs-elsewhere once once-slotted (l .second) (back l number) (omega (arith, w .second-in, w .limit)) (unfold once in room-second) u e
+      arcs-elsewhere once once-slotted (l .second) (back l number) (l .cost) (omega (arith, w .second-in, w .limit)) (unfold once in room-second) u e
       (omega (arith, length-arcs once u))
 
   each-more : (u : ℕ) → u < routers → Dec (u ≡ l .first) → Dec (u ≡ l .second) →
-      slotArcs (withArc once (l .second) (back l number)) u ≡ arcsAmong u 0 (ls ++ (l ∷ []))
+      slotArcs (withArc once (l .second) (back l number) (l .cost)) u ≡ arcsAmong u 0 (ls ++ (l ∷ []))
   each-more u h (yes e) d =
       rw e (twice-other (l .first) (w .apart) (omega (arith, ap length once-first, w .few (l .first) (w .first-in))) ∙ once-first)
   each-more u h (no e) (yes d) = rw d twice-second
@@ -95,10 +95,10 @@ module _ {routers : ℕ} {ls : List Link} {l : Link} {number : ℕ} {a : Arcs} (
       twice-other u d (omega (arith, ap length same, arcs-stay u ls (l ∷ []), w .few u h)) ∙ same
       ∙ sym (among-neither ls l number (w .long) u (λ k. e (sym k)) (λ k. d (sym k)))
 
-  pub one-link : Filled routers (ls ++ (l ∷ [])) (withArc (withArc a (l .first) (there l number)) (l .second) (back l number))
+  pub one-link : Filled routers (ls ++ (l ∷ [])) (withArc (withArc a (l .first) (there l number) (l .back)) (l .second) (back l number) (l .cost))
   unfolding once
   one-link =
       record {
-        slots = still-slotted once (l .second) (back l number) once-slotted;
+        slots = still-slotted once (l .second) (back l number) (l .cost) once-slotted;
         each = λ u h. each-more u h (ℕ-discrete u (l .first)) (ℕ-discrete u (l .second));
       }

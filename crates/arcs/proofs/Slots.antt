@@ -35,27 +35,28 @@ pub below-more : (n : ℕ) → below (n + 1) ≡ below n ++ (n ∷ [])
 unfolding below
 below-more n = rw add-one (from-more 0 n ∙ ap (λ (k : ℕ). numbersFrom 0 n ++ (k ∷ [])) (omega arith))
 
-pub still-slotted : (a : Arcs) (u : ℕ) (arc : Arc) → Slotted a → Slotted (withArc a u arc)
+pub still-slotted : (a : Arcs) (u : ℕ) (arc : Arc) (back : ℕ) → Slotted a → Slotted (withArc a u arc back)
 unfolding withArc
-still-slotted a u arc s = record {
+still-slotted a u arc back s = record {
   counts = simp length-set (s .counts);
   tos = simp length-set (s .tos);
   costs = simp length-set (s .costs);
+  backs = simp length-set (s .backs);
   links = simp length-set (s .links);
 }
 
 -- the count of another router stays
-pub count-elsewhere : (a : Arcs) (u : ℕ) (arc : Arc) (v : ℕ) → v ≢ u → getD (withArc a u arc .count) v 0 ≡ getD (a .count) v 0
+pub count-elsewhere : (a : Arcs) (u : ℕ) (arc : Arc) (back v : ℕ) → v ≢ u → getD (withArc a u arc back .count) v 0 ≡ getD (a .count) v 0
 unfolding withArc
-count-elsewhere a u arc v e = getD-set-other (a .count) u v _ 0 e
+count-elsewhere a u arc back v e = getD-set-other (a .count) u v _ 0 e
 
 -- every slot but the next one of u stays
-slot-elsewhere : (a : Arcs) (u : ℕ) (arc : Arc) (v j : ℕ) → v * 16 + j ≢ u * 16 + getD (a .count) u 0 → slotArc (withArc a u arc) v j ≡ slotArc a v j
+slot-elsewhere : (a : Arcs) (u : ℕ) (arc : Arc) (back v j : ℕ) → v * 16 + j ≢ u * 16 + getD (a .count) u 0 → slotArc (withArc a u arc back) v j ≡ slotArc a v j
 unfolding slotArc withArc
-slot-elsewhere a u arc v j e = simp getD-set-other
+slot-elsewhere a u arc back v j e = simp getD-set-other
 
-module _ (a : Arcs) (s : Slotted a) (u : ℕ) (arc : Arc) (inside : u < 64) (room : getD (a .count) u 0 < 16) where
-  slot-there : slotArc (withArc a u arc) u (getD (a .count) u 0) ≡ arc
+module _ (a : Arcs) (s : Slotted a) (u : ℕ) (arc : Arc) (back : ℕ) (inside : u < 64) (room : getD (a .count) u 0 < 16) where
+  slot-there : slotArc (withArc a u arc back) u (getD (a .count) u 0) ≡ arc
   unfolding slotArc withArc
   slot-there =
       let h : u * 16 + getD (a .count) u 0 < length (a .to) = omega (arith, s .tos) in
@@ -63,19 +64,19 @@ module _ (a : Arcs) (s : Slotted a) (u : ℕ) (arc : Arc) (inside : u < 64) (roo
       let l : u * 16 + getD (a .count) u 0 < length (a .link) = omega (arith, s .links) in
       simp getD-set-same
 
-  count-there : getD (withArc a u arc .count) u 0 ≡ getD (a .count) u 0 + 1
+  count-there : getD (withArc a u arc back .count) u 0 ≡ getD (a .count) u 0 + 1
   unfolding withArc
   count-there = getD-set-same (a .count) u _ 0 (omega (arith, s .counts))
 
-  pub arc-there : slotArcs (withArc a u arc) u ≡ slotArcs a u ++ (arc ∷ [])
+  pub arc-there : slotArcs (withArc a u arc back) u ≡ slotArcs a u ++ (arc ∷ [])
   unfolding slotArcs
   arc-there =
       rw (count-there, below-more, map-append, slot-there)
       (ap (λ (l : List Arc). l ++ (arc ∷ []))
-      (map-same _ _ (below (getD (a .count) u 0)) (λ j m. slot-elsewhere a u arc u j (λ same. omega (arith, below-lt (getD (a .count) u 0) m)))))
+      (map-same _ _ (below (getD (a .count) u 0)) (λ j m. slot-elsewhere a u arc back u j (λ same. omega (arith, below-lt (getD (a .count) u 0) m)))))
 
-  pub arcs-elsewhere : (v : ℕ) → v ≢ u → getD (a .count) v 0 ≤ 16 → slotArcs (withArc a u arc) v ≡ slotArcs a v
+  pub arcs-elsewhere : (v : ℕ) → v ≢ u → getD (a .count) v 0 ≤ 16 → slotArcs (withArc a u arc back) v ≡ slotArcs a v
   unfolding slotArcs
   arcs-elsewhere v e few =
-      rw (count-elsewhere a u arc v e)
-      (map-same _ _ (below (getD (a .count) v 0)) (λ j m. slot-elsewhere a u arc v j (λ same. omega (arith, below-lt (getD (a .count) v 0) m))))
+      rw (count-elsewhere a u arc back v e)
+      (map-same _ _ (below (getD (a .count) v 0)) (λ j m. slot-elsewhere a u arc back v j (λ same. omega (arith, below-lt (getD (a .count) v 0) m))))

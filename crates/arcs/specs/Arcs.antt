@@ -1,12 +1,14 @@
--- The arcs of a network by place, in slots (01, Stations, links and limits: at most 16 neighbours to a router).
+-- The arcs of a network by place, in slots (01, Stations, links and limits: at most 16 neighbours to a router), and a topology's arcs laid out so.
 -- Assumes nothing.
 use Prim.Native.Nat.{ℕ, _+_, _*_, _<_}
 use mathlib.Core.List.{List, map}
 use mathlib.Core.Path.{_≡_}
 use lib.ListN.{length, getD, set}
 use Rattle.network.specs.Lists.{below}
-use Rattle.network.specs.Network.{Arc, Network, size, arcsOf}
+use Rattle.network.specs.Network.{Arc, Network, size, arcsOf, Link, linked}
 use Rattle.stations.specs.Limits.{mostRouters, mostNeighbours}
+use Rattle.stations.specs.Topology.{contents, seen, networkOf}
+use Rattle.stations.specs.declared.Topology.{Topology}
 use Rattle.arcs.specs.declared.Arcs.{Arcs}
 
 -- the arc in slot j of the router u
@@ -22,29 +24,48 @@ slotArc a u j =
 unfoldable pub slotArcs : Arcs → ℕ → List Arc
 slotArcs a u = map (slotArc a u) (below (getD (a .count) u 0))
 
--- one arc more of the router u, in its next slot
-unfoldable pub withArc : Arcs → ℕ → Arc → Arcs
-withArc a u arc =
+-- one arc more of the router u, in its next slot, with what going the other way costs
+unfoldable pub withArc : Arcs → ℕ → Arc → ℕ → Arcs
+withArc a u arc back =
     let slot = u * mostNeighbours + getD (a .count) u 0 in
     record {
       count = set (a .count) u (getD (a .count) u 0 + 1);
       to = set (a .to) slot (arc .to);
       cost = set (a .cost) slot (arc .cost);
+      back = set (a .back) slot back;
       link = set (a .link) slot (arc .link);
     }
 
--- the four arrays side by side
-abbrev pub inSlots : List ℕ → List ℕ → List ℕ → List ℕ → Arcs
-inSlots count to cost link = record { count = count; to = to; cost = cost; link = link }
+-- the five arrays side by side
+abbrev pub inSlots : List ℕ → List ℕ → List ℕ → List ℕ → List ℕ → Arcs
+inSlots count to cost back link = record { count = count; to = to; cost = cost; back = back; link = link }
 
 -- each array has all its slots
 pub record Slotted (a : Arcs) : Type 0 where
   pub counts : length (a .count) ≡ mostRouters
   pub tos : length (a .to) ≡ mostRouters * mostNeighbours
   pub costs : length (a .cost) ≡ mostRouters * mostNeighbours
+  pub backs : length (a .back) ≡ mostRouters * mostNeighbours
   pub links : length (a .link) ≡ mostRouters * mostNeighbours
 
 -- the arcs of every router of the network
 pub record Holds (n : Network) (a : Arcs) : Type 0 where
   pub slots : Slotted a
   pub arcs : (u : ℕ) → u < size n → slotArcs a u ≡ arcsOf n u
+
+-- a link with the costs of its two directions exchanged
+unfoldable pub linkBack : Link → Link
+linkBack l = record { first = l .first; second = l .second; cost = l .back; back = l .cost }
+
+-- 02, #105: the network of a topology with the costs of every link exchanged: each arc costs what going the other way does
+unfoldable pub networkBack : Topology → Network
+networkBack t = linked (contents t .ids) (map linkBack (map seen (contents t .links)))
+
+-- the slots with costs and ways back exchanged
+abbrev pub slotsBack : Arcs → Arcs
+slotsBack a = inSlots (a .count) (a .to) (a .back) (a .cost) (a .link)
+
+-- a topology's arcs laid out: in every used slot an arc with its cost, and with what going the other way costs
+pub record Laid (t : Topology) (a : Arcs) : Type 0 where
+  pub out : Holds (networkOf t) a
+  pub back : Holds (networkBack t) (slotsBack a)

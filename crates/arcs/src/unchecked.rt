@@ -9,29 +9,31 @@ ghost use Prim.Native.Nat.{_<_};
 ghost use lib.Dec.{T};
 ghost use lib.ListN.{getD};
 ghost use Rattle.stations.specs.Limits.{mostRouters, mostNeighbours};
-ghost use Rattle.stations.specs.Topology.{networkOf};
 ghost use Rattle.soundness.specs.Sound.{sound};
-ghost use Rattle.arcs.specs.Arcs.{Holds, inSlots, withArc};
+ghost use Rattle.arcs.specs.Arcs.{Laid, inSlots, withArc};
 
-// An arc of the router at u to v, in the next slot of u.
+// An arc of the router at u to v, in the next slot of u: c is its cost, b what going from v to u costs.
 fn add<'a>(
     count: &'a mut [u8; ROUTERS],
     to: &'a mut [u8; SLOTS],
     cost: &'a mut [u16; SLOTS],
+    back: &'a mut [u16; SLOTS],
     link: &'a mut [u8; SLOTS],
     u: u8,
     v: u8,
     c: u16,
+    b: u16,
     number: u8,
 )
     requires { ⌜ (u < mostRouters) × (getD (now count) u 0 < mostNeighbours) ⌝ }
-    ensures { λ _. ⌜ inSlots (now (count .exit)) (now (to .exit)) (now (cost .exit)) (now (link .exit)) ≡ withArc (inSlots (now (count .entry)) (now (to .entry)) (now (cost .entry)) (now (link .entry))) u (record { to = v; cost = c; link = number }) ⌝ }
+    ensures { λ _. ⌜ inSlots (now (count .exit)) (now (to .exit)) (now (cost .exit)) (now (back .exit)) (now (link .exit)) ≡ withArc (inSlots (now (count .entry)) (now (to .entry)) (now (cost .entry)) (now (back .entry)) (now (link .entry))) u (record { to = v; cost = c; link = number }) b ⌝ }
 {
     let from = u as usize;
     let n = count[from];
     let slot = from * NEIGHBOURS + n as usize;
     to[slot] = v;
     cost[slot] = c;
+    back[slot] = b;
     link[slot] = number;
     count[from] = n + 1;
 }
@@ -40,12 +42,13 @@ fn add<'a>(
 // of them.
 pub fn of(t: Topology) -> Arcs
     requires { ⌜ T (sound t) ⌝ }
-    ensures { λ r. ⌜ Holds (networkOf t) r ⌝ }
+    ensures { λ r. ⌜ Laid t r ⌝ }
 {
     let links = t.links;
     let mut count = [0u8; ROUTERS];
     let mut to = [0u8; SLOTS];
     let mut cost = [0u16; SLOTS];
+    let mut back = [0u16; SLOTS];
     let mut link = [0u8; SLOTS];
     let mut i: usize = 0;
     while i < links {
@@ -54,15 +57,39 @@ pub fn of(t: Topology) -> Arcs
         let u = l.first.0;
         let v = l.second.0;
         let c = l.cost;
+        let b = l.back;
         // The link seen from its first end, then from its second.
-        add(&mut count, &mut to, &mut cost, &mut link, u, v, c, number);
-        add(&mut count, &mut to, &mut cost, &mut link, v, u, c, number);
+        add(
+            &mut count,
+            &mut to,
+            &mut cost,
+            &mut back,
+            &mut link,
+            u,
+            v,
+            c,
+            b,
+            number,
+        );
+        add(
+            &mut count,
+            &mut to,
+            &mut cost,
+            &mut back,
+            &mut link,
+            v,
+            u,
+            b,
+            c,
+            number,
+        );
         i += 1;
     }
     Arcs {
         count: count,
         to: to,
         cost: cost,
+        back: back,
         link: link,
     }
 }

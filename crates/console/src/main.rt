@@ -59,6 +59,7 @@ fn begin() -> Session
         first: Place(0),
         second: Place(0),
         cost: 0,
+        back: 0,
     };
     let zeros = Topology {
         routers: 0,

@@ -10,9 +10,8 @@ ghost use mathlib.Core.Path.{_≡_};
 ghost use Prim.Native.Nat.{_<_};
 ghost use lib.Dec.{T};
 ghost use lib.ListN.{length};
-ghost use Rattle.stations.specs.Topology.{networkOf};
 ghost use Rattle.soundness.specs.Sound.{sound};
-ghost use Rattle.arcs.specs.Arcs.{Holds};
+ghost use Rattle.arcs.specs.Arcs.{Laid};
 ghost use Rattle.figures.specs.Coverage.{pairsTo, coveredAmong, listedFor};
 ghost use Rattle.figures.specs.Inner.{twoIn, allIn, Countable};
 
@@ -50,7 +49,7 @@ fn tally(table: &[u8], n: usize) -> Counts
 
 // The tally of the destination's table: its own row is empty, so that none of its rows but another router's has two entries.
 pub(crate) fn tally_for(t: Topology, a: Arcs, destination: Place) -> Counts
-    requires { ⌜ T (sound t) × Holds (networkOf t) a × (destination .0 < t .routers) ⌝ }
+    requires { ⌜ T (sound t) × Laid t a × (destination .0 < t .routers) ⌝ }
     ensures { λ r. ⌜ (r .two ≡ coveredAmong t (pairsTo (t .routers) (destination .0))) × (r .entries ≡ listedFor t (destination .0)) ⌝ }
 {
     let n = t.routers;

@@ -12,9 +12,8 @@ ghost use Prim.Native.Nat.{_+_, _≤_};
 ghost use lib.Dec.{T};
 ghost use lib.ListN.{length};
 ghost use Rattle.stations.specs.Limits.{mostRouters};
-ghost use Rattle.stations.specs.Topology.{networkOf};
 ghost use Rattle.soundness.specs.Sound.{sound};
-ghost use Rattle.arcs.specs.Arcs.{Holds};
+ghost use Rattle.arcs.specs.Arcs.{Laid};
 ghost use Rattle.text.specs.Lines.{Put};
 ghost use Rattle.figures.specs.Coverage as said;
 ghost use Rattle.figures.specs.Printed.{fractionText, fractionsText};
@@ -22,7 +21,7 @@ ghost use Rattle.figures.specs.Inner.{mostFraction, mostText};
 
 // The coverage figures of a topology.
 pub fn coverage(t: Topology, a: Arcs) -> Coverage
-    requires { ⌜ T (sound t) × Holds (networkOf t) a ⌝ }
+    requires { ⌜ T (sound t) × Laid t a ⌝ }
     ensures { λ r. ⌜ r ≡ said.coverage t ⌝ }
 {
     let n = t.routers;

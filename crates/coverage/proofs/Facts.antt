@@ -1,16 +1,17 @@
 -- The prover computes every fact from the definitions.
 -- Assumes nothing.
 use Rattle.network.specs.Lists.{numbersFrom, below, keep, every, any, leastBy, greatestBy, ahead, foremost, insert, sort, member, distinct, sameNumbers, wins}
-use Rattle.network.specs.Network.{size, idOf, arcsOf, greatestCost, arcsAmong, linked, soundLink, samePair, pairsDiffer, soundLinks}
+use Rattle.network.specs.Network.{size, idOf, arcsOf, greatestCost, arcsAmong, linked, soundCost, soundLink, samePair, pairsDiffer, soundLinks}
 use Rattle.network.specs.Distance.{absent, distanceIn, through, atFirst, round, rounds, distances}
 use Rattle.network.specs.Order.{reached, shortestNextHops, leadsInto, ready, candidate, placedNeighbours, preferred, select, continued, placing, build}
 use Rattle.network.specs.Row.{rank, sortsBefore, rankedBefore, fullRow, row}
 use Rattle.stations.specs.Topology.{noLink, padded, contents, held, zeros, seen, networkIn, networkOf}
 use Rattle.soundness.specs.Apart.{apart}
 use Rattle.soundness.specs.Sound.{within, inLimits, wellLinked, uncrowded, none?, connected, isNoLink, unusedZero, slotted, sound}
-use Rattle.stream.specs.Stream.{bigEndianOn, bigEndian, bodyLength, linkIn, decoded, recordIn, records}
-use Rattle.stream.specs.Reading.{refusal, accepted, routerFault, crowded, linkFault, fault, added, width, isEnd, joined, ended, unless, some?, inTurn}
-use Rattle.stream.specs.Reading.{nothingListed, reading}
+use Rattle.stream.specs.Stream.{bigEndianOn, bigEndian, bodyLength, halfIn, decoded, recordIn, records}
+use Rattle.stream.specs.Halves.{firstHalf, secondHalf, linkHalves, halves, sameHalf, leaves, opposite, linkOf}
+use Rattle.stream.specs.Reading.{refusal, accepted, routerFault, repeated, crowded, halvesFault, fault, withRouter, withLink, withLimit, arrived, added}
+use Rattle.stream.specs.Reading.{width, isEnd, joined, ended, unless, some?, inTurn, nothingListed, reading}
 use Rattle.stream.specs.Table.{T-stream, inSequence, routers}
 use Rattle.topology.specs.Written.{joinedOver}
 use Rattle.text.specs.Lines.{refusedWord, answerText, answerLine, wordLine}
@@ -24,14 +25,16 @@ use Rattle.coverage.specs.Facts.{holds, refused, facts, FactsHold}
 
 pub facts-hold : FactsHold
 unfolding numbersFrom below keep every any leastBy greatestBy ahead foremost insert sort member distinct sameNumbers wins
-    size idOf arcsOf greatestCost arcsAmong linked soundLink samePair pairsDiffer soundLinks
+    size idOf arcsOf greatestCost arcsAmong linked soundCost soundLink samePair pairsDiffer soundLinks
     absent distanceIn through atFirst round rounds distances
     reached shortestNextHops leadsInto ready candidate placedNeighbours preferred select continued placing build
     rank sortsBefore rankedBefore fullRow row
     noLink padded contents held zeros seen networkIn networkOf apart
     within inLimits wellLinked uncrowded none? connected isNoLink unusedZero slotted sound
-    bigEndianOn bigEndian bodyLength linkIn decoded recordIn records
-    refusal accepted routerFault crowded linkFault fault added width isEnd joined ended unless some? inTurn nothingListed reading
+    bigEndianOn bigEndian bodyLength halfIn decoded recordIn records
+    linkHalves firstHalf secondHalf halves sameHalf leaves opposite linkOf
+    refusal accepted routerFault repeated crowded halvesFault fault withRouter withLink withLimit arrived added
+    width isEnd joined ended unless some? inTurn nothingListed reading
     T-stream inSequence routers joinedOver refusedWord answerText answerLine wordLine lastDigits numberText spaced
     rowFor pairsTo pairsOf hasTwo coveredAmong listedFor counted coverage overLinks fractions fractionText fractionsText coverageText
     refusedLine printed outputBy figuresText output holds refused facts

@@ -37,8 +37,8 @@ module _ (m : Network) (a : Arcs) (n d : ℕ) (given : Given m a n d) (k : ℕ) 
   unfolding pathCost
   no-less (arrived e) h = rw e (omega (arith, run .home))
   no-less {u} (along b at p) h =
-      let sized = given .held .sized in
-      let place : b .to < n = omega (arith, given .held .formed .sound u b at .place) in
+      let sized = given .sized in
+      let place : b .to < n = omega (arith, given .formed .sound u b at .place) in
       let (j, l, to, cost) = slot-back m a n d given u h b at in
       omega (arith, no-less p place, rw (to, cost) at (run .relaxed (b .to) place (closed (b .to) place) j l))
 
@@ -52,7 +52,7 @@ module _ (m : Network) (a : Arcs) (n d : ℕ) (given : Given m a n d) (k : ℕ) 
   pub ended : Settled m d ds
   unfolding distance distanceIn
   ended =
-      let sized = given .held .sized in
+      let sized = given .sized in
       let long = run .long in
       let first : length (take n ds) ≡ n = length-take-le n ds (omega (arith, most)) in
       record {

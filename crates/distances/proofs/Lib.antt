@@ -1,5 +1,4 @@
 pub mod Slots
-pub mod Symmetry
 pub mod Stored
 pub mod Unsettled
 pub mod Relaxed

@@ -13,8 +13,8 @@ use Rattle.distances.specs.Slots.{slotTo}
 use Rattle.distances.specs.Inner.{Relaxed}
 use Rattle.distances.proofs.Stored.{stored}
 
-pub relaxed-none : (to cost : List ℕ) (u : ℕ) (ds : List ℕ) → length ds ≡ 64 → Relaxed to cost u 0 ds ds
-relaxed-none to cost u ds long =
+pub relaxed-none : (to back : List ℕ) (u : ℕ) (ds : List ℕ) → length ds ≡ 64 → Relaxed to back u 0 ds ds
+relaxed-none to back u ds long =
     record { long = long; nearer = λ v. le-refl _; reached = λ j h. absurd (omega arith); by-way = λ v. inl refl }
 
 -- the nearer of the two
@@ -24,8 +24,8 @@ Nearer through before x = ((through < before) × (x ≡ through)) ⊎ ((before �
 at-most : (through before x : ℕ) → Nearer through before x → (x ≤ through) × (x ≤ before)
 at-most through before x = ⊎-elim (λ w. omega arith) (λ w. omega arith)
 
-module _ (to cost : List ℕ) (u j : ℕ) (old new : List ℕ) (so-far : Relaxed to cost u j old new) (place : slotTo to u j < 64) (x : ℕ)
-    (nearer : Nearer (getD cost (u * 16 + j) 0 + getD old u 0) (getD new (slotTo to u j) 0) x) where
+module _ (to back : List ℕ) (u j : ℕ) (old new : List ℕ) (so-far : Relaxed to back u j old new) (place : slotTo to u j < 64) (x : ℕ)
+    (nearer : Nearer (getD back (u * 16 + j) 0 + getD old u 0) (getD new (slotTo to u j) 0) x) where
   next : List ℕ
   next = set new (slotTo to u j) x
 
@@ -38,7 +38,7 @@ module _ (to cost : List ℕ) (u j : ℕ) (old new : List ℕ) (so-far : Relaxed
 
   -- as far as before, or as by way of u
   abbrev From : ℕ → ℕ → ℕ → Type 0
-  From count v y = (y ≡ getD old v 0) ⊎ ((i : ℕ) × (i < count) × (slotTo to u i ≡ v) × (y ≡ getD cost (u * 16 + i) 0 + getD old u 0))
+  From count v y = (y ≡ getD old v 0) ⊎ ((i : ℕ) × (i < count) × (slotTo to u i ≡ v) × (y ≡ getD back (u * 16 + i) 0 + getD old u 0))
 
   more : (v y : ℕ) → From j v y → From (j + 1) v y
   more v y = ⊎-elim (λ e. inl e) (λ (i, h, at, e). inr (i, omega arith, at, e))
@@ -47,7 +47,7 @@ module _ (to cost : List ℕ) (u j : ℕ) (old new : List ℕ) (so-far : Relaxed
   here =
       ⊎-elim (λ w. inr (j, omega arith, refl, w .1)) (λ w. rw (w .1) (more (slotTo to u j) _ (so-far .by-way (slotTo to u j)))) nearer
 
-  pub relaxed-more : Relaxed to cost u (j + 1) old (set new (slotTo to u j) x)
+  pub relaxed-more : Relaxed to back u (j + 1) old (set new (slotTo to u j) x)
   unfolding next
   relaxed-more =
       record {
@@ -58,6 +58,6 @@ module _ (to cost : List ℕ) (u j : ℕ) (old new : List ℕ) (so-far : Relaxed
       }
     where
       reached : (i : ℕ) → i < j + 1 → Dec (i ≡ j) →
-          getD (set new (slotTo to u j) x) (slotTo to u i) 0 ≤ getD cost (u * 16 + i) 0 + getD old u 0
+          getD (set new (slotTo to u j) x) (slotTo to u i) 0 ≤ getD back (u * 16 + i) 0 + getD old u 0
       reached i h (yes e) = rw (e, getD-set-same new (slotTo to u j) x 0 inside) (at-most _ _ x nearer .0)
       reached i h (no apart) = omega (arith, lower (slotTo to u i), so-far .reached i (omega arith))

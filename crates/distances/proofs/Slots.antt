@@ -1,5 +1,5 @@
--- A sound topology is a well-formed network of at most 64 routers, each with at most 16 arcs. Where slots hold its arcs, each slot leads to a place
--- of it at a cost of 16 bits.
+-- A sound topology is a well-formed network of at most 64 routers, each with at most 16 arcs, and so it is with the costs of its links exchanged. Where slots
+-- hold such a network's arcs, each slot leads to a place of it at a cost of 16 bits.
 -- Assumes nothing.
 use Prim.Native.Nat.{ℕ, _+_, _*_, _≤_, _<_}
 use mathlib.Core.List.{List, List·Memᴰ, Memᴰ·map}
@@ -14,7 +14,8 @@ use Rattle.stations.specs.Topology.{networkOf}
 use Rattle.soundness.specs.Sound.{sound}
 use Rattle.soundness.proofs.Sound.{sound-exact, sound-networks}
 use Rattle.arcs.specs.declared.Arcs.{Arcs}
-use Rattle.arcs.specs.Arcs.{slotArc, slotArcs, Holds}
+use Rattle.arcs.specs.Arcs.{slotArc, slotArcs, Holds, networkBack, Laid}
+use Rattle.arcs.proofs.Back.{back-exact, few-back}
 use Rattle.distances.specs.Slots.{slotTo, AllSlots}
 use Rattle.distances.specs.Settled.{LaidIn}
 
@@ -31,6 +32,11 @@ sound-held t a s h =
     let tested = sound-exact t .0 s in
     let seen = sound-networks t s in
     record { formed = seen .well-formed; sized = seen .routers; most = tested .routers-most; few = tested .neighbours; holds = h }
+
+pub back-held : (t : Topology) (a : Arcs) → T (sound t) → Holds (networkBack t) a → Held (networkBack t) a (t .routers)
+back-held t a s h =
+    let seen = back-exact t s in
+    record { formed = seen .well-formed; sized = seen .routers; most = sound-exact t .0 s .routers-most; few = few-back t s; holds = h }
 
 module _ (n : Network) (a : Arcs) (count : ℕ) (held : Held n a count) (u : ℕ) (u-in : u < count) where
   listed : u < size n
@@ -73,5 +79,5 @@ all-slots n a count held ds long near =
     }
 
 -- arcs that are laid out lie in their slots
-pub laid-out : (t : Topology) (a : Arcs) → T (sound t) → Holds (networkOf t) a → LaidIn t (a .count) (a .to) (a .cost) (t .routers)
-laid-out t a s h = record { is-sound = s; link = a .link; holds = h; routers = refl }
+pub laid-out : (t : Topology) (a : Arcs) → T (sound t) → Laid t a → LaidIn t (a .count) (a .to) (a .back) (t .routers)
+laid-out t a s laid = record { is-sound = s; cost = a .cost; link = a .link; holds = laid .back; routers = refl }

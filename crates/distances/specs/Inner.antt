@@ -29,11 +29,11 @@ pub record Nearest (ds marks : List ℕ) (n r : ℕ) : Type 0 where
   pub is-open : Open marks r
   pub least : (v : ℕ) → v < n → Open marks v → getD ds r 0 ≤ getD ds v 0
 
--- going along the first `count` slots of u: none is farther than before; none that a slot leads to is farther than by way of u; each is as far as before
--- or as by way of u
-pub record Relaxed (to cost : List ℕ) (u count : ℕ) (old new : List ℕ) : Type 0 where
+-- going along the first `count` slots of u, where `back` is what going the other way costs: none is farther than before; none that a slot leads to is
+-- farther than by way of u; each is as far as before or as by way of u
+pub record Relaxed (to back : List ℕ) (u count : ℕ) (old new : List ℕ) : Type 0 where
   pub long : length new ≡ mostRouters
   pub nearer : (v : ℕ) → getD new v 0 ≤ getD old v 0
-  pub reached : (j : ℕ) → j < count → getD new (slotTo to u j) 0 ≤ getD cost (u * mostNeighbours + j) 0 + getD old u 0
+  pub reached : (j : ℕ) → j < count → getD new (slotTo to u j) 0 ≤ getD back (u * mostNeighbours + j) 0 + getD old u 0
   pub by-way : (v : ℕ) → (getD new v 0 ≡ getD old v 0)
-      ⊎ ((j : ℕ) × (j < count) × (slotTo to u j ≡ v) × (getD new v 0 ≡ getD cost (u * mostNeighbours + j) 0 + getD old u 0))
+      ⊎ ((j : ℕ) × (j < count) × (slotTo to u j ≡ v) × (getD new v 0 ≡ getD back (u * mostNeighbours + j) 0 + getD old u 0))

@@ -8,17 +8,17 @@ use lib.ListN.{length, getD, take}
 use Rattle.network.specs.Network.{Network, size}
 use Rattle.network.specs.Distance.{distances}
 use Rattle.stations.specs.Limits.{mostRouters}
-use Rattle.stations.specs.Topology.{networkOf}
 use Rattle.stations.specs.declared.Topology.{Topology}
 use Rattle.soundness.specs.Sound.{sound}
-use Rattle.arcs.specs.Arcs.{Holds, inSlots}
+use Rattle.arcs.specs.Arcs.{Holds, inSlots, networkBack}
 use Rattle.distances.specs.Slots.{farthest}
 
--- a sound topology of n routers whose arcs lie in these slots
-pub record LaidIn (t : Topology) (counts to cost : List ℕ) (n : ℕ) : Type 0 where
+-- a sound topology of n routers whose arcs lie in these slots, each with what going the other way costs
+pub record LaidIn (t : Topology) (counts to back : List ℕ) (n : ℕ) : Type 0 where
   pub is-sound : T (sound t)
+  pub cost : List ℕ
   pub link : List ℕ
-  pub holds : Holds (networkOf t) (inSlots counts to cost link)
+  pub holds : Holds (networkBack t) (inSlots counts to back cost link)
   pub routers : t .routers ≡ n
 
 -- the distances to d in the first slots, and in no slot more than absent can be

@@ -61,23 +61,24 @@ pub(crate) fn nearest<'a>(ds: &'a [u32; ROUTERS], marks: &'a [u32; ROUTERS], n: 
     (best % 64) as usize
 }
 
-// No neighbour of the router at u is farther than by way of u. Each is stored, nearer or not: there is no branch that cannot be foreseen.
+// No neighbour of the router at u is farther than by way of u, where `back` is what it costs to come from there. Each is stored, nearer or not: there
+// is no branch that cannot be foreseen.
 pub(crate) fn relax<'a>(
     ds: &'a mut [u32; ROUTERS],
     to: &'a [u8; SLOTS],
-    cost: &'a [u16; SLOTS],
+    back: &'a [u16; SLOTS],
     u: usize,
     count: usize,
 )
-    requires { ⌜ Slots (now to) (now cost) (now ds) u count × (length (now ds) ≡ mostRouters) ⌝ }
-    ensures { λ _. ⌜ Relaxed (now (to .entry)) (now (cost .entry)) u count (now (ds .entry)) (now (ds .exit)) ⌝ }
+    requires { ⌜ Slots (now to) (now back) (now ds) u count × (length (now ds) ≡ mostRouters) ⌝ }
+    ensures { λ _. ⌜ Relaxed (now (to .entry)) (now (back .entry)) u count (now (ds .entry)) (now (ds .exit)) ⌝ }
 {
     let first = u * NEIGHBOURS;
     let here = ds[u];
     let mut j: usize = 0;
     while j < count {
         let v = to[first + j] as usize;
-        let through = cost[first + j] as u32 + here;
+        let through = back[first + j] as u32 + here;
         let mut least = ds[v];
         if through < least {
             least = through;

@@ -10,16 +10,17 @@ ghost use Rattle.stations.specs.declared.Topology.{Topology};
 ghost use Rattle.stations.specs.Topology.{networkOf};
 ghost use Rattle.distances.specs.Settled.{LaidIn, Settled};
 
-// The distances to the destination, by place. In a sound topology none is absent.
+// The distances to the destination, by place. In a sound topology none is absent. Routers are settled from the destination on, against the direction of
+// travel, so what is read is what the way back over each arc costs.
 pub fn to<'a>(
     counts: &'a [u8; ROUTERS],
     to: &'a [u8; SLOTS],
-    cost: &'a [u16; SLOTS],
+    back: &'a [u16; SLOTS],
     n: usize,
     destination: Place,
 ) -> [u32; ROUTERS]
-    requires { ⌜ ((t : Topology) × LaidIn t (now counts) (now to) (now cost) n) × (destination .0 < n) ⌝ }
-    ensures { λ r. ⌜ ((t : Topology) → LaidIn t (now (counts .entry)) (now (to .entry)) (now (cost .entry)) n → Settled (networkOf t) (destination .0) r) ⌝ }
+    requires { ⌜ ((t : Topology) × LaidIn t (now counts) (now to) (now back) n) × (destination .0 < n) ⌝ }
+    ensures { λ r. ⌜ ((t : Topology) → LaidIn t (now (counts .entry)) (now (to .entry)) (now (back .entry)) n → Settled (networkOf t) (destination .0) r) ⌝ }
 {
     let d = destination.index();
     let mut ds = settling::first(n, d);
@@ -29,7 +30,7 @@ pub fn to<'a>(
         let u = settling::nearest(&ds, &marks, n);
         let count = counts[u] as usize;
         marks[u] = settling::SETTLED;
-        settling::relax(&mut ds, to, cost, u, count);
+        settling::relax(&mut ds, to, back, u, count);
         k += 1;
     }
     ds

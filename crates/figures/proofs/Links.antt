@@ -38,8 +38,8 @@ seen-twice {ls} {u} {v} {a} {b} p q same apart =
     let first : p .link .first ≡ q .link .first = ap (λ (l : Link). l .first) one in
     let second : p .link .second ≡ q .link .second = ap (λ (l : Link). l .second) one in
     ⊎-elim
-    (λ (e, to). ⊎-elim (λ (f, to′). absurd (apart (sym e ∙ first ∙ f))) (λ (f, to′). (to ∙ second ∙ f, to′ ∙ sym first ∙ e)) (q .ends))
-    (λ (e, to). ⊎-elim (λ (f, to′). (to ∙ first ∙ f, to′ ∙ sym second ∙ e)) (λ (f, to′). absurd (apart (sym e ∙ second ∙ f))) (q .ends))
+    (λ (e, to, _). ⊎-elim (λ (f, to′, _). absurd (apart (sym e ∙ first ∙ f))) (λ (f, to′, _). (to ∙ second ∙ f, to′ ∙ sym first ∙ e)) (q .ends))
+    (λ (e, to, _). ⊎-elim (λ (f, to′, _). (to ∙ first ∙ f, to′ ∙ sym second ∙ e)) (λ (f, to′, _). absurd (apart (sym e ∙ second ∙ f))) (q .ends))
     (p .ends)
 
 module _ (t : Topology) (good : T (sound t)) (d : ℕ) (place : d < t .routers) where

@@ -41,7 +41,7 @@ pub record Goes (t : Topology) (table states : List ℕ) (u hops v : ℕ) : Type
 
 module _ {t : Topology} {a : Arcs} {table : List ℕ} (checked : Checked t a table) where
   held : Held (networkOf t) a (t .routers)
-  held = sound-held t a (checked .on-sound) (checked .holds)
+  held = sound-held t a (checked .on-sound) (checked .holds .out)
 
   pub accepted : Over t table
   accepted = over t (checked .on-sound) table (checked .passes)
@@ -83,7 +83,7 @@ module _ {t : Topology} {a : Arcs} {table : List ℕ} (checked : Checked t a tab
     module _ (states : List ℕ) (hops : ℕ) (off : u ≡ getD table 1 0 → ⊥) (r : Next)
         (found : nextPlace r ≡ firstUp (a .to) (a .link) states u (getD (a .count) u 0) (placesIn table u)) where
       chosen-place : placeOf (firstLive states (entriesIn (networkOf t) table u)) ≡ nextPlace r
-      chosen-place = sym (found ∙ first-up (networkOf t) a (checked .holds) table states u listed-in)
+      chosen-place = sym (found ∙ first-up (networkOf t) a (checked .holds .out) table states u listed-in)
 
       -- a packet is dropped if there is none
       pub stops : r ≡ next.Nowhere → hop (by t table) states (record { station = u; hops = hops }) ≡ dropped

@@ -15,10 +15,9 @@ use Rattle.stations.specs.declared.Rank.{Rank}
 use Rattle.stations.specs.declared.Topology.{Topology}
 use Rattle.stations.specs.Limits.{mostRouters, mostNeighbours, mostNextHops}
 use Rattle.stations.specs.Outcome.{answer}
-use Rattle.stations.specs.Topology.{networkOf}
 use Rattle.soundness.specs.Sound.{sound}
 use Rattle.arcs.specs.declared.Arcs.{Arcs}
-use Rattle.arcs.specs.Arcs.{Holds}
+use Rattle.arcs.specs.Arcs.{Laid}
 use Rattle.distances.specs.Slots.{slotTo}
 use Rattle.rows.specs.Bytes.{rowStart}
 use Rattle.table.specs.Listed.{placesIn}
@@ -70,7 +69,7 @@ pub record Bounded (by : List Rank) : Type 0 where
 -- the table was checked on a sound topology, whose arcs are laid out
 pub record Checked (t : Topology) (a : Arcs) (table : List ℕ) : Type 0 where
   pub on-sound : T (sound t)
-  pub holds : Holds (networkOf t) a
+  pub holds : Laid t a
   pub passes : tableChecking t table ≡ answer 0 0
 
 -- the greatest hop count of every place

@@ -1,7 +1,7 @@
 -- The prover computes every fact from the definitions.
 -- Assumes nothing.
 use Rattle.network.specs.Lists.{numbersFrom, below, keep, every, any, leastBy, greatestBy, ahead, foremost, insert, sort, member, sameNumbers, wins}
-use Rattle.network.specs.Network.{size, idOf, arcsOf, greatestCost, arcsAmong, linked, samePair}
+use Rattle.network.specs.Network.{size, idOf, arcsOf, greatestCost, arcsAmong, linked}
 use Rattle.network.specs.Distance.{absent, distanceIn, through, atFirst, round, rounds, distances}
 use Rattle.network.specs.Order.{reached, shortestNextHops, leadsInto, ready, candidate, placedNeighbours, preferred, select, continued, placing, build}
 use Rattle.network.specs.Row.{rank, sortsBefore, rankedBefore, fullRow, row}
@@ -9,9 +9,10 @@ use Rattle.network.specs.Forwarding.{longest}
 use Rattle.stations.specs.Topology.{noLink, padded, contents, held, zeros, seen, networkIn, networkOf}
 use Rattle.soundness.specs.Apart.{apart}
 use Rattle.soundness.specs.Sound.{within}
-use Rattle.stream.specs.Stream.{bigEndianOn, bigEndian, bodyLength, linkIn, decoded, recordIn, records}
-use Rattle.stream.specs.Reading.{refusal, accepted, routerFault, crowded, linkFault, fault, added, width, isEnd, joined, ended, unless, some?, inTurn}
-use Rattle.stream.specs.Reading.{nothingListed, reading}
+use Rattle.stream.specs.Stream.{bigEndianOn, bigEndian, bodyLength, halfIn, decoded, recordIn, records}
+use Rattle.stream.specs.Halves.{firstHalf, secondHalf, linkHalves, halves, sameHalf, leaves, opposite, linkOf}
+use Rattle.stream.specs.Reading.{refusal, accepted, routerFault, repeated, crowded, halvesFault, fault, withRouter, withLink, withLimit, arrived, added}
+use Rattle.stream.specs.Reading.{width, isEnd, joined, ended, unless, some?, inTurn, nothingListed, reading}
 use Rattle.stream.specs.Table.{T-stream, inSequence, routers}
 use Rattle.topology.specs.Written.{joinedOver}
 use Rattle.rows.specs.Bytes.{rowBytes, headerBytes, rowOf, rowsBytes, tableBytes, rowStart}
@@ -28,13 +29,15 @@ use Rattle.listing.specs.Facts.{holds, refused, facts, FactsHold}
 
 pub facts-hold : FactsHold
 unfolding numbersFrom below keep every any leastBy greatestBy ahead foremost insert sort member sameNumbers wins
-    size idOf arcsOf greatestCost arcsAmong linked samePair
+    size idOf arcsOf greatestCost arcsAmong linked
     absent distanceIn through atFirst round rounds distances
     reached shortestNextHops leadsInto ready candidate placedNeighbours preferred select continued placing build
     rank sortsBefore rankedBefore fullRow row longest
     noLink padded contents held zeros seen networkIn networkOf apart within
-    bigEndianOn bigEndian bodyLength linkIn decoded recordIn records
-    refusal accepted routerFault crowded linkFault fault added width isEnd joined ended unless some? inTurn nothingListed reading
+    bigEndianOn bigEndian bodyLength halfIn decoded recordIn records
+    linkHalves firstHalf secondHalf halves sameHalf leaves opposite linkOf
+    refusal accepted routerFault repeated crowded halvesFault fault withRouter withLink withLimit arrived added
+    width isEnd joined ended unless some? inTurn nothingListed reading
     T-stream inSequence routers joinedOver rowBytes headerBytes rowOf rowsBytes tableBytes rowStart
     destinationIn rankIn placesIn arcsTo entriesIn listed figure
     none refusedWord answerText answerLine wordLine lastDigits numberText

@@ -15,9 +15,9 @@ use Rattle.network.specs.Network.{Arc, Link, arcsAmong}
 use Rattle.network.specs.Theorems.Network.{SamePair}
 
 -- the arc a of u is the link l, seen from one of its ends
-pub record Seen (u : ℕ) (l : Link) (a : Arc) : Type 0 where
-  pub cost : a .cost ≡ l .cost
-  pub ends : ((l .first ≡ u) × (a .to ≡ l .second)) ⊎ ((l .second ≡ u) × (a .to ≡ l .first))
+abbrev pub Seen : ℕ → Link → Arc → Type 0
+Seen u l a =
+    ((l .first ≡ u) × (a .to ≡ l .second) × (a .cost ≡ l .cost)) ⊎ ((l .second ≡ u) × (a .to ≡ l .first) × (a .cost ≡ l .back))
 
 -- the link numbered `number` gives u no arc, as none of its ends is u, or the first of its arcs
 Step : ℕ → ℕ → Link → List Arc → List Arc → Type 0
@@ -34,9 +34,9 @@ step-of u number l ls = go (eqb (l .first) u) refl (eqb (l .second) u) refl
     go : (b : Bool) → eqb (l .first) u ≡ b → (c : Bool) → eqb (l .second) u ≡ c →
         Step u number l rest
         (cond b (record { to = l .second; cost = l .cost; link = number } ∷ rest)
-        (cond c (record { to = l .first; cost = l .cost; link = number } ∷ rest) rest))
-    go true e c f = inr (_, refl, record { cost = refl; ends = inl (eqb-true _ _ e, refl) }, refl)
-    go false e true f = inr (_, refl, record { cost = refl; ends = inr (eqb-true _ _ f, refl) }, refl)
+        (cond c (record { to = l .first; cost = l .back; link = number } ∷ rest) rest))
+    go true e c f = inr (_, refl, inl (eqb-true _ _ e, refl, refl), refl)
+    go false e true f = inr (_, refl, inr (eqb-true _ _ f, refl, refl), refl)
     go false e false f = inl (refl, eqb-false _ _ e, eqb-false _ _ f)
 
 -- the arc comes from a link of the list, whose turn, counted from `number`, is its number
@@ -79,14 +79,13 @@ arc-from u number (l ∷ ls) a m = go (step-of u number l ls) m (arc-from u (suc
 
 -- a link whose ends differ is seen from one of them in one way
 one-way : {u : ℕ} {l : Link} {a b : Arc} → l .first ≢ l .second → Seen u l a → Seen u l b → a .link ≡ b .link → a ≡ b
-one-way {u} {l} {a} {b} apart s t e = λ i. record { to = to (s .ends) (t .ends) i; cost = (s .cost ∙ sym (t .cost)) i; link = e i }
+one-way {u} {l} {a} {b} apart s t e = let (to, cost) = same s t in λ i. record { to = to i; cost = cost i; link = e i }
   where
-    to : ((l .first ≡ u) × (a .to ≡ l .second)) ⊎ ((l .second ≡ u) × (a .to ≡ l .first)) →
-        ((l .first ≡ u) × (b .to ≡ l .second)) ⊎ ((l .second ≡ u) × (b .to ≡ l .first)) → a .to ≡ b .to
-    to (inl f) (inl g) = omega arith
-    to (inl f) (inr g) = absurd (apart (omega arith))
-    to (inr f) (inl g) = absurd (apart (omega arith))
-    to (inr f) (inr g) = omega arith
+    same : Seen u l a → Seen u l b → (a .to ≡ b .to) × (a .cost ≡ b .cost)
+    same (inl f) (inl g) = (omega arith, omega arith)
+    same (inl f) (inr g) = absurd (apart (omega arith))
+    same (inr f) (inl g) = absurd (apart (omega arith))
+    same (inr f) (inr g) = (omega arith, omega arith)
 
 pub from-arc : (u number : ℕ) (ls : List Link) → ((l : Link) → List·Memᴰ l ls → l .first ≢ l .second) → (before : List Link) (k : Link) (after : List Link)
     (a : Arc) → ls ≡ before ++ (k ∷ after) → Seen u k a → a .link ≡ number + length before → List·Memᴰ a (arcsAmong u number ls)
@@ -96,7 +95,7 @@ from-arc u number [] apart (w ∷ before) k after a e seen turn = absurd (nil≢
 from-arc u number (l ∷ ls) apart [] k after a e seen turn = go (step-of u number l ls) (subst (λ (j : Link). Seen u j a) (sym (head-eq-of-cons-eq e)) seen)
   where
     go : {entries : List Arc} → Step u number l (arcsAmong u (suc number) ls) entries → Seen u l a → List·Memᴰ a entries
-    go (inl (same, f, s)) here = ⊎-elim (λ g. absurd (f (g .0))) (λ g. absurd (s (g .0))) (here .ends)
+    go (inl (same, f, s)) here = ⊎-elim (λ g. absurd (f (g .0))) (λ g. absurd (s (g .0))) here
     go (inr (b, same, there, at)) here =
         subst (List·Memᴰ a) (sym same) (List·Memᴰ·head (one-way (apart l (List·Memᴰ·head refl)) here there (omega arith)))
 from-arc u number (l ∷ ls) apart (w ∷ before) k after a e seen turn =
@@ -121,12 +120,8 @@ arcs-pairwise u R h number (then {x = l} {xs = ls} apart p) = go (step-of u numb
         subst (Pairwise R) (sym e) (then (λ b m. h number l ls a b apart seen turn (arc-from u (suc number) ls b m)) q)
 
 -- two links that one router sees as arcs to one place join the same pair
-pub same-pair : {u : ℕ} {l k : Link} {a b : Arc} → Seen u l a → Seen u k b → a .to ≡ b .to → SamePair l k
-same-pair {u} {l} {k} {a} {b} s t e = go (s .ends) (t .ends)
-  where
-    go : ((l .first ≡ u) × (a .to ≡ l .second)) ⊎ ((l .second ≡ u) × (a .to ≡ l .first)) →
-        ((k .first ≡ u) × (b .to ≡ k .second)) ⊎ ((k .second ≡ u) × (b .to ≡ k .first)) → SamePair l k
-    go (inl f) (inl g) = inl (omega arith)
-    go (inl f) (inr g) = inr (omega arith)
-    go (inr f) (inl g) = inr (omega arith)
-    go (inr f) (inr g) = inl (omega arith)
+pub same-pair : {u : ℕ} {l k : Link} (a b : Arc) → Seen u l a → Seen u k b → a .to ≡ b .to → SamePair l k
+same-pair a b (inl f) (inl g) e = inl (omega arith)
+same-pair a b (inl f) (inr g) e = inr (omega arith)
+same-pair a b (inr f) (inl g) e = inr (omega arith)
+same-pair a b (inr f) (inr g) e = inl (omega arith)

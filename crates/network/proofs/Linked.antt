@@ -17,7 +17,7 @@ use Rattle.network.specs.Theorems.Network.{SoundLinks, LinkedWellFormed,
 use Rattle.network.proofs.Sort.{pairwise-map}
 use Rattle.network.proofs.SoundLinks.{sound-links-exact}
 use Rattle.network.proofs.Below.{getD-below, getD-past, length-map-below}
-use Rattle.network.proofs.Arcs.{From, link-in, arc-from, from-arc, arcs-pairwise, same-pair}
+use Rattle.network.proofs.Arcs.{Seen, From, link-in, arc-from, from-arc, arcs-pairwise, same-pair}
 
 module _ (ids : List ℕ) (ls : List Link) (t : T (soundLinks ids ls)) where
   n : Network
@@ -60,12 +60,11 @@ module _ (ids : List ℕ) (ls : List Link) (t : T (soundLinks ids ls)) where
   sound-arc u a w =
       let g = facts .each (w .link) (link-in w) in
       let sized = given-size in
-      let cost : a .cost ≡ w .link .cost = w .seen .cost in
       record {
-        place = ⊎-elim (λ f. omega arith) (λ f. omega arith) (w .seen .ends);
-        other = ⊎-elim (λ f e. g .ends-differ (omega arith)) (λ f e. g .ends-differ (omega arith)) (w .seen .ends);
-        cost-least = omega arith;
-        cost-most = omega arith;
+        place = ⊎-elim (λ f. omega arith) (λ f. omega arith) (w .seen);
+        other = ⊎-elim (λ f e. g .ends-differ (omega arith)) (λ f e. g .ends-differ (omega arith)) (w .seen);
+        cost-least = ⊎-elim (λ f. omega arith) (λ f. omega arith) (w .seen);
+        cost-most = ⊎-elim (λ f. omega arith) (λ f. omega arith) (w .seen);
         numbered = omega (arith, given-links, w .turn, ap length (w .stands), length-append (w .before) (w .link ∷ w .after));
       }
 
@@ -87,7 +86,7 @@ module _ (ids : List ℕ) (ls : List Link) (t : T (soundLinks ids ls)) where
         places-differ = λ u.
             pairwise _ u
             (arcs-pairwise u (λ a b. a .to ≢ b .to)
-            (λ number l later a b out seen turn w e. out (w .link) (link-in w) (same-pair seen (w .seen) e)) 0 (facts .pairs-differ));
+            (λ number l later a b out seen turn w e. out (w .link) (link-in w) (same-pair a b seen (w .seen) e)) 0 (facts .pairs-differ));
         links-differ = λ u. pairwise-map (λ a b m k (h : a .link < b .link) e. omega arith) (numbers-rise u);
       }
 
@@ -104,35 +103,29 @@ module _ (ids : List ℕ) (ls : List Link) (t : T (soundLinks ids ls)) where
           after = w .after;
           stands = w .stands;
           number = omega (arith, w .turn);
-          cost = w .seen .cost;
-          ends = w .seen .ends;
+          ends = w .seen;
         },
     λ w.
         subst (List·Memᴰ a) (sym (arcs-within u h))
-        (from-arc u 0 ls (λ l m. facts .each l m .ends-differ) (w .before) (w .link) (w .after) a (w .stands) (record { cost = w .cost; ends = w .ends })
+        (from-arc u 0 ls (λ l m. facts .each l m .ends-differ) (w .before) (w .link) (w .after) a (w .stands) (w .ends)
         (omega (arith, w .number))),
   )
 
   -- an arc has its link's other arc for the way back
-  way-back : (u : ℕ) → u < length ids → (a : Arc) → List·Memᴰ a (arcsOf n u) →
-      List·Memᴰ (record { to = u; cost = a .cost; link = a .link }) (arcsOf n (a .to))
+  way-back : (u : ℕ) → u < length ids → (a : Arc) → List·Memᴰ a (arcsOf n u) → (b : Arc) × List·Memᴰ b (arcsOf n (a .to)) × (b .to ≡ u)
   way-back u h a m =
       let w = arcs-exact u h a .0 m in
-      arcs-exact (a .to) (arc-place u a m) _ .1
-      record {
-        before = w .before;
-        link = w .link;
-        after = w .after;
-        stands = w .stands;
-        number = w .number;
-        cost = w .cost;
-        ends = ⊎-elim (λ (f, g). inr (sym g, sym f)) (λ (f, g). inl (sym g, sym f)) (w .ends);
-      }
+      let from : (b : Arc) → Seen (a .to) (w .link) b → b .link ≡ a .link → List·Memᴰ b (arcsOf n (a .to)) = λ b seen number.
+      arcs-exact (a .to) (arc-place u a m) b .1
+      record { before = w .before; link = w .link; after = w .after; stands = w .stands; number = number ∙ w .number; ends = seen } in
+      ⊎-elim (λ (f, g, c). (record { to = u; cost = w .link .back; link = a .link }, from _ (inr (sym g, sym f, refl)) refl, refl))
+      (λ (f, g, c). (record { to = u; cost = w .link .cost; link = a .link }, from _ (inl (sym g, sym f, refl)) refl, refl)) (w .ends)
 
   -- a path walked back, before a path from its start on
   back : {d u : ℕ} (w : ℕ) → PathTo n d u → u < length ids → PathTo n w u → PathTo n w d
   back w (arrived e) h q = subst (PathTo n w) e q
-  back {u} w (along a m p) h q = back w p (arc-place u a m) (along _ (way-back u h a m) q)
+  back {u} w (along a m p) h q =
+      let (b, there, e) = way-back u h a m in back w p (arc-place u a m) (along b there (subst (PathTo n w) (sym e) q))
 
   join : {d middle u : ℕ} → PathTo n middle u → PathTo n d middle → PathTo n d u
   join {d} (arrived e) q = subst (PathTo n d) (sym e) q

@@ -57,34 +57,40 @@ pub record WellFormed (n : Network) : Type 0 where
   pub places-differ : (u : ℕ) → Pairwise (λ a b. a .to ≢ b .to) (arcsOf n u)
   pub links-differ : (u : ℕ) → Pairwise (λ a b. a .link ≢ b .link) (arcsOf n u)
 
--- 01, From links to hops: a link is undirected and has one cost, the same each way
+-- 02, #105: a link has a cost for each direction, that of the end that sends: `cost` from its first place to its second, `back` from its second to its
+-- first
 pub record Link : Type 0 where
   pub first : ℕ
   pub second : ℕ
   pub cost : ℕ
+  pub back : ℕ
 
--- 01, From links to hops: the arcs of u among links, the first of which has the given number
+-- 02, #105: the arcs of u among links, each at the cost of the end that sends; the first of the links has the given number
 unfoldable pub arcsAmong : ℕ → ℕ → List Link → List Arc
 arcsAmong u number [] = []
 arcsAmong u number (l ∷ ls) =
     cond (eqb (l .first) u) (record { to = l .second; cost = l .cost; link = number } ∷ arcsAmong u (suc number) ls)
-    (cond (eqb (l .second) u) (record { to = l .first; cost = l .cost; link = number } ∷ arcsAmong u (suc number) ls)
+    (cond (eqb (l .second) u) (record { to = l .first; cost = l .back; link = number } ∷ arcsAmong u (suc number) ls)
     (arcsAmong u (suc number) ls))
 
 -- 01, Stations, links and limits: the network of the IDs by place and the links by number
 unfoldable pub linked : List ℕ → List Link → Network
 linked ids ls = record { ids = ids; arcs = map (λ u. arcsAmong u 0 ls) (below (length ids)); links = length ls }
 
--- 01, Refusals, 5 to 7: a link joins two different places that are listed, at a cost within the limits
+-- 01, Stations, links and limits: a cost within the limits
+unfoldable pub soundCost : ℕ → Bool
+soundCost cost = leb 1 cost && leb cost greatestCost
+
+-- 01, Refusals, 5 to 7: a link joins two different places that are listed, at costs within the limits
 unfoldable pub soundLink : ℕ → Link → Bool
 soundLink count l =
-    (ltb (l .first) count && ltb (l .second) count) && not (eqb (l .first) (l .second)) && (leb 1 (l .cost) && leb (l .cost) greatestCost)
+    (ltb (l .first) count && ltb (l .second) count) && not (eqb (l .first) (l .second)) && (soundCost (l .cost) && soundCost (l .back))
 
--- 01, Refusals, 8: two links join one pair, in either order
+-- 02, #105, 8: two links join one pair, in either order, so that they would share both halves
 unfoldable pub samePair : Link → Link → Bool
 samePair l k = (eqb (l .first) (k .first) && eqb (l .second) (k .second)) || (eqb (l .first) (k .second) && eqb (l .second) (k .first))
 
--- 01, Refusals, 8: no pair is linked twice
+-- 02, #105, 8: no pair is linked twice, as no half is listed twice
 unfoldable pub pairsDiffer : List Link → Bool
 pairsDiffer [] = true
 pairsDiffer (l ∷ ls) = not (any (samePair l) ls) && pairsDiffer ls

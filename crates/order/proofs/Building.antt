@@ -92,10 +92,10 @@ module _ {t : Topology} {a : Arcs} {d : ℕ} {m : own.Mode} {ds lower first out 
         candidate-waits (b .given) small (b .right) u
         (fact-candidate n (facts (b .given) .well-formed) d (inside (b .given .place)) (modeOf m) (b .placed) u candidate)
 
-    pub has-room : Room (set keys u 0) (a .to) (a .cost) ds m u (getD (a .count) u 0)
+    pub has-room : Room (set keys u 0) (a .to) (a .back) ds m u (getD (a .count) u 0)
     has-room = room (b .given) small (b .right) place (candidate .unplaced) waits
 
-    pub again : {r : List ℕ} → Stepped (set keys u 0) (a .to) (a .cost) ds m u (getD (a .count) u 0) r →
+    pub again : {r : List ℕ} → Stepped (set keys u 0) (a .to) (a .back) ds m u (getD (a .count) u 0) r →
         Building t a d m ds lower first (set out rank u) r (rank + 1)
     unfolding then continued
     again step =
@@ -122,7 +122,7 @@ module _ {t : Topology} {a : Arcs} {d : ℕ} {m : own.Mode} {ds lower first out 
 module _ {t : Topology} {a : Arcs} {d : ℕ} {m : own.Mode} {ds lower : List ℕ} (first : List ℕ) where
   -- after d is placed
   pub first-turn : {keys r : List ℕ} → LaidOut t a d m ds → Lower (t .id) (t .routers) lower → t .routers ≤ length first →
-      Standing (a .count) (a .to) (a .cost) ds lower m (t .routers) keys → Stepped (set keys d 0) (a .to) (a .cost) ds m d (getD (a .count) d 0) r →
+      Standing (a .count) (a .to) (a .cost) ds lower m (t .routers) keys → Stepped (set keys d 0) (a .to) (a .back) ds m d (getD (a .count) d 0) r →
       Building t a d m ds lower (set first 0 d) (set first 0 d) r 1
   unfolding build
   first-turn g ties enough start step =

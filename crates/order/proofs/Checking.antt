@@ -81,10 +81,10 @@ module _ {t : Topology} {a : Arcs} {d : ℕ} {m : Mode} {ds order keys : List �
       waits : waitsFor m (waiting (networkOf t) (distances (networkOf t) d) (take rank order) (getD order rank 0)) ≡ 0
       waits = candidate-waits (w .given) (zeros-small (w .given)) (w .right) _ (subst T (sym (sym candidate-is ∙ e)) tt)
 
-      pub has-room : Room (set keys (getD order rank 0) 0) (a .to) (a .cost) ds m (getD order rank 0) (getD (a .count) (getD order rank 0) 0)
+      pub has-room : Room (set keys (getD order rank 0) 0) (a .to) (a .back) ds m (getD order rank 0) (getD (a .count) (getD order rank 0) 0)
       has-room = room (w .given) (zeros-small (w .given)) (w .right) place (here .1) waits
 
-      pub again : {r : List ℕ} → Stepped (set keys (getD order rank 0) 0) (a .to) (a .cost) ds m (getD order rank 0) (getD (a .count) (getD order rank 0) 0) r →
+      pub again : {r : List ℕ} → Stepped (set keys (getD order rank 0) 0) (a .to) (a .back) ds m (getD order rank 0) (getD (a .count) (getD order rank 0) 0) r →
           Checking t a d m ds order r (rank + 1)
       again step =
           let inside : rank < length order = omega (arith, w .proposed .long) in
@@ -103,7 +103,7 @@ module _ {t : Topology} {a : Arcs} {d : ℕ} {m : Mode} {ds order keys : List �
           so-far-too r h (no apart) k = w .so-far r h (omega arith)
 
 pub first-turn : {t : Topology} {a : Arcs} {d : ℕ} {m : Mode} {ds order keys r : List ℕ} → LaidOut t a d m ds → Proposed t d order →
-    Standing (a .count) (a .to) (a .cost) ds (replicate 64 0) m (t .routers) keys → Stepped (set keys d 0) (a .to) (a .cost) ds m d (getD (a .count) d 0) r →
+    Standing (a .count) (a .to) (a .cost) ds (replicate 64 0) m (t .routers) keys → Stepped (set keys d 0) (a .to) (a .back) ds m d (getD (a .count) d 0) r →
     Checking t a d m ds order r 1
 first-turn {order} g p start step =
     let inside : 0 < length order = omega (arith, p .long, p .place) in

@@ -60,15 +60,15 @@ module _ {n : Network} {a : Arcs} (g : Setting n a) {ds slots : List ℕ} {m : M
     too = placed ++ (p ∷ [])
 
     abbrev next : ℕ → ℕ
-    next = after (set keys p 0) (a .to) (a .cost) slots m p (getD (a .count) p 0)
+    next = after (set keys p 0) (a .to) (a .back) slots m p (getD (a .count) p 0)
 
     -- v waits for as many less as it is served
     waits-step : (v : ℕ) → v < size n →
-        waitsFor m (waiting n ds placed v) ≡ waitsFor m (waiting n ds too v) + waitsFor m (serving (a .to) (a .cost) slots p (getD (a .count) p 0) v)
+        waitsFor m (waiting n ds placed v) ≡ waitsFor m (waiting n ds too v) + waitsFor m (serving (a .to) (a .back) slots p (getD (a .count) p 0) v)
     waits-step v h = by-mode m refl
       where
         by-mode : (w : Mode) → m ≡ w →
-            waitsFor m (waiting n ds placed v) ≡ waitsFor m (waiting n ds too v) + waitsFor m (serving (a .to) (a .cost) slots p (getD (a .count) p 0) v)
+            waitsFor m (waiting n ds placed v) ≡ waitsFor m (waiting n ds too v) + waitsFor m (serving (a .to) (a .back) slots p (getD (a .count) p 0) v)
         by-mode mode.ShortestPath e = unfold waitsFor in rw e (waiting-step g placed p p-in out ds slots (by .shortest e) v h)
         by-mode mode.Free e = unfold waitsFor in rw e
 
@@ -105,7 +105,7 @@ module _ {n : Network} {a : Arcs} (g : Setting n a) {ds slots : List ℕ} {m : M
     unfolding after waitsFor
     next-past v past h = by-mode m
       where
-        by-mode : (w : Mode) → after (set keys p 0) (a .to) (a .cost) slots w p (getD (a .count) p 0) v ≡ 0
+        by-mode : (w : Mode) → after (set keys p 0) (a .to) (a .back) slots w p (getD (a .count) p 0) v ≡ 0
         by-mode mode.ShortestPath =
             omega (
               arith,
@@ -125,7 +125,7 @@ module _ {n : Network} {a : Arcs} (g : Setting n a) {ds slots : List ℕ} {m : M
         cases (yes e) = rw e here
         cases (no apart) = placed-or v placed (old v h) (λ free. new v h free apart)
 
-    pub kept-room : ((v : ℕ) → v < size n → getD lower v 0 < 64) → Room (set keys p 0) (a .to) (a .cost) slots m p (getD (a .count) p 0)
+    pub kept-room : ((v : ℕ) → v < size n → getD lower v 0 < 64) → Room (set keys p 0) (a .to) (a .back) slots m p (getD (a .count) p 0)
     kept-room small = record { long = length-set keys p 0 ∙ k .long; most = λ v h. bound v h (decLt v (size n)) }
       where
         few : (v : ℕ) → v < size n → placedNeighbours n too v ≤ 16
@@ -142,7 +142,7 @@ module _ {n : Network} {a : Arcs} (g : Setting n a) {ds slots : List ℕ} {m : M
     either {C} here old v h l =
         ⊎-elim (old v h) (λ o. ⊎-elim (λ e. rw e here) (λ o′. absurd (List·Memᴰ·not-nil o′)) (List·Memᴰ·cases-cons o)) (List·Memᴰ·append-cases placed l)
 
-    pub kept-step : {r : List ℕ} → Stepped (set keys p 0) (a .to) (a .cost) slots m p (getD (a .count) p 0) r → Kept n ds m lower too r
+    pub kept-step : {r : List ℕ} → Stepped (set keys p 0) (a .to) (a .back) slots m p (getD (a .count) p 0) r → Kept n ds m lower too r
     kept-step {r} st =
         let most = g .most in
         record {

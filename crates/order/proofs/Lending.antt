@@ -20,15 +20,18 @@ use Rattle.distances.specs.Slots.{AllSlots}
 use Rattle.order.specs.Inner.{Lower, Apart, Inverse, Standing, Highest, Room, Stepped}
 use Rattle.order.proofs.Setting.{topology-ids}
 use Rattle.order.proofs.Ties.{lower-small, lower-apart}
-use Rattle.order.proofs.Turn.{facts, every-slot, standings-low, first-room}
+use Rattle.order.proofs.Turn.{facts, every-slot, every-back, standings-low, first-room}
 use Rattle.order.proofs.Building.{Building, ties-small, same-long, first-turn, selected, found, place, has-room, again, finished}
 
-module _ {t : Topology} {counts to cost ids ds : List ℕ} {n d : ℕ} {m : Mode} (l : Lent t counts to cost ids n d m ds) where
+module _ {t : Topology} {counts to cost back ids ds : List ℕ} {n d : ℕ} {m : Mode} (l : Lent t counts to cost back ids n d m ds) where
   abbrev pub slots-of : Arcs
-  slots-of = inSlots counts to cost (l .link)
+  slots-of = inSlots counts to cost back (l .link)
 
   pub all : AllSlots counts to cost n ds
   all = rw (l .routers-are) at (every-slot (l .laid))
+
+  pub all-back : AllSlots counts to back n ds
+  all-back = rw (l .routers-are) at (every-back (l .laid))
 
   pub d-in : d < n
   d-in = rw (l .routers-are) at (l .laid .place)
@@ -54,10 +57,10 @@ module _ {t : Topology} {counts to cost ids ds : List ℕ} {n d : ℕ} {m : Mode
       own-start : Standing counts to cost ds lower m (t .routers) keys
       own-start = rw (l .routers-are) start
 
-      pub room-first : Room (set keys d 0) to cost ds m d (getD counts d 0)
+      pub room-first : Room (set keys d 0) to back ds m d (getD counts d 0)
       room-first = first-room (l .laid) (ties-small (l .laid) own-ties) own-start
 
-      pub begin : (first : List ℕ) {x : ℕ} {r : List ℕ} → x ≡ d → n ≤ length first → Stepped (set keys d 0) to cost ds m d (getD counts d 0) r →
+      pub begin : (first : List ℕ) {x : ℕ} {r : List ℕ} → x ≡ d → n ≤ length first → Stepped (set keys d 0) to back ds m d (getD counts d 0) r →
           Building t slots-of d m ds lower (set first 0 x) (set first 0 x) r 1
       begin first same enough step = rw same (first-turn first (l .laid) own-ties (rw (l .routers-are) enough) own-start step)
 
@@ -82,10 +85,10 @@ module _ {t : Topology} {counts to cost ids ds : List ℕ} {n d : ℕ} {m : Mode
         pub next-in : next < n
         next-in = rw (l .routers-are) at (place b own-more picked)
 
-        pub room-next : Room (set keys next 0) to cost ds m next (getD counts next 0)
+        pub room-next : Room (set keys next 0) to back ds m next (getD counts next 0)
         room-next = has-room b own-more picked
 
-        pub go-on : {r : List ℕ} → Stepped (set keys next 0) to cost ds m next (getD counts next 0) r →
+        pub go-on : {r : List ℕ} → Stepped (set keys next 0) to back ds m next (getD counts next 0) r →
             Building t slots-of d m ds lower first (set out rank next) r (rank + 1)
         go-on step = again b own-more picked step
 

@@ -1,9 +1,9 @@
--- What the counters go by, and that a sound topology has it: a network within the limits with its arcs in slots, its IDs, and a distance of every
--- router.
+-- What the counters go by, and that a sound topology has it: a network within the limits with its arcs in slots, and those of the other ends, its IDs, and a
+-- distance of every router.
 -- Assumes nothing.
 use Prim.Native.Nat.{ℕ, _≤_, _<_}
 use mathlib.Core.List.{List}
-use mathlib.Core.Path.{_≡_, _∙_}
+use mathlib.Core.Path.{_≡_, sym, _∙_, subst}
 use native.Mathlib.Omega.{arith}
 use lib.Dec.{T}
 use lib.ListN.{length, getD}
@@ -14,22 +14,28 @@ use Rattle.network.specs.Order.{reached}
 use Rattle.network.proofs.NextHop.{path-reached}
 use Rattle.stations.specs.declared.Topology.{Topology}
 use Rattle.stations.specs.Topology.{contents, networkIn, networkOf}
-use Rattle.soundness.specs.Theorems.{Sound, SoundNetwork}
+use Rattle.soundness.specs.Theorems.{SoundNetwork}
+use Rattle.soundness.specs.Sound.{sound}
+use Rattle.soundness.proofs.Sound.{sound-exact}
 use Rattle.arcs.specs.declared.Arcs.{Arcs}
-use Rattle.arcs.specs.Arcs.{Holds}
+use Rattle.arcs.specs.Arcs.{Holds, slotsBack, networkBack, Laid}
+use Rattle.arcs.specs.Theorems.{Opposite}
+use Rattle.arcs.proofs.Back.{back-exact}
 use Rattle.order.specs.declared.Mode.{Mode}
 use Rattle.order.specs.declared.Mode.the-variants as mode
 use Rattle.distances.specs.Settled.{Settled}
 use Rattle.distances.proofs.Ended.{getD-within}
-use Rattle.distances.proofs.Symmetry.{BothWays, topology-back}
+use Rattle.distances.proofs.Slots.{Held, back-held}
 
--- a network, well formed and within the limits, and its arcs in slots
+-- a network, well formed and within the limits, and its arcs in slots; with costs and ways back exchanged these hold the arcs of the other ends
 pub record Setting (n : Network) (a : Arcs) : Type 0 where
   pub formed : WellFormed n
-  pub ways : BothWays n
   pub holds : Holds n a
   pub most : size n ≤ 64
   pub few : (u : ℕ) → u < size n → length (arcsOf n u) ≤ 16
+  pub other : Network
+  pub back : Held other (slotsBack a) (size n)
+  pub opposite : Opposite n other (size n)
 
 -- the distances by place that the code has in its slots
 abbrev pub Agrees : Network → List ℕ → List ℕ → Type 0
@@ -45,15 +51,18 @@ pub record GoneBy (n : Network) (ds : List ℕ) (m : Mode) (slots : List ℕ) : 
   pub shortest : m ≡ mode.ShortestPath → Agrees n ds slots
 
 module _ {t : Topology} (w : SoundNetwork t) where
-  pub topology-setting : Sound t → {a : Arcs} → Holds (networkOf t) a → Setting (networkOf t) a
-  topology-setting s holds =
+  pub topology-setting : T (sound t) → {a : Arcs} → Laid t a → Setting (networkOf t) a
+  topology-setting s {a} laid =
       let sized = w .routers in
+      let tested = sound-exact t .0 s in
       record {
         formed = w .well-formed;
-        ways = topology-back t s;
-        holds = holds;
-        most = omega (arith, s .routers-most);
-        few = λ u h. s .neighbours u (omega arith);
+        holds = laid .out;
+        most = omega (arith, tested .routers-most);
+        few = λ u h. tested .neighbours u (omega arith);
+        other = networkBack t;
+        back = subst (Held (networkBack t) (slotsBack a)) (sym sized) (back-held t (slotsBack a) s (laid .back));
+        opposite = subst (Opposite (networkOf t) (networkBack t)) (sym sized) (back-exact t s .arcs);
       }
 
   pub topology-reached : (d : ℕ) → d < t .routers → (u : ℕ) → u < size (networkOf t) → T (reached (networkOf t) (distances (networkOf t) d) u)

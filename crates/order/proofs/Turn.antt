@@ -16,6 +16,7 @@ use Rattle.stations.specs.declared.Topology.{Topology}
 use Rattle.stations.specs.Topology.{networkOf}
 use Rattle.soundness.specs.Theorems.{SoundNetwork}
 use Rattle.arcs.specs.declared.Arcs.{Arcs}
+use Rattle.arcs.specs.Arcs.{slotsBack, networkBack}
 use Rattle.order.specs.declared.Mode.{Mode}
 use Rattle.order.specs.declared.Mode.the-variants as mode
 use Rattle.order.specs.Calls.{modeOf}
@@ -23,8 +24,8 @@ use Rattle.distances.specs.Settled.{Settled}
 use Rattle.order.specs.Proposed.{DistancesFor, LaidOut}
 use Rattle.distances.specs.Slots.{Slots, AllSlots}
 use Rattle.order.specs.Inner.{waitsFor, Lower, Standing, Highest, Room, Stepped}
-use Rattle.soundness.proofs.Sound.{sound-exact, sound-networks}
-use Rattle.distances.proofs.Slots.{sound-held, all-slots}
+use Rattle.soundness.proofs.Sound.{sound-networks}
+use Rattle.distances.proofs.Slots.{sound-held, back-held, all-slots}
 use Rattle.order.proofs.Keeping.{none-kept}
 use Rattle.order.proofs.Counting.{waiting}
 use Rattle.order.proofs.Setting.{Setting, GoneBy, settled-agrees, topology-setting, topology-ids}
@@ -51,16 +52,21 @@ module _ {t : Topology} {a : Arcs} {d : ℕ} {m : Mode} {ds : List ℕ} (g : Lai
 
   pub every-slot : AllSlots (a .count) (a .to) (a .cost) (t .routers) ds
   every-slot =
-      all-slots (networkOf t) a (t .routers) (sound-held t a (g .is-sound) (g .holds)) ds (g .for-mode .long) (g .for-mode .near)
+      all-slots (networkOf t) a (t .routers) (sound-held t a (g .is-sound) (g .holds .out)) ds (g .for-mode .long) (g .for-mode .near)
 
-  pub slots : {u : ℕ} → u < t .routers → Slots (a .to) (a .cost) ds u (getD (a .count) u 0)
-  slots h = every-slot .each _ h
+  pub every-back : AllSlots (a .count) (a .to) (a .back) (t .routers) ds
+  every-back =
+      all-slots (networkBack t) (slotsBack a) (t .routers) (back-held t (slotsBack a) (g .is-sound) (g .holds .back)) ds (g .for-mode .long)
+      (g .for-mode .near)
+
+  pub slots : {u : ℕ} → u < t .routers → Slots (a .to) (a .back) ds u (getD (a .count) u 0)
+  slots h = every-back .each _ h
 
   inside : {u : ℕ} → u < t .routers → u < size (networkOf t)
   inside h = omega (arith, facts .routers)
 
   setting : Setting (networkOf t) a
-  setting = topology-setting facts (sound-exact t .0 (g .is-sound)) (g .holds)
+  setting = topology-setting facts (g .is-sound) (g .holds)
 
   by : GoneBy (networkOf t) (distances (networkOf t) d) m ds
   by =
@@ -119,20 +125,20 @@ module _ {t : Topology} {a : Arcs} {d : ℕ} {m : Mode} {ds : List ℕ} (g : Lai
 
     module _ {u : ℕ} (h : u < t .routers) (out : List·Memᴰ u placed → ⊥)
         (ready : waitsFor m (waiting (networkOf t) (distances (networkOf t) d) placed u) ≡ 0) where
-      pub room : Room (set keys u 0) (a .to) (a .cost) ds m u (getD (a .count) u 0)
+      pub room : Room (set keys u 0) (a .to) (a .back) ds m u (getD (a .count) u 0)
       room = kept-room setting by kept u (inside h) out ready small-in
 
-      pub placed-too : {r : List ℕ} → Stepped (set keys u 0) (a .to) (a .cost) ds m u (getD (a .count) u 0) r → Right lower (placed ++ (u ∷ [])) r
+      pub placed-too : {r : List ℕ} → Stepped (set keys u 0) (a .to) (a .back) ds m u (getD (a .count) u 0) r → Right lower (placed ++ (u ∷ [])) r
       placed-too step = kept-step setting by kept u (inside h) out ready step
 
   -- where d is counted in, the first of all
-  pub first-slots : Slots (a .to) (a .cost) ds d (getD (a .count) d 0)
+  pub first-slots : Slots (a .to) (a .back) ds d (getD (a .count) d 0)
   first-slots = slots (g .place)
 
   module _ {lower keys : List ℕ} (small : (u : ℕ) → u < t .routers → getD lower u 0 < 64)
       (start : Standing (a .count) (a .to) (a .cost) ds lower m (t .routers) keys) where
-    pub first-room : Room (set keys d 0) (a .to) (a .cost) ds m d (getD (a .count) d 0)
+    pub first-room : Room (set keys d 0) (a .to) (a .back) ds m d (getD (a .count) d 0)
     first-room = room small (begun start) (g .place) List·Memᴰ·not-nil first-waits
 
-    pub first-placed : {r : List ℕ} → Stepped (set keys d 0) (a .to) (a .cost) ds m d (getD (a .count) d 0) r → Right lower (d ∷ []) r
+    pub first-placed : {r : List ℕ} → Stepped (set keys d 0) (a .to) (a .back) ds m d (getD (a .count) d 0) r → Right lower (d ∷ []) r
     first-placed step = placed-too small (begun start) (g .place) List·Memᴰ·not-nil first-waits step

@@ -54,24 +54,25 @@ pub record Highest (keys : List ℕ) (n best : ℕ) : Type 0 where
 unfoldable pub gain : Mode → ℕ → ℕ → ℕ
 gain m through distance = 64 + waitsFor m (cond (eqb through distance) 1 0) * 1088
 
--- how many of the first `count` slots of u lead to v, and how many of those make u a shortest next hop of v
+-- how many of the first `count` slots of u lead to v, and how many of those make u a shortest next hop of v, where `back` is what going the other way
+-- costs
 unfoldable pub leading : List ℕ → ℕ → ℕ → ℕ → ℕ
 leading to u count v = length (keep (λ j. eqb (slotTo to u j) v) (below count))
 
 unfoldable pub serving : List ℕ → List ℕ → List ℕ → ℕ → ℕ → ℕ → ℕ
-serving to cost ds u count v =
-    length (keep (λ j. eqb (slotTo to u j) v && eqb (getD cost (u * mostNeighbours + j) 0 + getD ds u 0) (getD ds v 0)) (below count))
+serving to back ds u count v =
+    length (keep (λ j. eqb (slotTo to u j) v && eqb (getD back (u * mostNeighbours + j) 0 + getD ds u 0) (getD ds v 0)) (below count))
 
 -- the standing of v after `count` slots of the router at u, which is placed
 unfoldable pub after : List ℕ → List ℕ → List ℕ → List ℕ → Mode → ℕ → ℕ → ℕ → ℕ
-after keys to cost ds m u count v = getD keys v 0 + leading to u count v * 64 + waitsFor m (serving to cost ds u count v) * 1088
+after keys to back ds m u count v = getD keys v 0 + leading to u count v * 64 + waitsFor m (serving to back ds u count v) * 1088
 
 -- the standings have room for that
-pub record Room (keys to cost ds : List ℕ) (m : Mode) (u count : ℕ) : Type 0 where
+pub record Room (keys to back ds : List ℕ) (m : Mode) (u count : ℕ) : Type 0 where
   pub long : length keys ≡ mostRouters
-  pub most : (v : ℕ) → v < mostRouters → after keys to cost ds m u count v ≤ 65535
+  pub most : (v : ℕ) → v < mostRouters → after keys to back ds m u count v ≤ 65535
 
 -- and have become that
-pub record Stepped (keys to cost ds : List ℕ) (m : Mode) (u count : ℕ) (r : List ℕ) : Type 0 where
+pub record Stepped (keys to back ds : List ℕ) (m : Mode) (u count : ℕ) (r : List ℕ) : Type 0 where
   pub long : length r ≡ mostRouters
-  pub each : (v : ℕ) → v < mostRouters → getD r v 0 ≡ after keys to cost ds m u count v
+  pub each : (v : ℕ) → v < mostRouters → getD r v 0 ≡ after keys to back ds m u count v

@@ -14,7 +14,7 @@ use Rattle.stations.specs.Topology.{networkOf}
 use Rattle.stations.specs.declared.Topology.{Topology}
 use Rattle.soundness.specs.Sound.{sound}
 use Rattle.arcs.specs.declared.Arcs.{Arcs}
-use Rattle.arcs.specs.Arcs.{inSlots, Holds}
+use Rattle.arcs.specs.Arcs.{inSlots, Laid}
 use Rattle.distances.specs.Slots.{farthest}
 use Rattle.order.specs.declared.Mode.{Mode}
 use Rattle.order.specs.declared.Mode.the-variants as mode
@@ -30,14 +30,14 @@ pub record DistancesFor (n : Network) (d : ℕ) (m : Mode) (ds : List ℕ) : Typ
 -- a sound topology with its arcs laid out, a place of it as destination, and distances that serve the mode
 pub record LaidOut (t : Topology) (a : Arcs) (d : ℕ) (m : Mode) (ds : List ℕ) : Type 0 where
   pub is-sound : T (sound t)
-  pub holds : Holds (networkOf t) a
+  pub holds : Laid t a
   pub place : d < t .routers
   pub for-mode : DistancesFor (networkOf t) d m ds
 
 -- the same where all that is read of the topology and its arcs is lent: the slots, the IDs and the number of routers
-pub record Lent (t : Topology) (counts to cost ids : List ℕ) (n d : ℕ) (m : Mode) (ds : List ℕ) : Type 0 where
+pub record Lent (t : Topology) (counts to cost back ids : List ℕ) (n d : ℕ) (m : Mode) (ds : List ℕ) : Type 0 where
   pub link : List ℕ
-  pub laid : LaidOut t (inSlots counts to cost link) d m ds
+  pub laid : LaidOut t (inSlots counts to cost back link) d m ds
   pub ids-are : t .id ≡ ids
   pub routers-are : t .routers ≡ n
 

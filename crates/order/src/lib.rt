@@ -32,11 +32,12 @@ pub fn build(t: Topology, destination: Place, mode: Mode, out: &mut [u8]) -> Ans
         return Answer { number: 24, at: n };
     }
     let a = arcs::unchecked::of(t);
-    let ds = unchecked::distances_for(&a.count, &a.to, &a.cost, n, destination, mode);
+    let ds = unchecked::distances_for(&a.count, &a.to, &a.back, n, destination, mode);
     unchecked::build(
         &a.count,
         &a.to,
         &a.cost,
+        &a.back,
         &ds,
         &t.id,
         n,
@@ -59,6 +60,6 @@ pub fn check(t: Topology, destination: Place, mode: Mode, order: &[u8]) -> Answe
         return Answer { number: 15, at: d };
     }
     let a = arcs::unchecked::of(t);
-    let ds = unchecked::distances_for(&a.count, &a.to, &a.cost, t.routers, destination, mode);
+    let ds = unchecked::distances_for(&a.count, &a.to, &a.back, t.routers, destination, mode);
     unchecked::judge(t, a, ds, destination, mode, order)
 }

@@ -50,7 +50,7 @@ pub(crate) fn unready_rank(
     let lower = [0u32; ROUTERS];
     let mut keys = placing::standings(&a.count, &a.to, &a.cost, &ds, &lower, t.routers, mode);
     let count = a.count[d] as usize;
-    placing::count_in(&mut keys, mode, &a.to, &a.cost, &ds, d, count);
+    placing::count_in(&mut keys, mode, &a.to, &a.back, &ds, d, count);
     let mut rank: usize = 1;
     while rank < t.routers {
         let u = order[rank] as usize;
@@ -58,7 +58,7 @@ pub(crate) fn unready_rank(
             return rank;
         }
         let count = a.count[u] as usize;
-        placing::count_in(&mut keys, mode, &a.to, &a.cost, &ds, u, count);
+        placing::count_in(&mut keys, mode, &a.to, &a.back, &ds, u, count);
         rank += 1;
     }
     rank

@@ -25,16 +25,16 @@ ghost use Rattle.order.specs.Proposed.{DistancesFor, LaidOut, Lent, Rank
 pub fn distances_for<'a>(
     counts: &'a [u8; ROUTERS],
     to: &'a [u8; SLOTS],
-    cost: &'a [u16; SLOTS],
+    back: &'a [u16; SLOTS],
     n: usize,
     destination: Place,
     mode: Mode,
 ) -> [u32; ROUTERS]
-    requires { ⌜ ((t : Topology) × LaidIn t (now counts) (now to) (now cost) n) × (destination .0 < n) ⌝ }
-    ensures { λ r. ⌜ ((t : Topology) → LaidIn t (now (counts .entry)) (now (to .entry)) (now (cost .entry)) n → DistancesFor (networkOf t) (destination .0) mode r) ⌝ }
+    requires { ⌜ ((t : Topology) × LaidIn t (now counts) (now to) (now back) n) × (destination .0 < n) ⌝ }
+    ensures { λ r. ⌜ ((t : Topology) → LaidIn t (now (counts .entry)) (now (to .entry)) (now (back .entry)) n → DistancesFor (networkOf t) (destination .0) mode r) ⌝ }
 {
     match mode {
-        Mode::ShortestPath => distances::unchecked::to(counts, to, cost, n, destination),
+        Mode::ShortestPath => distances::unchecked::to(counts, to, back, n, destination),
         Mode::Free => [0; ROUTERS],
     }
 }
@@ -44,6 +44,7 @@ pub fn build<'a>(
     counts: &'a [u8; ROUTERS],
     to: &'a [u8; SLOTS],
     cost: &'a [u16; SLOTS],
+    back: &'a [u16; SLOTS],
     ds: &'a [u32; ROUTERS],
     ids: &'a [u32; ROUTERS],
     n: usize,
@@ -51,15 +52,15 @@ pub fn build<'a>(
     mode: Mode,
     out: &mut [u8],
 )
-    requires { ⌜ ((t : Topology) × Lent t (now counts) (now to) (now cost) (now ids) n (destination .0) mode (now ds)) × (n ≤ length (now out)) ⌝ }
-    ensures { λ _. ⌜ ((t : Topology) → Lent t (now (counts .entry)) (now (to .entry)) (now (cost .entry)) (now (ids .entry)) n (destination .0) mode (now (ds .entry)) → now (out .exit) ≡ «said-order».build (networkOf t) (destination .0) (modeOf mode) ++ drop n (now (out .entry))) ⌝ }
+    requires { ⌜ ((t : Topology) × Lent t (now counts) (now to) (now cost) (now back) (now ids) n (destination .0) mode (now ds)) × (n ≤ length (now out)) ⌝ }
+    ensures { λ _. ⌜ ((t : Topology) → Lent t (now (counts .entry)) (now (to .entry)) (now (cost .entry)) (now (back .entry)) (now (ids .entry)) n (destination .0) mode (now (ds .entry)) → now (out .exit) ≡ «said-order».build (networkOf t) (destination .0) (modeOf mode) ++ drop n (now (out .entry))) ⌝ }
 {
     let d = destination.index();
     let lower = placing::lower_ids(ids, n);
     let places = placing::places_of(&lower, n);
     let mut keys = placing::standings(counts, to, cost, ds, &lower, n, mode);
     let count = counts[d] as usize;
-    placing::count_in(&mut keys, mode, to, cost, ds, d, count);
+    placing::count_in(&mut keys, mode, to, back, ds, d, count);
     out[0] = destination.0;
     let mut rank: usize = 1;
     while rank < n {
@@ -67,7 +68,7 @@ pub fn build<'a>(
         let place = places[(best % placing::NEAR) as usize];
         let u = place as usize;
         let count = counts[u] as usize;
-        placing::count_in(&mut keys, mode, to, cost, ds, u, count);
+        placing::count_in(&mut keys, mode, to, back, ds, u, count);
         out[rank] = place;
         rank += 1;
     }

@@ -250,7 +250,7 @@ abbrev pub WalksEnd : Type 0
 WalksEnd = OfAccepted (λ t table. (u : ℕ) → u < t .routers → (schedule : List ℕ) → SoundSchedule t schedule → WalkEnds t table u schedule)
 
 -- Demand 3, "in a walk too": from a packet, single hops by the call for them, each under the schedule's row for it, lead to this end. Where the packet
--- is at d it is delivered. The number is the cost of the links that the hops took, since no two arcs of a router lead to one place (`WellFormed` of
+-- is at d it is delivered. The number is what the hops cost, each in the direction of travel, since no two arcs of a router lead to one place (`WellFormed` of
 -- `network`, by `SoundNetworks` of `soundness`).
 pub data ByHops (t : Topology) (table schedule : List ℕ) : Packet ℕ → Walk ℕ → ℕ → Type 0 where
   arrives : (p : Packet ℕ) → p .station ≡ destinationByte table → ByHops t table schedule p (delivered-at p) 0
@@ -303,8 +303,8 @@ pub record CallsBounded (t : Topology) (table : List ℕ) : Type 0 where
 abbrev pub CallsExact : Type 0
 CallsExact = OfAccepted CallsBounded
 
--- Demand 2, last clause: over a table in shortest-path mode, with all links up before every hop, the walk from every start is delivered at d, and the
--- costs of the links that its hops took add up to the distance.
+-- Demand 2, last clause: over a table in shortest-path mode, with all links up before every hop, the walk from every start is delivered at d, and what
+-- its hops cost, each in the direction of travel, adds up to the distance.
 pub record ShortestWalk (t : Topology) (table : List ℕ) (u : ℕ) (schedule : List ℕ) : Type 0 where
   pub end : Packet ℕ
   pub delivers : walking t table u schedule ≡ done (delivered-at end)

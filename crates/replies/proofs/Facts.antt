@@ -1,7 +1,7 @@
 -- The prover computes every fact from the definitions.
 -- Assumes nothing.
 use Rattle.network.specs.Lists.{numbersFrom, below, keep, every, any, leastBy, greatestBy, ahead, foremost, insert, sort, member, distinct, sameNumbers, wins}
-use Rattle.network.specs.Network.{size, idOf, arcsOf, greatestCost, arcsAmong, linked, soundLink, samePair, pairsDiffer, soundLinks}
+use Rattle.network.specs.Network.{size, idOf, arcsOf, greatestCost, arcsAmong, linked, soundCost, soundLink, samePair, pairsDiffer, soundLinks}
 use Rattle.network.specs.Distance.{absent, distanceIn, through, atFirst, round, rounds, distances}
 use Rattle.network.specs.Order.{reached, shortestNextHops, leadsInto, ready, candidate, placedNeighbours, preferred, select, continued, placing, build}
 use Rattle.network.specs.Row.{rank, sortsBefore, rankedBefore, fullRow, row}
@@ -22,7 +22,7 @@ use Rattle.replies.specs.Facts.{holds, facts, FactsHold}
 
 pub facts-hold : FactsHold
 unfolding numbersFrom below keep every any leastBy greatestBy ahead foremost insert sort member distinct sameNumbers wins
-    size idOf arcsOf greatestCost arcsAmong linked soundLink samePair pairsDiffer soundLinks
+    size idOf arcsOf greatestCost arcsAmong linked soundCost soundLink samePair pairsDiffer soundLinks
     absent distanceIn through atFirst round rounds distances
     reached shortestNextHops leadsInto ready candidate placedNeighbours preferred select continued placing build
     rank sortsBefore rankedBefore fullRow row

@@ -11,16 +11,15 @@ use stations::Topology;
 ghost use Prim.Native.Nat.{_+_, _*_, _≤_, _<_};
 ghost use lib.Dec.{T};
 ghost use lib.ListN.{length};
-ghost use Rattle.stations.specs.Topology.{networkOf};
 ghost use Rattle.soundness.specs.Sound.{sound};
-ghost use Rattle.arcs.specs.Arcs.{Holds};
+ghost use Rattle.arcs.specs.Arcs.{Laid};
 ghost use Rattle.text.specs.Lines.{Put};
 ghost use Rattle.wording.specs.Listing.{linesFor, allLines};
 ghost use Rattle.wording.specs.Inner.{mostLines};
 
 // The lines of a destination, from an offset of the slice on; answers the offset after them.
 pub fn put_lines(t: Topology, a: Arcs, destination: Place, out: &mut [u8], at: usize) -> usize
-    requires { ⌜ T (sound t) × Holds (networkOf t) a × (destination .0 < t .routers) × (at + mostLines ≤ length (now out)) ⌝ }
+    requires { ⌜ T (sound t) × Laid t a × (destination .0 < t .routers) × (at + mostLines ≤ length (now out)) ⌝ }
     ensures { λ r. ⌜ Put (now (out .entry)) at (linesFor t (destination .0)) r (now (out .exit)) ⌝ }
 {
     let n = t.routers;
@@ -34,7 +33,7 @@ pub fn put_lines(t: Topology, a: Arcs, destination: Place, out: &mut [u8], at: u
 
 // The lines of all destinations, into the first bytes of the slice; answers how many bytes they are.
 pub fn put_all(t: Topology, a: Arcs, out: &mut [u8]) -> usize
-    requires { ⌜ T (sound t) × Holds (networkOf t) a × (mostLines * t .routers ≤ length (now out)) ⌝ }
+    requires { ⌜ T (sound t) × Laid t a × (mostLines * t .routers ≤ length (now out)) ⌝ }
     ensures { λ r. ⌜ Put (now (out .entry)) 0 (allLines t) r (now (out .exit)) ⌝ }
 {
     let mut end: usize = 0;

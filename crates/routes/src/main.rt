@@ -13,9 +13,8 @@ ghost use mathlib.Core.Path.{_≡_};
 ghost use Prim.Native.Nat.{_≤_, _<_};
 ghost use lib.Dec.{T};
 ghost use lib.ListN.{length};
-ghost use Rattle.stations.specs.Topology.{networkOf};
 ghost use Rattle.soundness.specs.Sound.{sound};
-ghost use Rattle.arcs.specs.Arcs.{Holds};
+ghost use Rattle.arcs.specs.Arcs.{Laid};
 ghost use Rattle.tracing.specs.Inner.{mostLines};
 
 // An array that comes out of a function is known by what the function ensures.
@@ -27,7 +26,7 @@ fn room() -> [u8; TABLE]
 
 // Writes the lines of a destination, start by start, by place; answers whether that went well.
 fn write_to(t: Topology, a: Arcs, destination: Place, out: &mut [u8]) -> bool
-    requires { ⌜ T (sound t) × Holds (networkOf t) a × (destination .0 < t .routers) × (mostLines ≤ length (now out)) ⌝ }
+    requires { ⌜ T (sound t) × Laid t a × (destination .0 < t .routers) × (mostLines ≤ length (now out)) ⌝ }
 {
     let length = HEADER + ROW * t.routers;
     let mut table = room();
@@ -51,7 +50,7 @@ fn write_to(t: Topology, a: Arcs, destination: Place, out: &mut [u8]) -> bool
 
 // Writes the lines of all destinations, by place, until that fails.
 fn write_each(t: Topology, a: Arcs, out: &mut [u8])
-    requires { ⌜ T (sound t) × Holds (networkOf t) a × (mostLines ≤ length (now out)) ⌝ }
+    requires { ⌜ T (sound t) × Laid t a × (mostLines ≤ length (now out)) ⌝ }
 {
     let mut d: usize = 0;
     while d < t.routers {

@@ -21,7 +21,7 @@ use Rattle.order.specs.Proposed.{RanksOf}
 use Rattle.topology.specs.Inner.{over}
 use Rattle.topology.specs.Written.{joinedOver}
 use Rattle.topology.proofs.Over.{over-start, over-none, over-over}
-use Rattle.topology.proofs.Joined.{joined-length, put-length, put-next}
+use Rattle.topology.proofs.Joined.{joined-length, joined-many, put-length, put-next}
 use Rattle.rows.specs.Bytes.{rowBytes, headerBytes, rowOf, rowsBytes, tableBytes, rowStart, tableLength}
 use Rattle.rows.specs.Keys.{Weights, rankOf, sortedKeys, placeOf, Fillable}
 use Rattle.rows.proofs.KeyLaw.{rank-of, key-law}
@@ -45,13 +45,15 @@ module _ (n : Network) (ds : List ℕ) (limit : ℕ) (order : List ℕ) (limit-m
 
   -- a buffer into which the rows of the first u places were put
   module _ (buffer : List ℕ) (u : ℕ) {out : List ℕ} (put : out ≡ over buffer 4 (firstRows n ds limit order u)) (fits : rowStart u ≤ length buffer) where
-    pub rows-length : length out ≡ length buffer
+    rows-end : rowStart u ≡ 4 + length (firstRows n ds limit order u)
     unfolding rowStart
-    rows-length = put-length (rowOf n ds limit order) row-wide buffer 4 (below u) (length-below u) put fits
+    rows-end = omega (arith, joined-many (rowOf n ds limit order) row-wide (below u) (length-below u))
+
+    pub rows-length : length out ≡ length buffer
+    rows-length = put-length (rowOf n ds limit order) buffer 4 (below u) rows-end put fits
 
     pub rows-next : over out (rowStart u) (rowOf n ds limit order u) ≡ over buffer 4 (firstRows n ds limit order (u + 1))
-    unfolding rowStart
-    rows-next = put-next (rowOf n ds limit order) row-wide buffer 4 (below u) (length-below u) put u (below-more u) fits
+    rows-next = put-next (rowOf n ds limit order) buffer 4 (below u) rows-end put fits u (below-more u)
 
 -- The header, and behind it the rows of all places, are the table.
 pub table-put : (n : Network) (d limit : ℕ) (order : List ℕ) → limit ≤ 16 → {count : ℕ} → size n ≡ count → (out : List ℕ) →

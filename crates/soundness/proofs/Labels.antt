@@ -92,10 +92,15 @@ module _ (ids : List ℕ) (ls : List Link) where
 
       -- it is an arc at both ends
       arc : (u v : ℕ) → u < length ids → ((l .first ≡ u) × (v ≡ l .second)) ⊎ ((l .second ≡ u) × (v ≡ l .first)) → PathTo (linked ids ls) v u
-      arc u v h e =
-          let a : Arc = record { to = v; cost = l .cost; link = length before } in
-          let is : LinkOf ls u a = record { before = before; link = l; after = after; stands = stands; number = refl; cost = refl; ends = e } in
-          along a (linked-exact ids ls sound .arcs u h a .1 is) (arrived refl)
+      arc u v h =
+          ⊎-elim (λ (e, f). by (l .cost) (inl (e, f, refl))) (λ (e, f). by (l .back) (inr (e, f, refl)))
+        where
+          by : (cost : ℕ) → ((l .first ≡ u) × (v ≡ l .second) × (cost ≡ l .cost)) ⊎ ((l .second ≡ u) × (v ≡ l .first) × (cost ≡ l .back)) →
+              PathTo (linked ids ls) v u
+          by cost e =
+              let a : Arc = record { to = v; cost = cost; link = length before } in
+              let is : LinkOf ls u a = record { before = before; link = l; after = after; stands = stands; number = refl; ends = e } in
+              along a (linked-exact ids ls sound .arcs u h a .1 is) (arrived refl)
 
       level-more : (labels : List ℕ) → ((k : Link) → List·Memᴰ k before → Level labels k) → Level labels l →
           (k : Link) → List·Memᴰ k (before ++ (l ∷ [])) → Level labels k

@@ -107,13 +107,16 @@ pub links-listed : (t : Topology) → t .links ≤ length (t .link) → length (
 unfolding contents
 links-listed t h = length-take-le (t .links) (t .link) h
 
-no-link : (l : Link) → T (isNoLink l) ↔ ((l .first .0 ≡ 0) × (l .second .0 ≡ 0) × (l .cost ≡ 0))
+no-link : (l : Link) → T (isNoLink l) ↔ ((l .first .0 ≡ 0) × (l .second .0 ≡ 0) × (l .cost ≡ 0) × (l .back ≡ 0))
 unfolding isNoLink
 no-link l = (
   λ t.
-      let (a, b, c) = three (eqb (l .first .0) 0) (eqb (l .second .0) 0) (eqb (l .cost) 0) t in
-      (eqb→eq _ _ a, eqb→eq _ _ b, eqb→eq _ _ c),
-  λ (a, b, c). and-three (eqb (l .first .0) 0) (eqb (l .second .0) 0) (eqb (l .cost) 0) (eq-test a) (eq-test b) (eq-test c),
+      let (places, c, d) = three (eqb (l .first .0) 0 && eqb (l .second .0) 0) (eqb (l .cost) 0) (eqb (l .back) 0) t in
+      let (a, b) = both (eqb (l .first .0) 0) _ places in
+      (eqb→eq _ _ a, eqb→eq _ _ b, eqb→eq _ _ c, eqb→eq _ _ d),
+  λ (a, b, c, d).
+      and-three (eqb (l .first .0) 0 && eqb (l .second .0) 0) (eqb (l .cost) 0) (eqb (l .back) 0)
+      (and (eqb (l .first .0) 0) (eqb (l .second .0) 0) (eq-test a) (eq-test b)) (eq-test c) (eq-test d),
 )
 
 sound-facts : (t : Topology) → T (sound t) → Sound t

@@ -21,7 +21,7 @@ within most n = leb 1 n && leb n most
 unfoldable pub inLimits : Topology → Bool
 inLimits t = within mostRouters (t .routers) && leb (t .links) mostLinks && within mostNextHops (t .limit)
 
--- the IDs differ; links name listed places, none joins a router to itself or costs 0, no pair is linked twice
+-- the IDs differ; links name listed places, none joins a router to itself or costs 0 either way, no pair is linked twice
 unfoldable pub wellLinked : Topology → Bool
 wellLinked t = soundLinks (contents t .ids) (map seen (contents t .links))
 
@@ -40,7 +40,7 @@ connected t = none? (apart (contents t))
 
 -- a link of all zeros
 unfoldable pub isNoLink : Link → Bool
-isNoLink l = eqb (l .first .0) 0 && eqb (l .second .0) 0 && eqb (l .cost) 0
+isNoLink l = eqb (l .first .0) 0 && eqb (l .second .0) 0 && eqb (l .cost) 0 && eqb (l .back) 0
 
 -- slots that are not used hold zeros
 unfoldable pub unusedZero : Topology → Bool

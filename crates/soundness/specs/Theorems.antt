@@ -18,7 +18,7 @@ use Rattle.soundness.specs.Sound.{sound}
 
 -- a link with its places as numbers
 abbrev pub plain : Link → network.Link
-plain l = record { first = l .first .0; second = l .second .0; cost = l .cost }
+plain l = record { first = l .first .0; second = l .second .0; cost = l .cost; back = l .back }
 
 -- 01, Stations, links and limits: a topology is seen as the network of its IDs by place and its links by number.
 abbrev pub NetworkSeen : Type 0
@@ -35,7 +35,8 @@ pub record Sound (t : Topology) : Type 0 where
   pub neighbours : (u : ℕ) → u < t .routers → length (arcsOf (networkOf t) u) ≤ 16
   pub paths : (u : ℕ) → u < t .routers → PathTo (networkOf t) 0 u
   pub ids-unused : (i : ℕ) → List·Memᴰ i (drop (t .routers) (t .id)) → i ≡ 0
-  pub links-unused : (l : Link) → List·Memᴰ l (drop (t .links) (t .link)) → (l .first .0 ≡ 0) × (l .second .0 ≡ 0) × (l .cost ≡ 0)
+  pub links-unused : (l : Link) → List·Memᴰ l (drop (t .links) (t .link)) →
+      (l .first .0 ≡ 0) × (l .second .0 ≡ 0) × (l .cost ≡ 0) × (l .back ≡ 0)
   pub id-slots : length (t .id) ≡ 64
   pub link-slots : length (t .link) ≡ 256
   pub ids-fit : (i : ℕ) → List·Memᴰ i (t .id) → i < 4294967296

@@ -90,7 +90,7 @@ pub(crate) fn links_fit(t: Topology) -> bool
         if n <= first || n <= second {
             return false;
         }
-        if first == second || l.cost == 0 {
+        if first == second || l.cost == 0 || l.back == 0 {
             return false;
         }
         if linked[first * ROUTERS + second] {
@@ -138,7 +138,7 @@ pub(crate) fn links_end(t: Topology) -> bool
     let mut i = t.links;
     while i < LINKS {
         let l = t.link[i];
-        if l.first.0 != 0 || l.second.0 != 0 || l.cost != 0 {
+        if l.first.0 != 0 || l.second.0 != 0 || l.cost != 0 || l.back != 0 {
             none = false;
         }
         i += 1;

@@ -33,3 +33,6 @@ id-fits t vs p i m = each-told _ _ (t .id) _ (p .1 .1 .1 .1 .1 .0 .1 .1) i m .1 
 
 pub cost-fits : (t : Topology) (vs : List Val) → Is the-row t vs → (l : Link) → List·Memᴰ l (t .link) → l .cost < 2 ^ 16
 cost-fits t vs p l m = each-told _ _ (t .link) _ (p .1 .1 .1 .1 .1 .1 .0 .1 .1) l m .1 .1 .1 .1 .1 .0 .1
+
+pub back-fits : (t : Topology) (vs : List Val) → Is the-row t vs → (l : Link) → List·Memᴰ l (t .link) → l .back < 2 ^ 16
+back-fits t vs p l m = each-told _ _ (t .link) _ (p .1 .1 .1 .1 .1 .1 .0 .1 .1) l m .1 .1 .1 .1 .1 .1 .0 .1

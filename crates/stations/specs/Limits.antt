@@ -10,7 +10,11 @@ mostRouters = 64
 abbrev pub mostLinks : ℕ
 mostLinks = 256
 
--- at most 16 neighbours to a router
+-- 02, #105: at most 512 halves in a stream, lone ones too
+abbrev pub mostHalves : ℕ
+mostHalves = 512
+
+-- at most 16 neighbours to a router, and 16 halves that leave it, lone ones too (02, #105)
 abbrev pub mostNeighbours : ℕ
 mostNeighbours = 16
 

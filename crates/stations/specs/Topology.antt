@@ -16,7 +16,7 @@ pub record Contents : Type 0 where
 
 -- a link of all zeros, as unused slots hold it
 unfoldable pub noLink : Link
-noLink = record { first = record { 0 = 0 }; second = record { 0 = 0 }; cost = 0 }
+noLink = record { first = record { 0 = 0 }; second = record { 0 = 0 }; cost = 0; back = 0 }
 
 -- the list, and z in the slots after it, `slots` in all
 unfoldable pub padded : {A : Type 0} → A → ℕ → List A → List A
@@ -42,7 +42,7 @@ zeros = held record { ids = []; links = []; limit = 0 }
 
 -- a link as `network` has it, places as numbers
 unfoldable pub seen : Link → network.Link
-seen l = record { first = l .first .0; second = l .second .0; cost = l .cost }
+seen l = record { first = l .first .0; second = l .second .0; cost = l .cost; back = l .back }
 
 -- 01, Stations, links and limits: the network of these routers and links, arcs in the order of link numbers
 unfoldable pub networkIn : Contents → network.Network

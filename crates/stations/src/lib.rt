@@ -6,6 +6,10 @@ pub const ROUTERS: usize = 64;
 
 pub const LINKS: usize = 256;
 
+// Halves of links in a stream, lone ones too (02, #105).
+pub const HALVES: usize = 512;
+
+// Neighbours of a router, and halves that leave it, lone ones too (02, #105).
 pub const NEIGHBOURS: usize = 16;
 
 pub const NEXT_HOPS: u8 = 16;
@@ -19,10 +23,19 @@ pub struct Place(pub u8);
 // 01, Order: a router's rank is its turn in an order, from 0. The code turns a rank into a place, or a place into a rank, through an order.
 pub struct Rank(pub u8);
 
-// A link joins the routers at two places, at one cost both ways.
+// A link joins the routers at two places. A cost belongs to the end that sends (02, #105): `cost` is that from the first place to the second, `back` that
+// from the second to the first.
 pub struct Link {
     pub first: Place,
     pub second: Place,
+    pub cost: u16,
+    pub back: u16,
+}
+
+// One half of a link (02, #105): the place that sends, the place that it sends to, and what that costs. Two opposite halves make a link.
+pub struct Half {
+    pub from: Place,
+    pub to: Place,
     pub cost: u16,
 }
 

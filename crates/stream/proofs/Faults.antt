@@ -1,24 +1,23 @@
--- What the tests of a record say of its fault: a fault refuses, and the tests of a link in turn, from one of them on, as the tables have them.
+-- What the tests of a record say of its fault: a fault refuses, and the tests of halves in turn, from one of them on, as the tables have them.
 -- Assumes nothing.
 use Prim.Native.Nat.{ℕ, zero, suc, _+_, _*_, _≤_, _<_}
-use mathlib.Core.Bool.{Bool, false, cond, _||_}
-use mathlib.Core.List.{List, [], _∷_, map, List·Memᴰ, List·Memᴰ·head}
+use mathlib.Core.Bool.{cond, not}
+use mathlib.Core.List.{List, [], _∷_, List·Memᴰ, List·Memᴰ·head}
 use mathlib.Core.Path.{_≡_, refl, sym}
 use native.Mathlib.Omega.{arith}
-use lib.Dec.{eqb, leb}
+use lib.Dec.{eqb, ltb, leb}
 use lib.ListN.{length, getD}
 use Rattle.network.specs.Lists.{any}
-use Rattle.network.specs.Network.{samePair}
 use Rattle.network.proofs.Below.{below-lt}
 use Rattle.network.proofs.Lists.{mem-keep}
-use Rattle.stations.specs.declared.Link.{Link}
-use Rattle.stations.specs.Limits.{mostRouters, mostLinks, mostNeighbours}
-use Rattle.stations.specs.Topology.{Contents, seen}
+use Rattle.stations.specs.declared.Half.{Half}
+use Rattle.stations.specs.Limits.{mostRouters, mostHalves, mostNeighbours}
+use Rattle.stations.specs.Topology.{Contents}
 use Rattle.stations.specs.Inner.{firstOr}
-use Rattle.stations.proofs.Arcs.{arcs-listed}
 use Rattle.soundness.specs.Apart.{apart}
 use Rattle.stream.specs.declared.Reading.{Reading}
-use Rattle.stream.specs.Reading.{refusal, accepted, unless, crowded, joined}
+use Rattle.stream.specs.Halves.{Listing, halves}
+use Rattle.stream.specs.Reading.{refusal, accepted, repeated, crowded, unless, joined}
 use Rattle.stream.specs.Inner.{Indexed}
 
 pub unless-fault : (number at : ℕ) (r : Reading) → (number ≡ 0 → ⊥) → unless number at r ≡ refusal number at
@@ -27,31 +26,31 @@ unless-fault zero at r h = absurd (h refl)
 unless-fault (suc number) at r h = refl
 
 -- what the tables have of places that are listed
-module _ {c : Contents} {n m : ℕ} {linked : List Bool} {count : List ℕ} (i : Indexed c n m linked count) (few : n ≤ mostRouters) where
-  pub linked-by : (l : Link) {u v : ℕ} → u ≡ l .first .0 → v ≡ l .second .0 → u < n → v < n →
-      any (samePair (seen l)) (map seen (c .links)) ≡ getD linked (u * mostRouters + v) false
-  linked-by l f s h k = rw (f, s) (sym (i .pairs l (omega arith) (omega arith)))
+module _ {p : Listing} {n m : ℕ} {costs leaving : List ℕ} (i : Indexed p n m costs leaving) (few : n ≤ mostRouters) where
+  pub repeated-by : (h : Half) {u v : ℕ} → u ≡ h .from .0 → v ≡ h .to .0 → u < n → v < n →
+      repeated p h ≡ not (eqb (getD costs (u * mostRouters + v) 0) 0)
+  repeated-by h f s a b = rw (f, s) (sym (i .listed h (omega arith) (omega arith)))
 
-  pub crowded-by : (place : ℕ) {u : ℕ} → u ≡ place → u < n → crowded c place ≡ leb mostNeighbours (getD count u 0)
+  pub crowded-by : (place : ℕ) {u : ℕ} → u ≡ place → u < n → crowded p place ≡ leb mostNeighbours (getD leaving u 0)
   unfolding crowded
-  crowded-by place e h = rw (e, arcs-listed c place (omega (arith, i .routers)), i .neighbours place (omega arith))
+  crowded-by place e h = rw (e, i .out place (omega arith))
 
--- the tests of a link from one of them on, the last first
-module _ (c : Contents) (l : Link) where
+-- the tests of halves from one of them on, the last first
+module _ (p : Listing) (h : Half) (new : List Half) where
   abbrev pub from-10 : ℕ
-  from-10 = cond (crowded c (l .first .0) || crowded c (l .second .0)) 10 0
+  from-10 = cond (any (λ k. crowded p (k .from .0)) new) 10 0
 
   abbrev pub from-9 : ℕ
-  from-9 = cond (leb mostLinks (length (c .links))) 9 from-10
+  from-9 = cond (ltb mostHalves (length (halves p) + length new)) 9 from-10
 
   abbrev pub from-8 : ℕ
-  from-8 = cond (any (samePair (seen l)) (map seen (c .links))) 8 from-9
+  from-8 = cond (any (repeated p) new) 8 from-9
 
   abbrev pub from-7 : ℕ
-  from-7 = cond (eqb (l .cost) 0) 7 from-8
+  from-7 = cond (eqb (h .cost) 0) 7 from-8
 
   abbrev pub from-6 : ℕ
-  from-6 = cond (eqb (l .first .0) (l .second .0)) 6 from-7
+  from-6 = cond (eqb (h .from .0) (h .to .0)) 6 from-7
 
 -- the places that are apart are places of routers, so that the first of them, or else the number of routers, tells whether there are any
 module _ (c : Contents) (n u : ℕ) (count : n ≡ length (c .ids)) (lowest : u ≡ firstOr n (apart c)) where

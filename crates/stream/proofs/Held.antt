@@ -10,8 +10,7 @@ use Rattle.stations.specs.declared.Link.{Link}
 use Rattle.stations.specs.declared.Topology.{Topology}
 use Rattle.stations.specs.Limits.{mostRouters, mostLinks}
 use Rattle.stations.specs.Topology.{Contents, noLink, padded, contents, held}
-use Rattle.stream.specs.declared.Record.the-variants as record-of
-use Rattle.stream.specs.Reading.{added}
+use Rattle.stream.specs.Reading.{withRouter, withLink, withLimit}
 use Rattle.stream.specs.Inner.{Listed}
 
 -- what a topology holds is what was put in
@@ -46,22 +45,22 @@ with-link l t = record { routers = t .routers; links = t .links + 1; limit = t .
 abbrev pub with-limit : ℕ → Topology → Topology
 with-limit k t = record { routers = t .routers; links = t .links; limit = k; id = t .id; link = t .link }
 
-router-held : (c : Contents) (id : ℕ) → length (c .ids) < mostRouters → with-router id (held c) ≡ held (added c (record-of.Router id))
-unfolding held added
+router-held : (c : Contents) (id : ℕ) → length (c .ids) < mostRouters → with-router id (held c) ≡ held (withRouter c id)
+unfolding held withRouter
 router-held c id h =
     let more : length (c .ids) + 1 ≡ length (c .ids ++ (id ∷ [])) = simp length-append in
     let stored = store-padded 0 mostRouters (c .ids) id h in
     λ i.
     record { routers = more i; links = length (c .links); limit = c .limit; id = stored i; link = padded noLink mostLinks (c .links) }
 
-link-held : (c : Contents) (l : Link) → length (c .links) < mostLinks → with-link l (held c) ≡ held (added c (record-of.Link l))
-unfolding held added
+link-held : (c : Contents) (l : Link) → length (c .links) < mostLinks → with-link l (held c) ≡ held (withLink c l)
+unfolding held withLink
 link-held c l h =
     let more : length (c .links) + 1 ≡ length (c .links ++ (l ∷ [])) = simp length-append in
     let stored = store-padded noLink mostLinks (c .links) l h in
     λ i. record { routers = length (c .ids); links = more i; limit = c .limit; id = padded 0 mostRouters (c .ids); link = stored i }
 
--- what is listed lies in the slots as `held` has it, so that the code's store is `added`
+-- what is listed lies in the slots as `held` has it, so that the code's store lists one more
 module _ (t : Topology) (listed : Listed t) where
   pub routers-held : t .routers ≡ length (contents t .ids)
   unfolding held
@@ -71,12 +70,12 @@ module _ (t : Topology) (listed : Listed t) where
   unfolding held
   links-held = ap (λ (s : Topology). s .links) (listed .whole)
 
-  pub router-added : (id : ℕ) → t .routers < mostRouters → with-router id t ≡ held (added (contents t) (record-of.Router id))
+  pub router-added : (id : ℕ) → t .routers < mostRouters → with-router id t ≡ held (withRouter (contents t) id)
   router-added id h = ap (with-router id) (listed .whole) ∙ router-held (contents t) id (omega (arith, routers-held))
 
-  pub link-added : (l : Link) → t .links < mostLinks → with-link l t ≡ held (added (contents t) (record-of.Link l))
+  pub link-added : (l : Link) → t .links < mostLinks → with-link l t ≡ held (withLink (contents t) l)
   link-added l h = ap (with-link l) (listed .whole) ∙ link-held (contents t) l (omega (arith, links-held))
 
-  pub limit-added : (k : ℕ) → with-limit k t ≡ held (added (contents t) (record-of.Limit k))
-  unfolding held added
+  pub limit-added : (k : ℕ) → with-limit k t ≡ held (withLimit (contents t) k)
+  unfolding held withLimit
   limit-added k = ap (with-limit k) (listed .whole)

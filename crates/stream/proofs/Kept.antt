@@ -1,209 +1,207 @@
--- What is listed so far is sound but for having a router and paths: nothing listed is, and a record without a fault keeps it so. A link is tested
+-- What is listed so far is sound but for having a router and paths: nothing listed is, and a record without a fault keeps it so. A half is tested
 -- against the routers listed at that time; those listed after it only make more places.
 -- Assumes nothing.
 use Prim.Native.Nat.{ℕ, _+_, _≤_, _<_, _^_}
-use mathlib.Core.Bool.{Bool, true, false, cond, not, _&&_, _||_}
-use mathlib.Core.List.{List, [], _∷_, _++_, map, map-append, List·Memᴰ, List·Memᴰ·tail, List·Memᴰ·not-nil, List·Memᴰ·append-cases}
-use mathlib.Core.List.{List·Memᴰ·eq-of-singleton, Memᴰ·append-right}
+use mathlib.Core.Bool.{Bool, true, false, cond, not}
+use mathlib.Core.List.{List, [], _∷_, _++_, map, List·Memᴰ, List·Memᴰ·not-nil, List·Memᴰ·append-cases}
+use mathlib.Core.List.{List·Memᴰ·eq-of-singleton}
 use mathlib.Core.Logic.{⊎-elim}
 use mathlib.Core.Path.{_≡_, refl, sym, ap}
-use native.Mathlib.Decide.{decLt}
 use native.Mathlib.Omega.{arith}
-use borrow.Author.Tests.{eqb-true, ne-eqb}
-use lib.Dec.{T, eqb, leb, ltb, lt→ltb, le→leb}
-use lib.ListN.{length, getD, take, drop, length-append, length-drop, take-append-drop}
-use lib.Seq.{length-take-le}
-use Rattle.network.specs.Lists.{every, any, member, distinct}
-use Rattle.network.specs.Network.{arcsAmong, greatestCost, soundLink, samePair, pairsDiffer, soundLinks}
-use Rattle.network.specs.Theorems.Network.{SoundLinks}
-use Rattle.network.proofs.Tests.{and, three, and-three}
-use Rattle.network.proofs.Lists.{mem-take, distinct-fact, fact-distinct}
+use borrow.Author.Tests.{leb-false}
+use lib.Dec.{T}
+use lib.ListN.{length, length-append}
+use Rattle.network.specs.Lists.{keep, member, distinct}
+use Rattle.network.specs.Network.{arcsAmong, soundLinks}
+use Rattle.network.specs.Theorems.Network.{SoundLink}
+use Rattle.network.proofs.Tests.{and}
+use Rattle.network.proofs.Lists.{distinct-fact}
 use Rattle.network.proofs.SoundLinks.{sound-links-exact}
-use Rattle.stations.specs.declared.Link.{Link}
-use Rattle.stations.specs.Topology.{Contents, held, seen}
-use Rattle.stations.proofs.Prefix.{every-more, distinct-more, pairs-more}
-use Rattle.stations.proofs.Arcs.{ending, arcs-more}
+use Rattle.stations.specs.declared.Half.{Half}
+use Rattle.stations.specs.Topology.{held, seen}
+use Rattle.stations.proofs.Prefix.{distinct-more}
 use Rattle.soundness.specs.Sound.{within, wellLinked}
 use Rattle.soundness.proofs.Sound.{within-fact}
 use Rattle.stream.specs.declared.Record.{Record}
 use Rattle.stream.specs.declared.Record.the-variants as record-of
-use Rattle.stream.specs.Stream.{bigEndian, bodyLength, linkIn, decoded, recordIn}
-use Rattle.stream.specs.Reading.{fault, added, nothingListed}
+use Rattle.stream.specs.Halves.{Listing, linkHalves, halves, sameHalf, leaves, opposite}
+use Rattle.stream.specs.Reading.{repeated, crowded, fault, withRouter, withLink, withLimit, arrived, added, nothingListed}
 use Rattle.stream.specs.Inner.{Listed}
-use Rattle.stream.specs.Theorems.{Bytes}
-use Rattle.stream.proofs.Digits.{bytes-below}
-use Rattle.stream.proofs.Stream.{cut, whole}
+use Rattle.stream.proofs.Stream.{whole}
+use Rattle.stream.proofs.Fitting.{Fitting}
 use Rattle.stream.proofs.Held.{contents-held}
-use Rattle.stream.proofs.NoFault.{NewRouter, NewLink, router-passes, link-passes}
+use Rattle.stream.proofs.NoFault.{NewRouter, NewHalves, router-passes, halves-pass, one-fails, both-fail}
+use Rattle.stream.proofs.Halves.{total, one, length-total, length-keep, none-total, halves-total, adds-last, adds-link}
+use Rattle.stream.proofs.Opposite.{adds-half}
+use Rattle.stream.proofs.GoodHalves.{asLink, unsound, GoodHalves, good-none, good-more, sound-among-more, same-none, leaves-other}
+use Rattle.stream.proofs.GoodHalves.{links-many, pairs-apart, arcs-few, links-sound}
 
-pub record Good (c : Contents) : Type 0 where
-  pub routers-fit : length (c .ids) ≤ 64
-  pub links-fit : length (c .links) ≤ 256
-  pub limit-least : 1 ≤ c .limit
-  pub limit-most : c .limit ≤ 16
-  pub linked : T (soundLinks (c .ids) (map seen (c .links)))
-  pub neighbours : (u : ℕ) → length (arcsAmong u 0 (map seen (c .links))) ≤ 16
-  pub ids-fit : (i : ℕ) → List·Memᴰ i (c .ids) → i < 2 ^ 32
+pub record Good (p : Listing) : Type 0 where
+  pub routers-fit : length (p .contents .ids) ≤ 64
+  pub limit-least : 1 ≤ p .contents .limit
+  pub limit-most : p .contents .limit ≤ 16
+  pub ids-differ : T (distinct (p .contents .ids))
+  pub ids-fit : (i : ℕ) → List·Memᴰ i (p .contents .ids) → i < 2 ^ 32
+  pub good-halves : GoodHalves (length (p .contents .ids)) (halves p)
+
+-- what that says of the links
+module _ (p : Listing) (g : Good p) where
+  part : (f : Half → ℕ) → total f (linkHalves (p .contents .links)) ≤ total f (halves p)
+  part f = omega (arith, halves-total f p)
+
+  pub links-fit : length (p .contents .links) ≤ 256
+  links-fit = omega (arith, links-many (p .contents .links), part (λ k. 1), g .good-halves .many)
+
+  pub linked : T (soundLinks (p .contents .ids) (map seen (p .contents .links)))
+  linked =
+      sound-links-exact (p .contents .ids) (map seen (p .contents .links)) .1
+      record {
+        ids-differ = distinct-fact (p .contents .ids) (g .ids-differ);
+        each = links-sound (length (p .contents .ids)) (p .contents .links) (omega (arith, part (unsound (length (p .contents .ids))), g .good-halves .each));
+        pairs-differ = pairs-apart (p .contents .links) (λ h. omega (arith, part (one (sameHalf h)), g .good-halves .once h));
+      }
+
+  pub neighbours : (u : ℕ) → length (arcsAmong u 0 (map seen (p .contents .links))) ≤ 16
+  neighbours u = omega (arith, arcs-few u 0 (p .contents .links), part (one (leaves u)), g .good-halves .leaving u)
 
 pub good-nothing : Good nothingListed
-unfolding nothingListed soundLinks distinct every pairsDiffer arcsAmong
+unfolding nothingListed distinct halves linkHalves
 good-nothing =
     record {
       routers-fit = omega arith;
-      links-fit = omega arith;
       limit-least = omega arith;
       limit-most = omega arith;
-      linked = tt;
-      neighbours = λ u. omega arith;
+      ids-differ = tt;
       ids-fit = λ i m. absurd (List·Memᴰ·not-nil m);
+      good-halves = good-none 0;
     }
 
--- what every record of bytes says fits where it is stored
-abbrev pub Fitting : Record → Type 0
-Fitting (record-of.Router id) = id < 2 ^ 32
-Fitting (record-of.Link l) = l .cost < 2 ^ 16
-Fitting (record-of.Limit k) = Unit {0}
-Fitting record-of.End = Unit {0}
-Fitting (record-of.Refused number) = Unit {0}
+-- halves that a record lists, as tests of totals
+module _ (p : Listing) where
+  pub fresh-none : (h : Half) → repeated p h ≡ false → total (one (sameHalf h)) (halves p) ≡ 0
+  unfolding repeated
+  fresh-none h e = none-total (sameHalf h) (halves p) e
 
-module _ (c : Contents) (g : Good c) where
-  facts : SoundLinks (c .ids) (map seen (c .links))
-  facts = sound-links-exact (c .ids) (map seen (c .links)) .0 (g .linked)
+  pub few-leave : (u : ℕ) → crowded p u ≡ false → total (one (leaves u)) (halves p) < 16
+  unfolding crowded
+  few-leave u e = omega (arith, leb-false 16 (length (keep (leaves u) (halves p))) e, length-keep (leaves u) (halves p))
 
-  router-kept : (id : ℕ) → NewRouter c id → id < 2 ^ 32 → Good (added c (record-of.Router id))
-  unfolding added
+  pub half-fits : (h : Half) (new : List Half) → NewHalves p h new → h .cost < 2 ^ 16 → SoundLink (length (p .contents .ids)) (asLink h)
+  half-fits h new w fits =
+      record {
+        first-listed = w .from-listed;
+        second-listed = w .to-listed;
+        ends-differ = w .ends-differ;
+        cost-least = omega (arith, w .cost-least);
+        cost-most = omega arith;
+        back-least = omega (arith, w .cost-least);
+        back-most = omega arith;
+      }
+
+module _ (p : Listing) (g : Good p) where
+  n : ℕ
+  n = length (p .contents .ids)
+
+  router-kept : (id : ℕ) → NewRouter (p .contents) id → id < 2 ^ 32 → Good (added p (record-of.Router id))
+  unfolding added withRouter halves
   router-kept id new fits =
-      let more : length (c .ids ++ (id ∷ [])) ≡ length (c .ids) + 1 = length-append (c .ids) (id ∷ []) in
+      let ids = p .contents .ids in
+      let more : length (ids ++ (id ∷ [])) ≡ length ids + 1 = length-append ids (id ∷ []) in
+      let h = g .good-halves in
       record {
-        routers-fit = omega arith;
-        links-fit = g .links-fit;
+        routers-fit = omega (arith, new .room);
         limit-least = g .limit-least;
         limit-most = g .limit-most;
-        linked =
-            sound-links-exact (c .ids ++ (id ∷ [])) (map seen (c .links)) .1
+        ids-differ = rw distinct-more (and (distinct ids) (not (member id ids)) (g .ids-differ) (rw (new .unlisted) tt));
+        ids-fit = λ i m. ⊎-elim (g .ids-fit i) (λ m′. omega (arith, List·Memᴰ·eq-of-singleton m′)) (List·Memᴰ·append-cases ids m);
+        good-halves =
             record {
-              ids-differ =
-                  distinct-fact (c .ids ++ (id ∷ []))
-                  (rw distinct-more (and (distinct (c .ids)) (not (member id (c .ids))) (fact-distinct (facts .ids-differ)) (rw (new .unlisted) tt)));
-              each = λ l m.
-                  let s = facts .each l m in
-                  record {
-                    first-listed = omega arith;
-                    second-listed = omega arith;
-                    ends-differ = s .ends-differ;
-                    cost-least = s .cost-least;
-                    cost-most = s .cost-most;
-                  };
-              pairs-differ = facts .pairs-differ;
+              each = sound-among-more (length ids) (length (ids ++ (id ∷ []))) (halves p) (omega arith) (h .each);
+              once = h .once;
+              many = h .many;
+              leaving = h .leaving;
             };
-        neighbours = g .neighbours;
-        ids-fit = λ i m. ⊎-elim (g .ids-fit i) (λ n. omega (arith, List·Memᴰ·eq-of-singleton n)) (List·Memᴰ·append-cases (c .ids) m);
       }
 
-  -- a link ends at two places
-  arcs-kept : (l : Link) → NewLink c l → (u : ℕ) → length (arcsAmong u 0 (map seen (c .links))) + ending u (seen l) ≤ 16
-  unfolding ending seen
-  arcs-kept l new u = cases (eqb (l .first .0) u) refl (eqb (l .second .0) u) refl
-    where
-      cases : (p : Bool) → eqb (l .first .0) u ≡ p → (q : Bool) → eqb (l .second .0) u ≡ q →
-          length (arcsAmong u 0 (map seen (c .links))) + cond p 1 (cond q 1 0) ≤ 16
-      cases true e q f = rw (← eqb-true (l .first .0) u e) (omega (arith, new .first-room))
-      cases false e true f = rw (← eqb-true (l .second .0) u f) (omega (arith, new .second-room))
-      cases false e false f = omega (arith, g .neighbours u)
+  half-kept : (h : Half) → NewHalves p h (h ∷ []) → h .cost < 2 ^ 16 → GoodHalves n (halves (added p (record-of.Half h)))
+  unfolding n
+  half-kept h new fits =
+      let fresh = one-fails (repeated p) h (new .fresh) in
+      let few = one-fails (λ k. crowded p (k .from .0)) h (new .uncrowded) in
+      good-more n (halves p) h _ (g .good-halves) (adds-half p (g .good-halves .once) h (unfold repeated in fresh)) (half-fits p h _ new fits)
+      (fresh-none p h fresh) (omega (arith, new .room, length-total (halves p))) (few-leave p (h .from .0) few)
 
-  sound-link : (l : Link) → NewLink c l → l .cost < 2 ^ 16 → T (soundLink (length (c .ids)) (seen l))
-  unfolding soundLink greatestCost seen
-  sound-link l new fits =
-      let n = length (c .ids) in
-      and-three (ltb (l .first .0) n && ltb (l .second .0) n) (not (eqb (l .first .0) (l .second .0))) (leb 1 (l .cost) && leb (l .cost) 65535)
-      (and (ltb (l .first .0) n) (ltb (l .second .0) n) (lt→ltb _ _ (new .first-listed)) (lt→ltb _ _ (new .second-listed)))
-      (rw (ne-eqb (l .first .0) (l .second .0) (new .ends-differ)) tt)
-      (and (leb 1 (l .cost)) (leb (l .cost) 65535) (le→leb 1 (l .cost) (omega (arith, new .cost-least))) (le→leb (l .cost) 65535 (omega arith)))
+  link-kept : (h : Half) → NewHalves p h (h ∷ opposite h ∷ []) → h .cost < 2 ^ 16 → GoodHalves n (halves (added p (record-of.Link h)))
+  unfolding n opposite
+  link-kept h new fits =
+      let (fresh, fresh′) = both-fail (repeated p) h (opposite h) (new .fresh) in
+      let (few, few′) = both-fail (λ k. crowded p (k .from .0)) h (opposite h) (new .uncrowded) in
+      let count = length-total (halves p) in
+      let s = half-fits p h _ new fits in
+      let more = adds-last (halves p) h in
+      let once = good-more n (halves p) h _ (g .good-halves) more s (fresh-none p h fresh) (omega (arith, new .room)) (few-leave p (h .from .0) few) in
+      good-more n (halves p ++ (h ∷ [])) (opposite h) _ once (adds-link p h)
+      (record {
+        first-listed = s .second-listed;
+        second-listed = s .first-listed;
+        ends-differ = λ e. s .ends-differ (sym e);
+        cost-least = s .cost-least;
+        cost-most = s .cost-most;
+        back-least = s .back-least;
+        back-most = s .back-most;
+      })
+      (omega (arith, more (one (sameHalf (opposite h))), fresh-none p (opposite h) fresh′, same-none (opposite h) h (λ e. s .ends-differ (sym e))))
+      (omega (arith, more (λ k. 1), new .room))
+      (omega (arith, more (one (leaves (h .to .0))), few-leave p (h .to .0) few′, leaves-other (h .to .0) h (s .ends-differ)))
 
-  link-kept : (l : Link) → NewLink c l → l .cost < 2 ^ 16 → Good (added c (record-of.Link l))
-  unfolding added soundLinks
-  link-kept l new fits =
-      let ls = map seen (c .links) in
-      let sound = soundLink (length (c .ids)) in
-      let (differ, each, apart) = three (distinct (c .ids)) (every sound ls) (pairsDiffer ls) (g .linked) in
-      record {
-        routers-fit = g .routers-fit;
-        links-fit = simp length-append (omega (arith, new .room));
-        limit-least = g .limit-least;
-        limit-most = g .limit-most;
-        linked =
-            rw (map-append seen (c .links) (l ∷ []))
-            (and-three (distinct (c .ids)) (every sound (ls ++ (seen l ∷ []))) (pairsDiffer (ls ++ (seen l ∷ []))) differ
-            (rw (every-more sound ls (seen l)) (and (every sound ls) (sound (seen l)) each (sound-link l new fits)))
-            (rw pairs-more (and (pairsDiffer ls) (not (any (samePair (seen l)) ls)) apart (rw (new .unlinked) tt))));
-        neighbours = λ u. rw (map-append seen (c .links) (l ∷ []), arcs-more) (arcs-kept l new u);
-        ids-fit = g .ids-fit;
-      }
+  -- the same routers and K with other halves
+  relisted : (q : Listing) → p .contents .ids ≡ q .contents .ids → p .contents .limit ≡ q .contents .limit → GoodHalves n (halves q) → Good q
+  unfolding n
+  relisted q ids limit w = record {
+    routers-fit = rw ids at (g .routers-fit);
+    limit-least = omega (arith, g .limit-least);
+    limit-most = omega (arith, g .limit-most);
+    ids-differ = rw ids at (g .ids-differ);
+    ids-fit = rw ids at (g .ids-fit);
+    good-halves = rw ids at w;
+  }
 
-  limit-kept : (k : ℕ) → cond {A = ℕ} (within 16 k) 0 16 ≡ 0 → Good (added c (record-of.Limit k))
-  unfolding added
+  arrived-kept : (h : Half) (ks : List Half) → GoodHalves n (halves (arrived p h ks)) → Good (arrived p h ks)
+  unfolding arrived withLink
+  arrived-kept h [] w = relisted _ refl refl w
+  arrived-kept h (k ∷ ks) w = relisted _ refl refl w
+
+  limit-kept : (k : ℕ) → cond {A = ℕ} (within 16 k) 0 16 ≡ 0 → Good (added p (record-of.Limit k))
+  unfolding added withLimit halves
   limit-kept k e =
       let (least, most) = within-fact 16 k .0 (holds (within 16 k) e) in
       record {
         routers-fit = g .routers-fit;
-        links-fit = g .links-fit;
         limit-least = least;
         limit-most = most;
-        linked = g .linked;
-        neighbours = g .neighbours;
+        ids-differ = g .ids-differ;
         ids-fit = g .ids-fit;
+        good-halves = g .good-halves;
       }
     where
       holds : (b : Bool) → cond {A = ℕ} b 0 16 ≡ 0 → T b
       holds true e = tt
       holds false e = absurd (omega (arith, e))
 
-  pub kept : (r : Record) → fault c r ≡ 0 → Fitting r → Good (added c r)
-  unfolding fault added
-  kept (record-of.Router id) e fits = router-kept id (router-passes c id .0 e) fits
-  kept (record-of.Link l) e fits = link-kept l (link-passes c l .0 e) fits
+  pub kept : (r : Record) → fault p r ≡ 0 → Fitting r → Good (added p r)
+  unfolding fault added withLink n
+  kept (record-of.Router id) e fits = router-kept id (router-passes (p .contents) id .0 e) fits
+  kept (record-of.Link h) e fits = relisted _ refl refl (link-kept h (halves-pass p h _ .0 e) fits)
+  kept (record-of.Half h) e fits = arrived-kept h _ (half-kept h (halves-pass p h _ .0 e) fits)
   kept (record-of.Limit k) e fits = limit-kept k e
   kept record-of.End e fits = g
   kept (record-of.Refused number) e fits = g
 
--- what a kind and a body of bytes say fits
-decoded-fits : (kind : ℕ) (body : List ℕ) → Bytes body → length body ≡ bodyLength kind → Fitting (decoded kind body)
-unfolding bodyLength decoded linkIn
-decoded-fits kind body bytes = cases (eqb kind 1) (eqb kind 2) (eqb kind 8) (eqb kind 3)
-  where
-    cost : length body ≡ 4 → bigEndian (drop 2 body) < 256 ^ 2
-    cost e =
-        let two : length (drop 2 body) ≡ 2 = simp length-drop (omega arith) in
-        rw two at (bytes-below (drop 2 body) (λ b m. bytes b (rw take-append-drop at (Memᴰ·append-right (take 2 body) m))))
-
-    cases : (r l k e : Bool) → length body ≡ cond (r || l) 4 (cond k 1 0) →
-        Fitting
-        (cond r (record-of.Router (bigEndian body))
-        (cond l (record-of.Link (linkIn body)) (cond k (record-of.Limit (getD body 0 0)) (cond e record-of.End (record-of.Refused 2)))))
-    cases true l k e long = rw long at (bytes-below body bytes)
-    cases false true k e long = cost long
-    cases false false true e long = tt
-    cases false false false true long = tt
-    cases false false false false long = tt
-
-pub record-fits : (s : List ℕ) → Bytes s → Fitting (recordIn s)
-unfolding recordIn
-record-fits [] bytes = tt
-record-fits (kind ∷ rest) bytes = cases (decLt (length rest) (bodyLength kind))
-  where
-    cases : Dec (length rest < bodyLength kind) → Fitting (recordIn (kind ∷ rest))
-    cases (yes h) = rw (cut kind rest h) tt
-    cases (no h) =
-        let n = bodyLength kind in
-        let long : n ≤ length rest = omega arith in
-        rw (whole kind rest long)
-        (decoded-fits kind (take n rest) (λ b m. bytes b (List·Memᴰ·tail (mem-take n rest m))) (length-take-le n rest long))
-
-pub good-listed : (c : Contents) → Good c → Listed (held c)
+pub good-listed : (p : Listing) → Good p → Listed (held (p .contents))
 unfolding wellLinked held
-good-listed c g =
+good-listed p g =
     record {
-      counted = record { routers-fit = g .routers-fit; links-fit = g .links-fit };
-      whole = ap held (sym (contents-held c));
-      linked = rw contents-held (g .linked);
+      counted = record { routers-fit = g .routers-fit; links-fit = links-fit p g };
+      whole = ap held (sym (contents-held (p .contents)));
+      linked = rw contents-held (linked p g);
     }

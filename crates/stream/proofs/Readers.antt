@@ -15,7 +15,7 @@ use Rattle.stream.specs.Reading.{width}
 use Rattle.stream.specs.Reader.{taken, next}
 use Rattle.stream.specs.Readers.{moves, stays, ReaderTakes}
 use Rattle.stream.proofs.Stream.{cut}
-use Rattle.stream.proofs.InTurn.{next-router, next-link, next-limit, next-unknown, next-end}
+use Rattle.stream.proofs.InTurn.{next-router, next-link, next-half, next-limit, next-unknown, next-end}
 
 -- the first of some records
 unfoldable first : List Record → Record
@@ -43,11 +43,13 @@ reader-takes r =
     record {
       router = λ a b e f rest is. gives r is (first-of 1 (a ∷ b ∷ e ∷ f ∷ rest) (next-router a b e f rest));
       link = λ u v e f rest is. gives r is (first-of 2 (u ∷ v ∷ e ∷ f ∷ rest) (next-link u v e f rest));
+      half = λ u v e f rest is. gives r is (first-of 4 (u ∷ v ∷ e ∷ f ∷ rest) (next-half u v e f rest));
       limit = λ k rest is. gives r is (first-of 8 (k ∷ rest) (next-limit k rest));
       end = λ rest is. gives r is (first-of 3 rest (next-end rest));
       no-record = λ is. refuses r is refl;
       router-cut = λ body h is. refuses r is (cut 1 body h);
       link-cut = λ body h is. refuses r is (cut 2 body h);
+      half-cut = λ body h is. refuses r is (cut 4 body h);
       limit-cut = λ is. refuses r is (cut 8 [] (omega arith));
-      unknown = λ kind n1 n2 n3 n8 rest is. refuses r is (first-of kind rest (next-unknown kind n1 n2 n3 n8 rest));
+      unknown = λ kind n1 n2 n3 n4 n8 rest is. refuses r is (first-of kind rest (next-unknown kind n1 n2 n3 n4 n8 rest));
     }

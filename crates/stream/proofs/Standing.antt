@@ -1,110 +1,138 @@
--- The reading before one of its records, with the tables that links are looked up in: they say what is listed, and a record that has no fault keeps them so.
+-- The reading before one of its records, with the tables that halves are looked up in: they say what is listed, lone halves too, and a record that has no
+-- fault keeps them so.
 -- Assumes nothing.
-use Prim.Native.Nat.{ℕ, _+_, _-_, _<_}
-use mathlib.Core.Bool.{Bool, false}
-use mathlib.Core.List.{List, _∷_, [], map, map-append}
-use mathlib.Core.Path.{_≡_, refl, ap, _∙_}
+use Prim.Native.Nat.{ℕ, _+_, _-_, _≤_, _<_}
+use mathlib.Core.Bool.{false}
+use mathlib.Core.List.{List}
+use mathlib.Core.Path.{_≡_, refl, sym, ap, _∙_}
 use native.Mathlib.Omega.{arith}
-use lib.ListN.{length, drop, replicate}
-use Rattle.stations.specs.declared.Link.{Link}
+use lib.ListN.{length, getD, take, drop, replicate}
 use Rattle.stations.specs.declared.Topology.{Topology}
-use Rattle.stations.specs.Topology.{contents, held, seen}
-use Rattle.soundness.proofs.Pairs.{Tabled, tabled-none, tabled-more}
-use Rattle.soundness.proofs.Crowds.{Tallied, tallied-none, tallied-more}
+use Rattle.stations.specs.Topology.{contents, held}
 use Rattle.stream.specs.declared.Record.{Record}
 use Rattle.stream.specs.declared.Record.the-variants as record-of
+use Rattle.stream.specs.Halves.{Listing, linkHalves, halves}
 use Rattle.stream.specs.Stream.{recordIn}
-use Rattle.stream.specs.Reading.{fault, added, width, isEnd, nothingListed}
-use Rattle.stream.specs.Inner.{Listed, Indexed, Roomy, withPair, withNeighbours}
+use Rattle.stream.specs.Reading.{repeated, crowded, fault, withRouter, withLimit, added, width, isEnd, nothingListed}
+use Rattle.stream.specs.Inner.{Listed, Indexed}
 use Rattle.stream.specs.Theorems.{Bytes}
-use Rattle.stream.proofs.Held.{contents-held, padded-length, routers-held, links-held, with-router, with-link, with-limit, router-added, link-added, limit-added}
-use Rattle.stream.proofs.NoFault.{NewLink, router-passes, link-passes}
-use Rattle.stream.proofs.AtTurn.{Turn, turn-first, turn-listed, turn-taken}
+use Rattle.stream.proofs.Held.{contents-held, padded-length, with-router, with-limit, router-added, limit-added}
+use Rattle.stream.proofs.NoFault.{router-passes}
+use Rattle.stream.proofs.Halves.{one, length-total, length-keep}
+use Rattle.stream.proofs.Opposite.{none}
+use Rattle.stream.proofs.Kept.{good-listed, few-leave}
+use Rattle.stream.proofs.Tables.{Tabled, Tallied, tabled-none, tallied-none, cost-tells}
+use Rattle.stream.proofs.AtTurn.{Turn, turn-first, turn-taken}
 
-pub record Standing (s : List ℕ) (t : Topology) (linked : List Bool) (count : List ℕ) (at : ℕ) : Type 0 where
-  pub turn : Turn s t at
+pub record Standing (s : List ℕ) (t : Topology) (costs leaving : List ℕ) (m at : ℕ) : Type 0 where
+  pub listing : Listing
+  pub turn : Turn s listing at
   pub bytes : Bytes s
-  pub pairs : Tabled linked (map seen (contents t .links))
-  pub tallies : Tallied count (map seen (contents t .links))
+  pub whole : t ≡ held (listing .contents)
+  pub many : m ≡ length (halves listing)
+  pub tabled : Tabled costs (halves listing)
+  pub tallied : Tallied leaving (halves listing)
 
-pub standing-first : (s : List ℕ) → Bytes s → Standing s (held nothingListed) (replicate 4096 false) (replicate 64 0) 0
-unfolding nothingListed
-standing-first s bytes = record { turn = turn-first s; bytes = bytes; pairs = rw contents-held tabled-none; tallies = rw contents-held tallied-none }
+pub standing-first : (s : List ℕ) → Bytes s → Standing s (held (nothingListed .contents)) (replicate 4096 0) (replicate 64 0) 0 0
+unfolding nothingListed halves linkHalves
+standing-first s bytes =
+    record {
+      listing = nothingListed;
+      turn = turn-first s;
+      bytes = bytes;
+      whole = refl;
+      many = refl;
+      tabled = tabled-none;
+      tallied = tallied-none;
+    }
 
-module _ {s : List ℕ} {t : Topology} {linked : List Bool} {count : List ℕ} {at : ℕ} (w : Standing s t linked count at) where
+module _ {s : List ℕ} {t : Topology} {costs leaving : List ℕ} {m at : ℕ} (w : Standing s t costs leaving m at) where
+  abbrev p : Listing
+  p = w .listing
+
+  pub contents-are : contents t ≡ w .listing .contents
+  contents-are = ap contents (w .whole) ∙ contents-held (p .contents)
+
   pub listed : Listed t
-  listed = turn-listed s t at (w .turn)
+  listed = rw (w .whole) (good-listed p (w .turn .good))
+
+  pub few : m ≤ 512
+  few = omega (arith, w .many, length-total (halves p), w .turn .good .good-halves .many)
 
   pub id-slots : length (t .id) ≡ 64
   unfolding held
-  id-slots = ap (λ (x : Topology). length (x .id)) (listed .whole) ∙ padded-length 0 64 (contents t .ids) (w .turn .good .routers-fit)
+  id-slots = ap (λ (x : Topology). length (x .id)) (w .whole) ∙ padded-length 0 64 (p .contents .ids) (w .turn .good .routers-fit)
 
-  pub indexed : Indexed (contents t) (t .routers) (t .links) linked count
-  unfolding seen
-  indexed = record { routers = routers-held t listed; links = links-held t listed; pairs = λ l f g. w .pairs .at (seen l) f g; neighbours = w .tallies .at }
+  routers-are : t .routers ≡ length (p .contents .ids)
+  unfolding held
+  routers-are = ap (λ (x : Topology). x .routers) (w .whole)
+
+  pub links-are : t .links ≡ length (p .contents .links)
+  unfolding held
+  links-are = ap (λ (x : Topology). x .links) (w .whole)
+
+  pub ids-are : p .contents .ids ≡ take (t .routers) (t .id)
+  unfolding contents
+  ids-are = ap (λ c. c .ids) (sym contents-are)
+
+  pub indexed : Indexed p (t .routers) m costs leaving
+  unfolding repeated
+  indexed =
+      record {
+        routers = routers-are;
+        many = w .many;
+        listed = λ h f g. rw (w .tabled .at h f g) (cost-tells _ (halves p) (w .turn .good .good-halves .each) h);
+        out = λ u h. w .tallied .at u h ∙ sym (length-keep _ (halves p));
+      }
 
   -- a record that was found there and has no fault, and where it ends
   pub record Passed (r : Record) (next : ℕ) : Type 0 where
     pub is : r ≡ recordIn (drop at s)
-    pub none : fault (contents t) r ≡ 0
+    pub none : fault p r ≡ 0
     pub ends : next ≡ at + width r
 
   -- less is left of the stream
   pub falls : {r : Record} {next : ℕ} → Passed r next → isEnd r ≡ false → length s - next < length s - at
-  falls {r} p more =
-      let (turn, some) = turn-taken s t at (w .turn) r (p .is) (p .none) more (w .bytes) in
-      omega (arith, turn .inside, some, p .ends)
+  falls {r} passed more =
+      let (turn, some-byte) = turn-taken s p at (w .turn) r (passed .is) (passed .none) more (w .bytes) in
+      omega (arith, turn .inside, some-byte, passed .ends)
 
-  onward : {r : Record} {next : ℕ} → Passed r next → isEnd r ≡ false → {t′ : Topology} → t′ ≡ held (added (contents t) r) →
-      {linked′ : List Bool} {count′ : List ℕ} → Tabled linked′ (map seen (added (contents t) r .links)) → Tallied count′ (map seen (added (contents t) r .links)) →
-      Standing s t′ linked′ count′ next
-  onward {r} p more e pairs tallies =
-      let (turn, some) = turn-taken s t at (w .turn) r (p .is) (p .none) more (w .bytes) in
-      rw (e, p .ends) record { turn = turn; bytes = w .bytes; pairs = rw contents-held pairs; tallies = rw contents-held tallies }
+  pub onward : {r : Record} {next : ℕ} → Passed r next → isEnd r ≡ false → {t′ : Topology} → t′ ≡ held (added p r .contents) →
+      {costs′ leaving′ : List ℕ} → {m′ : ℕ} → m′ ≡ length (halves (added p r)) → Tabled costs′ (halves (added p r)) → Tallied leaving′ (halves (added p r)) →
+      Standing s t′ costs′ leaving′ m′ next
+  onward {r} passed more e count table tally =
+      let (turn, some-byte) = turn-taken s p at (w .turn) r (passed .is) (passed .none) more (w .bytes) in
+      record {
+        listing = added p r;
+        turn = rw (passed .ends) turn;
+        bytes = w .bytes;
+        whole = e;
+        many = count;
+        tabled = table;
+        tallied = tally;
+      }
 
   pub room-router : {id next : ℕ} → Passed (record-of.Router id) next → t .routers < 64
   unfolding fault
-  room-router {id} p = omega (arith, router-passes (contents t) id .0 (p .none) .room, routers-held t listed)
+  room-router {id} passed = omega (arith, router-passes (p .contents) id .0 (passed .none) .room, routers-are)
 
-  pub past-router : {id next : ℕ} → Passed (record-of.Router id) next → Standing s (with-router id t) linked count next
+  pub past-router : {id next : ℕ} → Passed (record-of.Router id) next → Standing s (with-router id t) costs leaving m next
+  unfolding added withRouter isEnd halves
+  past-router {id} passed =
+      onward passed refl (router-added t listed id (room-router passed) ∙ ap (λ c. held (withRouter c id)) contents-are) (w .many) (w .tabled) (w .tallied)
+
+  pub past-limit : {k next : ℕ} → Passed (record-of.Limit k) next → Standing s (with-limit k t) costs leaving m next
+  unfolding added withLimit isEnd halves
+  past-limit {k} passed =
+      onward passed refl (limit-added t listed k ∙ ap (λ c. held (withLimit c k)) contents-are) (w .many) (w .tabled) (w .tallied)
+
+  pub past-nothing : {number next : ℕ} → Passed (record-of.Refused number) next → Standing s t costs leaving m next
   unfolding added isEnd
-  past-router {id} p = onward p refl (router-added t listed id (room-router p)) (w .pairs) (w .tallies)
+  past-nothing passed = onward passed refl (w .whole) (w .many) (w .tabled) (w .tallied)
 
-  pub past-limit : {k next : ℕ} → Passed (record-of.Limit k) next → Standing s (with-limit k t) linked count next
-  unfolding added isEnd
-  past-limit {k} p = onward p refl (limit-added t listed k) (w .pairs) (w .tallies)
+  -- places that are listed are below 64
+  pub place : (u : ℕ) → u < length (p .contents .ids) → u < 64
+  place u h = omega (arith, w .turn .good .routers-fit)
 
-  pub past-nothing : {number next : ℕ} → Passed (record-of.Refused number) next → Standing s t linked count next
-  unfolding added isEnd
-  past-nothing p = onward p refl (listed .whole) (w .pairs) (w .tallies)
-
-  -- a link more, at the places u and v
-  module _ {l : Link} {next : ℕ} (p : Passed (record-of.Link l) next) where
-    new-link : NewLink (contents t) l
-    unfolding fault
-    new-link = link-passes (contents t) l .0 (p .none)
-
-    pub room-link : t .links < 256
-    room-link = omega (arith, new-link .room, links-held t listed)
-
-    module _ {u v : ℕ} (f : u ≡ l .first .0) (g : v ≡ l .second .0) where
-      pub roomy : Roomy count u × Roomy count v
-      roomy =
-          let few = w .turn .good .routers-fit in
-          let n = new-link in
-          let at-first = w .tallies .at (l .first .0) (omega (arith, n .first-listed)) in
-          let at-second = w .tallies .at (l .second .0) (omega (arith, n .second-listed)) in
-          rw (f, g) (
-            record { listed = omega (arith, n .first-listed); room = omega (arith, at-first, n .first-room) },
-            record { listed = omega (arith, n .second-listed); room = omega (arith, at-second, n .second-room) },
-          )
-
-      pub past-link : {linked′ : List Bool} {count′ : List ℕ} → linked′ ≡ withPair linked u v → count′ ≡ withNeighbours count u v →
-          Standing s (with-link l t) linked′ count′ next
-      unfolding added isEnd seen withPair withNeighbours
-      past-link e h =
-          let (r, q) = roomy in
-          onward p refl (link-added t listed l room-link)
-          (rw (e, map-append seen (contents t .links) (l ∷ [])) (tabled-more (w .pairs) (seen l) (omega (arith, r .listed)) (omega (arith, q .listed)) f g))
-          (rw (h, map-append seen (contents t .links) (l ∷ []))
-          (tallied-more (w .tallies) (seen l) f g (r .listed) (q .listed) (λ d. new-link .ends-differ (omega arith)) (r .room) (q .room)))
+  pub leaving-room : (u : ℕ) → u < 64 → crowded p u ≡ false → getD leaving u 0 < 16
+  leaving-room u h e = omega (arith, few-leave p u e, w .tallied .at u h)

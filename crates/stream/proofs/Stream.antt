@@ -13,10 +13,10 @@ use borrow.Author.Tests.{lt-ltb, le-ltb, ne-eqb}
 use lib.Dec.{ltb, eqb}
 use lib.ListN.{length, getD, take, drop, length-drop}
 use lib.Seq.{drop-cons}
-use Rattle.stations.specs.Topology.{Contents}
 use Rattle.stream.specs.declared.Record.{Record}
 use Rattle.stream.specs.declared.Record.the-variants as record-of
-use Rattle.stream.specs.Stream.{bigEndian, bodyLength, decoded, linkIn, recordIn, records}
+use Rattle.stream.specs.Halves.{Listing}
+use Rattle.stream.specs.Stream.{bigEndian, bodyLength, decoded, halfIn, recordIn, records}
 use Rattle.stream.specs.Reading.{fault, width, some?}
 
 -- the bytes from at on, by the first two
@@ -45,11 +45,12 @@ module _ (s : List ℕ) (at kind : ℕ) where
       recordIn (drop at s) ≡ decoded kind (take (bodyLength kind) (drop (at + 1) s))
   whole-at (some, is, h) = rw (begins some is) (whole kind (drop (at + 1) s) (simp length-drop h))
 
-  pub unknown-at : (at < length s) × (getD s at 0 ≡ kind) × (kind ≢ 1) × (kind ≢ 2) × (kind ≢ 8) × (kind ≢ 3) →
+  pub unknown-at : (at < length s) × (getD s at 0 ≡ kind) × (kind ≢ 1) × (kind ≢ 2) × (kind ≢ 4) × (kind ≢ 8) × (kind ≢ 3) →
       recordIn (drop at s) ≡ record-of.Refused 2
   unfolding recordIn bodyLength decoded
-  unknown-at (some, is, n₁, n₂, n₈, n₃) =
-      rw (begins some is) (simp (ne-eqb kind 1 n₁, ne-eqb kind 2 n₂, ne-eqb kind 8 n₈, ne-eqb kind 3 n₃, le-ltb (length (drop (at + 1) s)) 0 zero-le))
+  unknown-at (some, is, n₁, n₂, n₄, n₈, n₃) =
+      rw (begins some is)
+      (simp (ne-eqb kind 1 n₁, ne-eqb kind 2 n₂, ne-eqb kind 4 n₄, ne-eqb kind 8 n₈, ne-eqb kind 3 n₃, le-ltb (length (drop (at + 1) s)) 0 zero-le))
 
 -- to skip bytes is to drop them
 pub records-drop : (n : ℕ) (s : List ℕ) → records n s ≡ records 0 (drop n s)
@@ -66,19 +67,21 @@ pub record WholeRecord (s : List ℕ) : Type 0 where
 -- a kind is unknown, or a body of it makes a record as wide as the kind says
 known : (kind : ℕ) (body : List ℕ) → (decoded kind body ≡ record-of.Refused 2) ⊎ (width (decoded kind body) ≡ suc (bodyLength kind))
 unfolding decoded bodyLength width
-known kind body = cases (eqb kind 1) (eqb kind 2) (eqb kind 8) (eqb kind 3)
+known kind body = cases (eqb kind 1) (eqb kind 2) (eqb kind 4) (eqb kind 8) (eqb kind 3)
   where
-    made : (r l k e : Bool) → Record
-    made r l k e =
+    made : (r l h k e : Bool) → Record
+    made r l h k e =
         cond r (record-of.Router (bigEndian body))
-        (cond l (record-of.Link (linkIn body)) (cond k (record-of.Limit (getD body 0 0)) (cond e record-of.End (record-of.Refused 2))))
+        (cond l (record-of.Link (halfIn body))
+        (cond h (record-of.Half (halfIn body)) (cond k (record-of.Limit (getD body 0 0)) (cond e record-of.End (record-of.Refused 2)))))
 
-    cases : (r l k e : Bool) → (made r l k e ≡ record-of.Refused 2) ⊎ (width (made r l k e) ≡ suc (cond (r || l) 4 (cond k 1 0)))
-    cases true l k e = inr refl
-    cases false true k e = inr refl
-    cases false false true e = inr refl
-    cases false false false true = inr refl
-    cases false false false false = inl refl
+    cases : (r l h k e : Bool) → (made r l h k e ≡ record-of.Refused 2) ⊎ (width (made r l h k e) ≡ suc (cond (r || l || h) 4 (cond k 1 0)))
+    cases true l h k e = inr refl
+    cases false true h k e = inr refl
+    cases false false true k e = inr refl
+    cases false false false true e = inr refl
+    cases false false false false true = inr refl
+    cases false false false false false = inl refl
 
 wide : (kind : ℕ) (rest : List ℕ) → bodyLength kind ≤ length rest → width (recordIn (kind ∷ rest)) ≡ suc (bodyLength kind) →
     WholeRecord (kind ∷ rest)
@@ -105,9 +108,9 @@ unfolding width
 width-within s = ⊎-elim (λ r. rw r zero-le) (⊎-elim (λ r. rw r zero-le) (λ w. w .fits)) (first-record s)
 
 -- a record that has no fault is whole, the end too
-pub whole-record : (c : Contents) (s : List ℕ) → fault c (recordIn s) ≡ 0 → WholeRecord s
+pub whole-record : (p : Listing) (s : List ℕ) → fault p (recordIn s) ≡ 0 → WholeRecord s
 unfolding fault
-whole-record c s e = ⊎-elim (λ r. absurd (omega (arith, rw r at e))) (⊎-elim (λ r. absurd (omega (arith, rw r at e))) (λ w. w)) (first-record s)
+whole-record p s e = ⊎-elim (λ r. absurd (omega (arith, rw r at e))) (⊎-elim (λ r. absurd (omega (arith, rw r at e))) (λ w. w)) (first-record s)
 
 pub no-bytes : records 0 [] ≡ []
 unfolding records

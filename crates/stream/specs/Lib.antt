@@ -1,3 +1,4 @@
+pub mod Halves
 pub mod Stream
 pub mod Reading
 pub mod Reader

@@ -5,6 +5,7 @@ mod taking;
 
 use stations::Answer;
 use stations::DEFAULT_NEXT_HOPS;
+use stations::Half;
 use stations::Link;
 use stations::ROUTERS;
 use stations::Topology;
@@ -17,30 +18,34 @@ pub struct Reading {
     pub topology: Topology,
 }
 
-// One record of the stream, or the number of the refusal that stands in its place.
+// One record of the stream, or the number of the refusal that stands in its place. A link's record, kind 2, counts as both its halves, the second the
+// opposite of the one it has here (02, #105).
 pub enum Record {
     Router(u32),
-    Link(Link),
+    Link(Half),
+    Half(Half),
     Limit(u8),
     End,
     Refused(u8),
 }
 
-// Reads a topology stream: refusals 1 to 13 and 16. Beside what is listed stand two tables for the links to come: whether the router at u is linked to
-// that at v, at u * ROUTERS + v, and how many neighbours each router has.
+// Reads a topology stream: refusals 1 to 13 and 16. Beside what is listed stand two tables for the halves to come: what the half from u to v costs, at
+// u * ROUTERS + v, 0 if it is not listed, and how many halves leave each router. A half whose opposite is listed makes a link with it; lone ones stand in
+// the tables alone.
 pub fn read(stream: &[u8]) -> Reading
     ensures { λ r. ⌜ r ≡ reading (now (stream .entry)) ⌝ }
 {
     let mut t = taking::blank(DEFAULT_NEXT_HOPS);
-    let mut linked = [false; ROUTERS * ROUTERS];
-    let mut count = [0usize; ROUTERS];
+    let mut costs = [0u16; ROUTERS * ROUTERS];
+    let mut leaving = [0usize; ROUTERS];
+    let mut halves: usize = 0;
     let mut at: usize = 0;
     while at < stream.len() {
         let taken = reader::next_from(stream, at);
         let record = taken.found;
         let n = t.routers;
         let m = t.links;
-        let number = taking::fault_of(&t.id, &linked, &count, n, m, record);
+        let number = taking::fault_of(&t.id, &costs, &leaving, n, halves, record);
         if number != 0 {
             return taking::refused(number, at);
         }
@@ -49,10 +54,39 @@ pub fn read(stream: &[u8]) -> Reading
                 t.id[n] = id;
                 t.routers = n + 1;
             }
-            Record::Link(l) => {
-                t.link[m] = l;
+            Record::Link(h) => {
+                let from = h.from;
+                let to = h.to;
+                let u = from.index();
+                let v = to.index();
+                t.link[m] = Link {
+                    first: from,
+                    second: to,
+                    cost: h.cost,
+                    back: h.cost,
+                };
                 t.links = m + 1;
-                taking::mark(&mut linked, &mut count, l.first.index(), l.second.index());
+                taking::mark(&mut costs, &mut leaving, u, v, h.cost);
+                taking::mark(&mut costs, &mut leaving, v, u, h.cost);
+                halves += 2;
+            }
+            Record::Half(h) => {
+                let from = h.from;
+                let to = h.to;
+                let u = from.index();
+                let v = to.index();
+                let opposite = costs[v * ROUTERS + u];
+                if opposite != 0 {
+                    t.link[m] = Link {
+                        first: to,
+                        second: from,
+                        cost: opposite,
+                        back: h.cost,
+                    };
+                    t.links = m + 1;
+                }
+                taking::mark(&mut costs, &mut leaving, u, v, h.cost);
+                halves += 1;
             }
             Record::Limit(k) => {
                 t.limit = k;

@@ -1,12 +1,12 @@
 // The records of a topology stream, one at a time.
 use super::Record;
 use super::taking;
-use stations::Link;
+use stations::Half;
 use stations::Place;
 ghost use mathlib.Core.Path.{_≡_};
 ghost use Prim.Native.Nat.{_+_, _≤_, _<_};
 ghost use lib.ListN.{length, take, drop};
-ghost use Rattle.stream.specs.Stream.{bigEndian, recordIn};
+ghost use Rattle.stream.specs.Stream.{bigEndian, halfIn, recordIn};
 ghost use Rattle.stream.specs.Reader.{taken};
 
 // A record, and the offset past it.
@@ -31,6 +31,18 @@ fn be32(s: &[u8], at: usize) -> u32
     be16(s, at) as u32 * 65536 + be16(s, at + 2) as u32
 }
 
+// The half in the four bytes from at: from, to, cost.
+fn half_at(s: &[u8], at: usize) -> Half
+    requires { ⌜ at + 4 ≤ length (now s) ⌝ }
+    ensures { λ r. ⌜ r ≡ halfIn (take 4 (drop at (now (s .entry)))) ⌝ }
+{
+    Half {
+        from: Place(s[at]),
+        to: Place(s[at + 1]),
+        cost: be16(s, at + 2),
+    }
+}
+
 // The record that begins at the offset at.
 pub(crate) fn record_at(s: &[u8], at: usize) -> Record
     ensures { λ r. ⌜ r ≡ recordIn (drop at (now (s .entry))) ⌝ }
@@ -51,12 +63,13 @@ pub(crate) fn record_at(s: &[u8], at: usize) -> Record
         if left < 4 {
             return Record::Refused(1);
         }
-        let link = Link {
-            first: Place(s[body]),
-            second: Place(s[body + 1]),
-            cost: be16(s, body + 2),
-        };
-        return Record::Link(link);
+        return Record::Link(half_at(s, body));
+    }
+    if kind == 4 {
+        if left < 4 {
+            return Record::Refused(1);
+        }
+        return Record::Half(half_at(s, body));
     }
     if kind == 8 {
         if left < 1 {

@@ -1,8 +1,10 @@
-// Taking the records of a topology stream in turn: what refuses a record, and what a link adds to the tables that the next links are looked up in.
+// Taking the records of a topology stream in turn: what refuses a record, and what a half adds to the tables that the next ones are looked up in.
 use super::Reading;
 use super::Record;
 use soundness::unchecked;
 use stations::Answer;
+use stations::HALVES;
+use stations::Half;
 use stations::LINKS;
 use stations::Link;
 use stations::NEIGHBOURS;
@@ -12,16 +14,17 @@ use stations::ROUTERS;
 use stations::Topology;
 ghost use mathlib.Core.Bool.{cond};
 ghost use mathlib.Core.Path.{_≡_};
-ghost use mathlib.Core.List.{[]};
-ghost use Prim.Native.Nat.{_+_, _<_, _≤_};
+ghost use mathlib.Core.List.{[], _∷_};
+ghost use Prim.Native.Nat.{_+_, _*_, _<_, _≤_};
 ghost use lib.Dec.{ltb};
-ghost use lib.ListN.{length, take};
-ghost use Rattle.stations.specs.Limits.{mostRouters, mostNextHops};
+ghost use lib.ListN.{length, take, getD, set};
+ghost use Rattle.stations.specs.Limits.{mostRouters, mostHalves, mostNextHops};
 ghost use Rattle.stations.specs.Topology.{Contents, contents, held};
 ghost use Rattle.soundness.specs.Sound.{within};
-ghost use Rattle.stream.specs.Reading.{refusal, fault, routerFault, linkFault, width};
+ghost use Rattle.stream.specs.Halves.{Listing, opposite};
+ghost use Rattle.stream.specs.Reading.{refusal, fault, routerFault, halvesFault, width};
 ghost use Rattle.stream.specs.Reading as said;
-ghost use Rattle.stream.specs.Inner.{Listed, Indexed, Roomy, withPair, withNeighbours};
+ghost use Rattle.stream.specs.Inner.{Listed, Indexed, Roomy};
 
 // All zeros but for the next-hop limit.
 pub(crate) fn blank(limit: u8) -> Topology
@@ -31,6 +34,7 @@ pub(crate) fn blank(limit: u8) -> Topology
         first: Place(0),
         second: Place(0),
         cost: 0,
+        back: 0,
     };
     Topology {
         routers: 0,
@@ -77,41 +81,47 @@ fn router_fault(ids: &[u32; ROUTERS], n: usize, id: u32) -> u8
     0
 }
 
-// Refusals 5 to 10: the same of a link, with n routers and m links listed so far. A place is looked up only where it is listed.
-fn link_fault<'a>(
-    linked: &'a [bool; ROUTERS * ROUTERS],
-    count: &'a [usize; ROUTERS],
+// Refusals 5 to 10: the same of a half or, where both are listed at once, of a link, with n routers and m halves listed so far. A place is looked up only
+// where it is listed.
+fn halves_fault<'a>(
+    costs: &'a [u16; ROUTERS * ROUTERS],
+    leaving: &'a [usize; ROUTERS],
     n: usize,
     m: usize,
-    l: Link,
+    h: Half,
+    both: bool,
 ) -> u8
-    requires { ⌜ n ≤ mostRouters ⌝ }
-    ensures { λ r. ⌜ ((c : Contents) → Indexed c n m (now (linked .entry)) (now (count .entry)) → r ≡ linkFault c l) ⌝ }
+    requires { ⌜ (n ≤ mostRouters) × (m ≤ mostHalves) ⌝ }
+    ensures { λ r. ⌜ ((p : Listing) → Indexed p n m (now (costs .entry)) (now (leaving .entry)) → r ≡ halvesFault p h (cond both (h ∷ opposite h ∷ []) (h ∷ []))) ⌝ }
 {
-    let first = l.first.index();
-    let second = l.second.index();
-    if n <= first {
+    let from = h.from.index();
+    let to = h.to.index();
+    if n <= from {
         return 5;
     }
-    if n <= second {
+    if n <= to {
         return 5;
     }
-    if first == second {
+    if from == to {
         return 6;
     }
-    if l.cost == 0 {
+    if h.cost == 0 {
         return 7;
     }
-    if linked[first * ROUTERS + second] {
+    if costs[from * ROUTERS + to] != 0 {
         return 8;
     }
-    if LINKS <= m {
+    if both && costs[to * ROUTERS + from] != 0 {
+        return 8;
+    }
+    let adds = if both { 2 } else { 1 };
+    if HALVES < m + adds {
         return 9;
     }
-    if NEIGHBOURS <= count[first] {
+    if NEIGHBOURS <= leaving[from] {
         return 10;
     }
-    if NEIGHBOURS <= count[second] {
+    if both && NEIGHBOURS <= leaving[to] {
         return 10;
     }
     0
@@ -130,44 +140,43 @@ fn limit_fault(k: u8) -> u8
     0
 }
 
-// The number of the first test that a record fails, 0 if it fails none: what is listed so far is given by the IDs, the linked pairs, the neighbours of
-// each place, and how many routers and links there are.
+// The number of the first test that a record fails, 0 if it fails none: what is listed so far is given by the IDs, what halves cost, how many leave each
+// place, and how many routers and halves there are.
 pub(crate) fn fault_of<'a>(
     ids: &'a [u32; ROUTERS],
-    linked: &'a [bool; ROUTERS * ROUTERS],
-    count: &'a [usize; ROUTERS],
+    costs: &'a [u16; ROUTERS * ROUTERS],
+    leaving: &'a [usize; ROUTERS],
     n: usize,
     m: usize,
     record: Record,
 ) -> u8
-    requires { ⌜ (n ≤ mostRouters) × (length (now ids) ≡ mostRouters) ⌝ }
-    ensures { λ r. ⌜ ((c : Contents) → c .ids ≡ take n (now (ids .entry)) → Indexed c n m (now (linked .entry)) (now (count .entry)) → r ≡ fault c «record») ⌝ }
+    requires { ⌜ (n ≤ mostRouters) × (m ≤ mostHalves) × (length (now ids) ≡ mostRouters) ⌝ }
+    ensures { λ r. ⌜ ((p : Listing) → p .contents .ids ≡ take n (now (ids .entry)) → Indexed p n m (now (costs .entry)) (now (leaving .entry)) → r ≡ fault p «record») ⌝ }
 {
     match record {
         Record::Router(id) => router_fault(ids, n, id),
-        Record::Link(l) => link_fault(linked, count, n, m, l),
+        Record::Link(h) => halves_fault(costs, leaving, n, m, h, true),
+        Record::Half(h) => halves_fault(costs, leaving, n, m, h, false),
         Record::Limit(k) => limit_fault(k),
         Record::End => 0,
         Record::Refused(number) => number,
     }
 }
 
-// A link more: its pair, in both orders, and a neighbour more at each end.
+// A half more, from u to v.
 pub(crate) fn mark<'a>(
-    linked: &'a mut [bool; ROUTERS * ROUTERS],
-    count: &'a mut [usize; ROUTERS],
-    first: usize,
-    second: usize,
+    costs: &'a mut [u16; ROUTERS * ROUTERS],
+    leaving: &'a mut [usize; ROUTERS],
+    u: usize,
+    v: usize,
+    cost: u16,
 )
-    requires { ⌜ Roomy (now count) first × Roomy (now count) second ⌝ }
-    ensures { λ _. ⌜ (now (linked .exit) ≡ withPair (now (linked .entry)) first second) × (now (count .exit) ≡ withNeighbours (now (count .entry)) first second) ⌝ }
+    requires { ⌜ Roomy (now leaving) u v ⌝ }
+    ensures { λ _. ⌜ (now (costs .exit) ≡ set (now (costs .entry)) (u * mostRouters + v) cost) × (now (leaving .exit) ≡ set (now (leaving .entry)) u (getD (now (leaving .entry)) u 0 + 1)) ⌝ }
 {
-    linked[first * ROUTERS + second] = true;
-    linked[second * ROUTERS + first] = true;
-    let at_first = count[first];
-    let at_second = count[second];
-    count[first] = at_first + 1;
-    count[second] = at_second + 1;
+    costs[u * ROUTERS + v] = cost;
+    let so_far = leaving[u];
+    leaving[u] = so_far + 1;
 }
 
 // How many bytes the record takes.
@@ -177,6 +186,7 @@ pub(crate) fn width_of(record: Record) -> usize
     match record {
         Record::Router(_) => 5,
         Record::Link(_) => 5,
+        Record::Half(_) => 5,
         Record::Limit(_) => 2,
         Record::End => 1,
         Record::Refused(_) => 0,

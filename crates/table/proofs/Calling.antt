@@ -23,7 +23,7 @@ use Rattle.stations.specs.Outcome.{answer}
 use Rattle.soundness.specs.Sound.{sound}
 use Rattle.soundness.proofs.Sound.{sound-networks}
 use Rattle.arcs.specs.declared.Arcs.{Arcs}
-use Rattle.arcs.specs.Arcs.{Holds}
+use Rattle.arcs.specs.Arcs.{Laid}
 use Rattle.order.specs.declared.Mode.{Mode}
 use Rattle.order.specs.declared.Mode.the-variants as mode
 use Rattle.order.specs.Calls.{modeOf, atFirst, judging, checking}
@@ -66,7 +66,7 @@ module _ (t : Topology) (is-sound : T (sound t)) (d : ℕ) (place : d < t .route
       let inside : d < size (networkOf t) = omega (arith, facts .routers, place) in
       acceptance-exact (networkOf t) (facts .well-formed) d inside free _ .0 (built-either (networkOf t) (facts .well-formed) d inside m)
 
-  pub fillable : {a : Arcs} {ds : List ℕ} {limit : ℕ} {order : List ℕ} → Holds (networkOf t) a → Settled (networkOf t) d ds → limit ≤ 16 →
+  pub fillable : {a : Arcs} {ds : List ℕ} {limit : ℕ} {order : List ℕ} → Laid t a → Settled (networkOf t) d ds → limit ≤ 16 →
       Accepted (networkOf t) d free order → Fillable t a ds d limit order
   unfolding modeOf
   fillable {order = order} holds settled most acc =

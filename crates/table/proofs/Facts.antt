@@ -1,7 +1,7 @@
 -- The prover computes every fact from the definitions.
 -- Assumes nothing.
 use Rattle.network.specs.Lists.{numbersFrom, below, keep, every, any, leastBy, insert, sort, member, distinct, sameNumbers, wins}
-use Rattle.network.specs.Network.{size, idOf, arcsOf, greatestCost, arcsAmong, linked, soundLink, samePair, pairsDiffer, soundLinks}
+use Rattle.network.specs.Network.{size, idOf, arcsOf, greatestCost, arcsAmong, linked, soundCost, soundLink, samePair, pairsDiffer, soundLinks}
 use Rattle.network.specs.Distance as of-distance
 use Rattle.network.specs.Distance.{absent, distanceIn, through, round, rounds, distances}
 use Rattle.network.specs.Order.{reached, leadsInto, shortestNextHops, ready, candidate, candidatesInTurn, holdsEachOnce, firstIs, othersInTurn, accepted}
@@ -13,38 +13,38 @@ use Rattle.soundness.specs.Apart.{apart}
 use Rattle.soundness.specs.Sound.{within, inLimits, wellLinked, uncrowded, none?, connected, isNoLink, unusedZero, slotted, sound}
 use Rattle.topology.specs.Written.{joinedOver}
 use Rattle.order.specs.Calls.{modeOf, wrongRanks, unreadyRanks, atFirst, judging, checking}
-use Rattle.order.specs.Table.{answers, link, T-topology}
+use Rattle.order.specs.Table.{answers, link, twoCosts, T-topology}
 use Rattle.rows.specs.Bytes.{rowBytes, headerBytes, rowOf, rowsBytes, tableBytes, rowStart}
 use Rattle.table.specs.Listed.{kindIn, destinationIn, countIn, limitIn, rankIn, orderIn, inShortestPathMode}
 use Rattle.table.specs.Calls.{unlessRefused, filling, soundHeader, soundRanks, differing, wrongBytes, tableJudging, tableChecking}
-use Rattle.table.specs.Facts.{holds, lone, F-links, F-topology, F-falling, none, one, two, room, filled, checked, formed, FilledHold, CheckedHold, FormedHold}
-use Rattle.table.specs.Facts.{lone-table, T-table-0, T-table-1, T-table-2, T-table-free, F-table, F-table-1, F-table-falling}
+use Rattle.table.specs.Facts.{holds, lone, slope, F-links, F-topology, F-falling, none, one, two, room, filled, checked, formed, FilledHold, CheckedHold, FormedHold}
+use Rattle.table.specs.Facts.{lone-table, T-table-0, T-table-1, T-table-2, T-table-free, F-table, F-table-1, F-table-falling, slope-table-0, slope-table-2, slope-turned}
 
 pub filled-hold : FilledHold
 unfolding numbersFrom below keep every any leastBy insert sort member distinct sameNumbers wins
-    size idOf arcsOf greatestCost arcsAmong linked soundLink samePair pairsDiffer soundLinks
+    size idOf arcsOf greatestCost arcsAmong linked soundCost soundLink samePair pairsDiffer soundLinks
     absent distanceIn through of-distance.atFirst round rounds distances
     reached leadsInto ready candidate rank sortsBefore rankedBefore fullRow row
     turnedAway given noLink padded contents held zeros seen networkIn networkOf apart
     within inLimits wellLinked uncrowded none? connected isNoLink unusedZero slotted sound
-    joinedOver modeOf wrongRanks unreadyRanks atFirst judging checking answers link T-topology
+    joinedOver modeOf wrongRanks unreadyRanks atFirst judging checking answers link twoCosts T-topology
     rowBytes headerBytes rowOf rowsBytes tableBytes rowStart unlessRefused filling
-    holds lone F-links F-topology F-falling none one two room filled
-    lone-table T-table-0 T-table-1 T-table-2 T-table-free F-table F-table-1 F-table-falling
+    holds lone slope F-links F-topology F-falling none one two room filled
+    lone-table T-table-0 T-table-1 T-table-2 T-table-free F-table F-table-1 F-table-falling slope-table-0 slope-table-2
 filled-hold = tt
 
 pub checked-hold : CheckedHold
 unfolding numbersFrom below keep every any leastBy insert sort member distinct sameNumbers wins
-    size idOf arcsOf greatestCost arcsAmong linked soundLink samePair pairsDiffer soundLinks
+    size idOf arcsOf greatestCost arcsAmong linked soundCost soundLink samePair pairsDiffer soundLinks
     absent distanceIn through of-distance.atFirst round rounds distances
     reached leadsInto ready candidate candidatesInTurn holdsEachOnce firstIs othersInTurn accepted rank sortsBefore rankedBefore fullRow row
     firstOr noLink padded contents held zeros seen networkIn networkOf apart
     within inLimits wellLinked uncrowded none? connected isNoLink unusedZero slotted sound
-    joinedOver atFirst answers link T-topology
+    joinedOver atFirst answers link twoCosts T-topology
     rowBytes headerBytes rowOf rowsBytes tableBytes rowStart
     kindIn destinationIn countIn limitIn rankIn orderIn soundHeader soundRanks differing wrongBytes tableChecking tableJudging
-    holds lone F-links F-topology F-falling none one two checked
-    lone-table T-table-0 T-table-1 T-table-2 T-table-free F-table F-table-1 F-table-falling
+    holds lone slope F-links F-topology F-falling none one two checked
+    lone-table T-table-0 T-table-1 T-table-2 T-table-free F-table F-table-1 F-table-falling slope-table-0 slope-table-2 slope-turned
 checked-hold = tt
 
 pub formed-hold : FormedHold
@@ -52,6 +52,6 @@ unfolding numbersFrom below keep every any leastBy member distinct sameNumbers
     size arcsOf greatestCost arcsAmong linked
     absent distanceIn through of-distance.atFirst round rounds distances
     reached leadsInto shortestNextHops ready candidate candidatesInTurn holdsEachOnce firstIs othersInTurn accepted
-    firstOr noLink padded contents held seen networkIn networkOf link T-topology rowStart destinationIn rankIn orderIn inShortestPathMode
-    holds none one two T-table-0 T-table-free F-table formed
+    firstOr noLink padded contents held seen networkIn networkOf link twoCosts T-topology rowStart destinationIn rankIn orderIn inShortestPathMode
+    holds slope none one two T-table-0 T-table-free F-table slope-table-0 slope-table-2 formed
 formed-hold = tt

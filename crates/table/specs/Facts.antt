@@ -9,7 +9,7 @@ use lib.ListN.{replicate, set, take}
 use Rattle.network.specs.Lists.{every, sameNumbers}
 use Rattle.stations.specs.declared.Topology.{Topology}
 use Rattle.stations.specs.Topology.{held, zeros, networkOf}
-use Rattle.order.specs.Table.{answers, link, T-topology}
+use Rattle.order.specs.Table.{answers, link, twoCosts, T-topology}
 use Rattle.table.specs.Listed.{orderIn, inShortestPathMode}
 use Rattle.table.specs.Calls.{filling, tableChecking}
 
@@ -49,6 +49,12 @@ F-topology limit = F-links (1 ∷ 2 ∷ 3 ∷ 4 ∷ 5 ∷ 6 ∷ []) limit
 unfoldable pub F-falling : Topology
 F-falling = F-links (6 ∷ 5 ∷ 4 ∷ 3 ∷ 2 ∷ 1 ∷ []) 16
 
+-- 02, #105: three routers whose rows go by the direction of travel. For destination 0 the distances are 0, 1 and 2 + 1, so that place 2 lists place 1, at
+-- 3, before place 0, at 4; for destination 2 they are 1, 1 + 1 and 0, so that place 1 lists place 0, at 2, before place 2, at 4. By the costs of the other
+-- direction, or by one cost both ways, both rows turn round.
+unfoldable pub slope : Topology
+slope = held (record { ids = 1 ∷ 2 ∷ 3 ∷ []; links = twoCosts 0 1 9 1 ∷ twoCosts 0 2 1 4 ∷ twoCosts 2 1 2 4 ∷ []; limit = 3 })
+
 -- rows of no entry, one and two, behind each other: kind 17, rank, count, places, unused ones 255
 unfoldable pub none : ℕ → List ℕ → List ℕ
 none rank rest = 17 ∷ rank ∷ 0 ∷ (replicate 16 255 ++ rest)
@@ -77,6 +83,16 @@ T-table-2 = 16 ∷ 2 ∷ 3 ∷ 3 ∷ two 2 1 2 (one 1 2 (none 0 []))
 unfoldable pub T-table-free : List ℕ
 T-table-free = 16 ∷ 0 ∷ 3 ∷ 3 ∷ none 0 (two 2 0 2 (one 1 0 []))
 
+-- `slope`'s tables, and the first with the row of place 2 turned round
+unfoldable pub slope-table-0 : List ℕ
+slope-table-0 = 16 ∷ 0 ∷ 3 ∷ 3 ∷ none 0 (one 1 0 (two 2 1 0 []))
+
+unfoldable pub slope-table-2 : List ℕ
+slope-table-2 = 16 ∷ 2 ∷ 3 ∷ 3 ∷ one 1 2 (two 2 0 2 (none 0 []))
+
+unfoldable pub slope-turned : List ℕ
+slope-turned = 16 ∷ 0 ∷ 3 ∷ 3 ∷ none 0 (one 1 0 (two 2 0 1 []))
+
 -- 01, Two networks by hand: F's rows for d = 0, with K = 16 and with K = 1
 unfoldable pub F-table : List ℕ
 F-table = 16 ∷ 0 ∷ 6 ∷ 16 ∷ none 0 (two 2 0 2 (one 1 0 (two 4 1 4 (one 3 2 (two 5 4 3 [])))))
@@ -102,6 +118,8 @@ filled =
     ∷ fills (F-topology 1) 0 (0 ∷ 2 ∷ 1 ∷ 4 ∷ 3 ∷ 5 ∷ []) (room 118) 0 118 F-table-1
     ∷ fills F-falling 0 (0 ∷ 2 ∷ 1 ∷ 4 ∷ 3 ∷ 5 ∷ []) (room 118) 0 118 F-table-falling
     ∷ fills lone 0 (0 ∷ []) (room 23) 0 23 lone-table
+    ∷ fills slope 0 (0 ∷ 1 ∷ 2 ∷ []) (room 61) 0 61 slope-table-0
+    ∷ fills slope 2 (2 ∷ 0 ∷ 1 ∷ []) (room 61) 0 61 slope-table-2
     ∷ fills T-topology 0 (0 ∷ 1 ∷ 2 ∷ []) (room 60) 24 61 (room 60)
     ∷ fills T-topology 0 (0 ∷ 1 ∷ 2 ∷ []) [] 24 61 []
     ∷ fills zeros 0 [] (room 4) 14 0 (room 4)
@@ -124,6 +142,9 @@ checked =
     ∷ checks (F-topology 16) F-table-1 0 0
     ∷ checks F-falling F-table-falling 0 0
     ∷ checks lone lone-table 0 0
+    ∷ checks slope slope-table-0 0 0
+    ∷ checks slope slope-table-2 0 0
+    ∷ checks slope slope-turned 21 45
     ∷ checks zeros T-table-0 14 0
     ∷ checks T-topology (take 60 T-table-0) 21 60
     ∷ checks T-topology (T-table-0 ++ (255 ∷ [])) 21 62
@@ -157,6 +178,8 @@ formed =
     ∷ orders 6 F-table (0 ∷ 2 ∷ 1 ∷ 4 ∷ 3 ∷ 5 ∷ [])
     ∷ in-mode T-topology T-table-0 true
     ∷ in-mode T-topology T-table-free false
+    ∷ in-mode slope slope-table-0 true
+    ∷ in-mode slope slope-table-2 true
     ∷ []
 
 -- The three statements: every fact of the lists holds, by computing it.

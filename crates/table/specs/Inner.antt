@@ -10,7 +10,7 @@ use Rattle.stations.specs.declared.Topology.{Topology}
 use Rattle.stations.specs.Topology.{networkOf}
 use Rattle.soundness.specs.Sound.{sound}
 use Rattle.arcs.specs.declared.Arcs.{Arcs}
-use Rattle.arcs.specs.Arcs.{Holds}
+use Rattle.arcs.specs.Arcs.{Laid}
 use Rattle.rows.specs.Bytes.{tableLength}
 use Rattle.table.specs.Listed.{orderIn}
 use Rattle.table.specs.Calls.{soundHeader, soundRanks}
@@ -18,7 +18,7 @@ use Rattle.table.specs.Calls.{soundHeader, soundRanks}
 -- a table whose length, header and ranks were tested, and the order that its ranks form
 pub record Started (t : Topology) (a : Arcs) (table order : List ℕ) : Type 0 where
   pub on-sound : T (sound t)
-  pub holds : Holds (networkOf t) a
+  pub holds : Laid t a
   pub long : length table ≡ tableLength (t .routers)
   pub passes : T (soundHeader (t .routers) table && soundRanks (networkOf t) (t .routers) table)
   pub order-is : take (t .routers) order ≡ orderIn (t .routers) table

@@ -35,7 +35,7 @@ pub fn fill(t: Topology, destination: Place, order: &[u8], out: &mut [u8]) -> An
             at: needed,
         };
     }
-    let ds = distances::unchecked::to(&a.count, &a.to, &a.cost, n, destination);
+    let ds = distances::unchecked::to(&a.count, &a.to, &a.back, n, destination);
     rows::unchecked::fill(t, a, ds, destination, t.limit, order, out);
     Answer {
         number: 0,

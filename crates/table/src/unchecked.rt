@@ -18,7 +18,7 @@ ghost use Rattle.stations.specs.Inner.{firstOr};
 ghost use Rattle.stations.specs.Limits.{mostRouters};
 ghost use Rattle.stations.specs.Topology.{networkOf};
 ghost use Rattle.soundness.specs.Sound.{sound};
-ghost use Rattle.arcs.specs.Arcs.{Holds};
+ghost use Rattle.arcs.specs.Arcs.{Laid};
 ghost use Rattle.order.specs.declared.Mode.the-variants as «mode-of»;
 ghost use Rattle.order.specs.Calls.{modeOf, judging};
 ghost use Rattle.rows.specs.Bytes.{tableBytes, tableLength};
@@ -28,13 +28,13 @@ ghost use Rattle.table.specs.Inner.{Started};
 
 // Whether an order is accepted in free mode, which needs no distances: refusals 17 to 20.
 pub(crate) fn judge(t: Topology, a: Arcs, destination: Place, order: &[u8]) -> Answer
-    requires { ⌜ T (sound t) × Holds (networkOf t) a × (destination .0 < t .routers) ⌝ }
+    requires { ⌜ T (sound t) × Laid t a × (destination .0 < t .routers) ⌝ }
     ensures { λ r. ⌜ r ≡ judging t (destination .0) «mode-of».Free (now (order .entry)) ⌝ }
 {
     let ds = order::unchecked::distances_for(
         &a.count,
         &a.to,
-        &a.cost,
+        &a.back,
         t.routers,
         destination,
         Mode::Free,
@@ -69,7 +69,7 @@ fn first_wrong(t: Topology, a: Arcs, table: &[u8], order: [u8; ROUTERS]) -> usiz
     let length = table.len();
     let destination = Place(table[1]);
     let limit = table[3];
-    let ds = distances::unchecked::to(&a.count, &a.to, &a.cost, n, destination);
+    let ds = distances::unchecked::to(&a.count, &a.to, &a.back, n, destination);
     let mut room = reading::room_for_table();
     rows::unchecked::fill(t, a, ds, destination, limit, &order[..n], &mut room);
     reading::first_difference(table, &room[..length])
@@ -77,7 +77,7 @@ fn first_wrong(t: Topology, a: Arcs, table: &[u8], order: [u8; ROUTERS]) -> usiz
 
 // Whether a table is accepted: refusal 21.
 pub fn check(t: Topology, a: Arcs, table: &[u8]) -> Answer
-    requires { ⌜ T (sound t) × Holds (networkOf t) a ⌝ }
+    requires { ⌜ T (sound t) × Laid t a ⌝ }
     ensures { λ r. ⌜ r ≡ tableJudging t (now (table .entry)) ⌝ }
 {
     let n = t.routers;
@@ -108,16 +108,17 @@ pub fn check(t: Topology, a: Arcs, table: &[u8]) -> Answer
 
 // The table of the destination for the order that is built in the mode and the topology's K, into the first bytes of the slice.
 pub fn build(t: Topology, a: Arcs, destination: Place, mode: Mode, out: &mut [u8])
-    requires { ⌜ T (sound t) × Holds (networkOf t) a × (destination .0 < t .routers) × (tableLength (t .routers) ≤ length (now out)) ⌝ }
+    requires { ⌜ T (sound t) × Laid t a × (destination .0 < t .routers) × (tableLength (t .routers) ≤ length (now out)) ⌝ }
     ensures { λ _. ⌜ now (out .exit) ≡ tableBytes (networkOf t) (destination .0) (t .limit) («said-order».build (networkOf t) (destination .0) (modeOf mode)) ++ drop (tableLength (t .routers)) (now (out .entry)) ⌝ }
 {
     let n = t.routers;
-    let ds = distances::unchecked::to(&a.count, &a.to, &a.cost, n, destination);
+    let ds = distances::unchecked::to(&a.count, &a.to, &a.back, n, destination);
     let mut order = [0u8; ROUTERS];
     order::unchecked::build(
         &a.count,
         &a.to,
         &a.cost,
+        &a.back,
         &ds,
         &t.id,
         n,

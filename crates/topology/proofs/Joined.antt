@@ -1,26 +1,21 @@
--- Records of one width, one for each element of a list: how long they are, and one more put behind the others.
+-- Records, one for each element of a list: how long they are, and one more put behind the others, where the others end.
 -- Assumes nothing.
 use Prim.Native.Nat.{ℕ, _+_, _*_, _≤_, _<_}
 use mathlib.Core.List.{List, [], _∷_, _++_, append-assoc, append-nil, List·Memᴰ, List·Memᴰ·head, List·Memᴰ·tail}
 use mathlib.Core.Path.{_≡_, refl, sym, ap, ap₂, _∙_}
-use native.Mathlib.Nat.{mul-zero, mul-suc, mul-le-mul-left}
+use native.Mathlib.Nat.{mul-zero, mul-suc}
 use native.Mathlib.Omega.{arith}
-use lib.ListN.{length, take, getD, length-append}
-use lib.Seq.{length-take-le}
-use Rattle.stations.specs.declared.Link.{Link}
+use lib.ListN.{length, take, drop, getD, length-append, take-append-drop}
+use lib.Seq.{take-take}
 use Rattle.stations.proofs.Prefix.{take-more}
 use Rattle.stream.specs.Stream.{inBytes}
-use Rattle.topology.specs.Written.{joinedOver, routerBytes, linkBytes}
+use Rattle.topology.specs.Written.{joinedOver, routerBytes}
 use Rattle.topology.specs.Inner.{over}
 use Rattle.topology.proofs.Over.{over-none, over-length, over-over}
 
 pub router-five : (id : ℕ) → length (routerBytes id) ≡ 5
 unfolding routerBytes inBytes
 router-five id = refl
-
-pub link-five : (l : Link) → length (linkBytes l) ≡ 5
-unfolding linkBytes inBytes
-link-five l = refl
 
 -- texts that are the same for each element
 pub joined-same : {A : Type 0} (f g : A → List ℕ) (xs : List A) → ((x : A) → List·Memᴰ x xs → f x ≡ g x) → joinedOver f xs ≡ joinedOver g xs
@@ -50,46 +45,69 @@ module _ {A : Type 0} (f : A → List ℕ) where
     pub joined-many : (xs : List A) {i : ℕ} → length xs ≡ i → length (joinedOver f xs) ≡ width * i
     joined-many xs many = joined-length xs ∙ ap (λ (n : ℕ). width * n) many
 
-    -- a buffer into which the records of the elements of a list were put, of which there are i
-    module _ (buffer : List ℕ) (at : ℕ) (xs : List A) {i : ℕ} (many : length xs ≡ i) {out : List ℕ} (put : out ≡ over buffer at (joinedOver f xs)) where
-      pub put-length : at + width * i ≤ length buffer → length out ≡ length buffer
-      put-length fits = rw put (over-length buffer at (joinedOver f xs) (rw (joined-many xs many) fits))
+  -- a buffer into which the records of the elements of a list were put, up to the offset next
+  module _
+      (buffer : List ℕ)
+      (at : ℕ)
+      (xs : List A)
+      {next : ℕ}
+      (after : next ≡ at + length (joinedOver f xs))
+      {out : List ℕ}
+      (put : out ≡ over buffer at (joinedOver f xs))
+      (fits : next ≤ length buffer)
+    where
+      pub put-length : length out ≡ length buffer
+      put-length = rw put (over-length buffer at (joinedOver f xs) (omega arith))
 
       -- `more` has one element more
-      pub put-next : (x : A) {more : List A} → more ≡ xs ++ (x ∷ []) → at + width * i ≤ length buffer →
-          over out (at + width * i) (f x) ≡ over buffer at (joinedOver f more)
-      put-next x longer fits =
-          rw (put, over-over buffer at (joinedOver f xs) (f x) (at + width * i) (rw (joined-many xs many)) (omega arith)) (sym (rw (longer, joined-last)))
+      pub put-next : (x : A) {more : List A} → more ≡ xs ++ (x ∷ []) → over out next (f x) ≡ over buffer at (joinedOver f more)
+      put-next x longer = rw (put, over-over buffer at (joinedOver f xs) (f x) next after (omega arith)) (sym (rw (longer, joined-last)))
 
-    -- a buffer, with room for the records of the first n elements of a list, into which those of the first i were put
-    pub record FirstPut (buffer : List ℕ) (at : ℕ) (xs : List A) (n : ℕ) (out : List ℕ) (i : ℕ) : Type 0 where
-      pub inside : n ≤ length xs
-      pub room : at + width * n ≤ length buffer
-      pub few : i ≤ n
-      pub so-far : out ≡ over buffer at (joinedOver f (take i xs))
+  -- how long the records of the first elements are: one element more adds its own, and those of more are no shorter
+  module _ (xs : List A) where
+    pub firsts-more : (i : ℕ) (z : A) → i < length xs →
+        length (joinedOver f (take (i + 1) xs)) ≡ length (joinedOver f (take i xs)) + length (f (getD xs i z))
+    firsts-more i z h = rw (take-more xs i z h, joined-last) (length-append (joinedOver f (take i xs)) (f (getD xs i z)))
 
-    module _ {buffer : List ℕ} {at : ℕ} {xs : List A} {n : ℕ} where
-      pub first-none : n ≤ length xs → at + width * n ≤ length buffer → FirstPut buffer at xs n buffer 0
-      unfolding joinedOver
-      first-none inside room = record { inside = inside; room = room; few = omega arith; so-far = sym (over-none buffer at) }
+    pub firsts-grow : (i n : ℕ) → i ≤ n → length (joinedOver f (take i xs)) ≤ length (joinedOver f (take n xs))
+    firsts-grow i n few =
+        let apart : take n xs ≡ take i xs ++ drop i (take n xs) = sym (rw (take-take i n xs few) at (take-append-drop i (take n xs))) in
+        rw (apart, joined-behind) (simp length-append (omega arith))
 
-      module _ {out : List ℕ} {i : ℕ} (p : FirstPut buffer at xs n out i) where
-        many : length (take i xs) ≡ i
-        many = length-take-le i xs (omega arith)
+  -- a buffer, with room for the records of the first n elements of a list, into which those of the first i were put, up to the offset next
+  pub record FirstPut (buffer : List ℕ) (at : ℕ) (xs : List A) (n : ℕ) (out : List ℕ) (i next : ℕ) : Type 0 where
+    pub inside : n ≤ length xs
+    pub room : at + length (joinedOver f (take n xs)) ≤ length buffer
+    pub few : i ≤ n
+    pub after : next ≡ at + length (joinedOver f (take i xs))
+    pub so-far : out ≡ over buffer at (joinedOver f (take i xs))
 
-        enough : at + width * i ≤ length buffer
-        enough = omega (arith, mul-le-mul-left width (p .few))
+  module _ {buffer : List ℕ} {at : ℕ} {xs : List A} {n : ℕ} where
+    pub first-none : {start : ℕ} → start ≡ at → n ≤ length xs → at + length (joinedOver f (take n xs)) ≤ length buffer →
+        FirstPut buffer at xs n buffer 0 start
+    unfolding joinedOver
+    first-none here inside room = record { inside = inside; room = room; few = omega arith; after = omega arith; so-far = sym (over-none buffer at) }
 
-        pub first-length : length out ≡ length buffer
-        first-length = put-length buffer at (take i xs) many (p .so-far) enough
+    module _ {out : List ℕ} {i next : ℕ} (p : FirstPut buffer at xs n out i next) where
+      within : next ≤ length buffer
+      within = omega (arith, firsts-grow xs i n (p .few))
 
-        pub first-next : (z : A) {more : List ℕ} → i < n → more ≡ over out (at + width * i) (f (getD xs i z)) → FirstPut buffer at xs n more (i + 1)
-        first-next z turn e = record {
-          inside = p .inside;
-          room = p .room;
-          few = omega arith;
-          so-far = e ∙ put-next buffer at (take i xs) many (p .so-far) (getD xs i z) (take-more xs i z (omega arith)) enough;
-        }
+      pub first-length : length out ≡ length buffer
+      first-length = put-length buffer at (take i xs) (p .after) (p .so-far) within
 
-        pub first-all : n ≤ i → out ≡ over buffer at (joinedOver f (take n xs))
-        first-all all = let e : i ≡ n = omega arith in rw e at (p .so-far)
+      -- the next one fits
+      pub first-fits : (z : A) → i < n → next + length (f (getD xs i z)) ≤ length out
+      first-fits z turn = omega (arith, first-length, firsts-more xs i z (omega arith), firsts-grow xs (i + 1) n (omega arith))
+
+      pub first-next : (z : A) {more : List ℕ} {then : ℕ} → i < n → then ≡ next + length (f (getD xs i z)) → more ≡ over out next (f (getD xs i z)) →
+          FirstPut buffer at xs n more (i + 1) then
+      first-next z turn ends e = record {
+        inside = p .inside;
+        room = p .room;
+        few = omega arith;
+        after = omega (arith, firsts-more xs i z (omega arith));
+        so-far = e ∙ put-next buffer at (take i xs) (p .after) (p .so-far) within (getD xs i z) (take-more xs i z (omega arith));
+      }
+
+      pub first-all : n ≤ i → (next ≡ at + length (joinedOver f (take n xs))) × (out ≡ over buffer at (joinedOver f (take n xs)))
+      first-all all = let e : i ≡ n = omega arith in (rw e at (p .after), rw e at (p .so-far))

@@ -2,8 +2,8 @@
 -- where a refusal points, and in the K that is held where no record 8 follows.
 -- Assumes nothing.
 use Prim.Native.Nat.{ℕ, zero, suc, _+_, _≤_, _<_}
-use mathlib.Core.Bool.{Bool, true, false, cond, not, _&&_, _||_, true≢false}
-use mathlib.Core.List.{List, [], _∷_, map, List·Memᴰ, List·Memᴰ·head, List·Memᴰ·tail, List·Memᴰ·cases-cons, List·Memᴰ·not-nil}
+use mathlib.Core.Bool.{Bool, true, false, cond, not, _&&_, true≢false}
+use mathlib.Core.List.{List, [], _∷_, List·Memᴰ, List·Memᴰ·head, List·Memᴰ·tail, List·Memᴰ·cases-cons, List·Memᴰ·not-nil}
 use mathlib.Core.Logic.{_≢_, ⊎-elim}
 use mathlib.Core.Path.{_≡_, refl, sym, ap, _∙_}
 use native.Mathlib.Omega.{arith}
@@ -12,21 +12,21 @@ use lib.Dec.{T, eqb, ltb, leb}
 use lib.ListN.{length, drop, drop-of-length-le}
 use lib.Seq.{take-append-seam}
 use Rattle.network.specs.Lists.{any, member}
-use Rattle.network.specs.Network.{samePair}
-use Rattle.stations.specs.declared.Link.{Link}
+use Rattle.stations.specs.declared.Half.{Half}
 use Rattle.stations.specs.declared.Topology.{Topology}
 use Rattle.stations.specs.Outcome.{answer, turnedAway, given}
-use Rattle.stations.specs.Topology.{Contents, noLink, padded, held, zeros, seen, networkIn}
+use Rattle.stations.specs.Topology.{Contents, noLink, padded, held, zeros, networkIn}
 use Rattle.soundness.specs.Apart.{apart}
 use Rattle.soundness.specs.Sound.{within}
 use Rattle.stream.specs.declared.Reading.{Reading}
 use Rattle.stream.specs.declared.Record.{Record}
 use Rattle.stream.specs.declared.Record.the-variants as record-of
 use Rattle.stream.specs.Stream.{bodyLength, decoded, recordIn, records}
-use Rattle.stream.specs.Reading.{refusal, accepted, routerFault, crowded, linkFault, fault, added, width, isEnd, joined, ended, unless, some?, inTurn}
-use Rattle.stream.specs.Reading.{nothingListed, reading}
+use Rattle.stream.specs.Halves.{Listing, halves}
+use Rattle.stream.specs.Reading.{refusal, accepted, routerFault, repeated, crowded, halvesFault, fault, withRouter, withLink, withLimit, arrived, added}
+use Rattle.stream.specs.Reading.{width, isEnd, joined, ended, unless, some?, inTurn, nothingListed, reading}
 use Rattle.stream.specs.Theorems.{success, refused}
-use Rattle.stream.proofs.InTurn.{next-router, next-link, next-limit, next-unknown, next-end, next-cut, goes-on}
+use Rattle.stream.proofs.InTurn.{next-router, next-link, next-half, next-limit, next-unknown, next-end, next-cut, goes-on}
 use Rattle.stream.proofs.Stream.{records-drop, no-bytes}
 use Rattle.topology.specs.Inner.{over}
 use Rattle.topology.specs.OldLimit.{withOldLimit}
@@ -63,10 +63,12 @@ records-cut = record {
   none = no-bytes;
   router = next-router;
   link = next-link;
+  half = next-half;
   limit = next-limit;
   end = next-end;
   router-cut = cut-short 1;
   link-cut = cut-short 2;
+  half-cut = cut-short 4;
   limit-cut = cut-short 8 [] (omega arith);
   unknown = next-unknown;
 }
@@ -81,37 +83,39 @@ abbrev Other : ℕ → Type 0
 Other number = number ≢ 13
 
 abbrev Never : Record → Type 0
-Never r = (c : Contents) → Other (fault c r)
+Never r = (p : Listing) → Other (fault p r)
 
 other : (number : ℕ) → T (not (eqb number 13)) → Other number
 other number t e = rw (eq-eqb number 13 e) at t
 
 never-router : (id : ℕ) → Never (record-of.Router id)
 unfolding fault routerFault
-never-router id c =
-    either-way Other (member id (c .ids)) (other 3 tt) (either-way Other (leb 64 (length (c .ids))) (other 4 tt) (other 0 tt))
+never-router id p =
+    let ids = p .contents .ids in
+    either-way Other (member id ids) (other 3 tt) (either-way Other (leb 64 (length ids)) (other 4 tt) (other 0 tt))
 
-never-link : (l : Link) → Never (record-of.Link l)
-unfolding fault linkFault
-never-link l c =
-    either-way Other (not (ltb (l .first .0) (length (c .ids)) && ltb (l .second .0) (length (c .ids)))) (other 5 tt)
-    (either-way Other (eqb (l .first .0) (l .second .0)) (other 6 tt)
-    (either-way Other (eqb (l .cost) 0) (other 7 tt)
-    (either-way Other (any (samePair (seen l)) (map seen (c .links))) (other 8 tt)
-    (either-way Other (leb 256 (length (c .links))) (other 9 tt)
-    (either-way Other (crowded c (l .first .0) || crowded c (l .second .0)) (other 10 tt) (other 0 tt))))))
+never-halves : (h : Half) (new : List Half) (p : Listing) → Other (halvesFault p h new)
+unfolding halvesFault
+never-halves h new p =
+    let n = length (p .contents .ids) in
+    either-way Other (not (ltb (h .from .0) n && ltb (h .to .0) n)) (other 5 tt)
+    (either-way Other (eqb (h .from .0) (h .to .0)) (other 6 tt)
+    (either-way Other (eqb (h .cost) 0) (other 7 tt)
+    (either-way Other (any (repeated p) new) (other 8 tt)
+    (either-way Other (ltb 512 (length (halves p) + length new)) (other 9 tt)
+    (either-way Other (any (λ k. crowded p (k .from .0)) new) (other 10 tt) (other 0 tt))))))
 
 never-limit : (k : ℕ) → Never (record-of.Limit k)
 unfolding fault
-never-limit k c = either-way Other (within 16 k) (other 0 tt) (other 16 tt)
+never-limit k p = either-way Other (within 16 k) (other 0 tt) (other 16 tt)
 
 never-in : (s : List ℕ) → Never (recordIn s)
 unfolding recordIn decoded fault
 never-in [] = λ c. other 1 tt
 never-in (kind ∷ rest) =
     either-way Never (ltb (length rest) (bodyLength kind)) (λ c. other 1 tt)
-    (either-way Never (eqb kind 1) (never-router _) (either-way Never (eqb kind 2) (never-link _)
-    (either-way Never (eqb kind 8) (never-limit _) (either-way Never (eqb kind 3) (λ c. other 0 tt) (λ c. other 2 tt)))))
+    (either-way Never (eqb kind 1) (never-router _) (either-way Never (eqb kind 2) (never-halves _ _) (either-way Never (eqb kind 4) (never-halves _ _)
+    (either-way Never (eqb kind 8) (never-limit _) (either-way Never (eqb kind 3) (λ c. other 0 tt) (λ c. other 2 tt))))))
 
 never-among : (n : ℕ) (s : List ℕ) (r : Record) → List·Memᴰ r (records n s) → Never r
 unfolding records
@@ -120,20 +124,21 @@ never-among zero (kind ∷ rest) r m =
     ⊎-elim (λ e. rw e (never-in (kind ∷ rest))) (λ k. never-among (bodyLength kind) rest r k) (List·Memᴰ·cases-cons m)
 never-among (suc n) (b ∷ rest) r m = never-among n rest r m
 
--- contents with K 16
-sixteenIn : Contents → Contents
-sixteenIn c = record { ids = c .ids; links = c .links; limit = 16 }
+-- what is listed, with K 16
+sixteenIn : Listing → Listing
+sixteenIn p = record { contents = withLimit (p .contents) 16; lone = p .lone }
 
 -- what is listed in the two readings: the same once a record 8 was taken, and up to K before that
-data Alike : Bool → Contents → Contents → Type 0 where
-  same : (c : Contents) → Alike true c c
-  but-limit : (c : Contents) → Alike false c (sixteenIn c)
+data Alike : Bool → Listing → Listing → Type 0 where
+  same : (p : Listing) → Alike true p p
+  but-limit : (p : Listing) → Alike false p (sixteenIn p)
 
 -- whether a record 8 was taken, by the records after
 taken : Bool → List Record → Bool
 taken b [] = b
 taken b (record-of.Router id ∷ rs) = taken b rs
-taken b (record-of.Link l ∷ rs) = taken b rs
+taken b (record-of.Link h ∷ rs) = taken b rs
+taken b (record-of.Half h ∷ rs) = taken b rs
 taken b (record-of.Limit k ∷ rs) = taken true rs
 taken b (record-of.End ∷ rs) = taken b rs
 taken b (record-of.Refused number ∷ rs) = taken b rs
@@ -143,16 +148,17 @@ data Moved : Bool → Reading → Reading → Type 0 where
   on : {b : Bool} (number at : ℕ) → number ≢ 0 → number ≢ 13 → Moved b (refusal number at) (refusal number (at + 2))
   apart-alike : {b : Bool} (place : ℕ) → Moved b (refusal 13 place) (refusal 13 place)
   kept : (c : Contents) → Moved true (accepted c) (accepted c)
-  limited : (c : Contents) → Moved false (accepted c) (accepted (sixteenIn c))
+  limited : (c : Contents) → Moved false (accepted c) (accepted (withLimit c 16))
 
-fault-alike : {b : Bool} {c d : Contents} → Alike b c d → (r : Record) → fault d r ≡ fault c r
-unfolding sixteenIn fault routerFault linkFault crowded networkIn
-fault-alike (same c) r = refl
-fault-alike (but-limit c) (record-of.Router id) = refl
-fault-alike (but-limit c) (record-of.Link l) = refl
-fault-alike (but-limit c) (record-of.Limit k) = refl
-fault-alike (but-limit c) record-of.End = refl
-fault-alike (but-limit c) (record-of.Refused number) = refl
+fault-alike : {b : Bool} {p q : Listing} → Alike b p q → (r : Record) → fault q r ≡ fault p r
+unfolding sixteenIn withLimit fault routerFault halvesFault repeated crowded halves
+fault-alike (same p) r = refl
+fault-alike (but-limit p) (record-of.Router id) = refl
+fault-alike (but-limit p) (record-of.Link h) = refl
+fault-alike (but-limit p) (record-of.Half h) = refl
+fault-alike (but-limit p) (record-of.Limit k) = refl
+fault-alike (but-limit p) record-of.End = refl
+fault-alike (but-limit p) (record-of.Refused number) = refl
 
 -- the end record, with bytes behind it and without
 end-followed : {b : Bool} (c d : Contents) (at : ℕ) → Moved b (ended true at c) (ended true (at + 2) d)
@@ -161,21 +167,22 @@ end-followed c d at =
     let turned : at + 2 + 1 ≡ at + 1 + 2 = omega arith in
     rw turned (on 11 (at + 1) (λ e. omega arith) (λ e. omega arith))
 
-end-alike : {b : Bool} {c d : Contents} → Alike b c d → (at : ℕ) → Moved b (ended false at c) (ended false (at + 2) d)
-unfolding sixteenIn ended joined apart networkIn
-end-alike (same c) at = cases (eqb (length (c .ids)) 0) (apart c)
+end-alike : {b : Bool} {p q : Listing} → Alike b p q → (at : ℕ) → Moved b (ended false at (p .contents)) (ended false (at + 2) (q .contents))
+unfolding sixteenIn withLimit ended joined apart networkIn
+end-alike (same p) at = cases (eqb (length (p .contents .ids)) 0) (apart (p .contents))
   where
     cases : (none : Bool) (places : List ℕ) →
-        Moved true (cond none (refusal 12 at) (joined c places)) (cond none (refusal 12 (at + 2)) (joined c places))
+        Moved true (cond none (refusal 12 at) (joined (p .contents) places)) (cond none (refusal 12 (at + 2)) (joined (p .contents) places))
     cases true places = on 12 at (λ e. omega arith) (λ e. omega arith)
-    cases false [] = kept c
+    cases false [] = kept (p .contents)
     cases false (u ∷ us) = apart-alike u
-end-alike (but-limit c) at = cases (eqb (length (c .ids)) 0) (apart c)
+end-alike (but-limit p) at = cases (eqb (length (p .contents .ids)) 0) (apart (p .contents))
   where
     cases : (none : Bool) (places : List ℕ) →
-        Moved false (cond none (refusal 12 at) (joined c places)) (cond none (refusal 12 (at + 2)) (joined (sixteenIn c) places))
+        Moved false (cond none (refusal 12 at) (joined (p .contents) places))
+        (cond none (refusal 12 (at + 2)) (joined (withLimit (p .contents) 16) places))
     cases true places = on 12 at (λ e. omega arith) (λ e. omega arith)
-    cases false [] = limited c
+    cases false [] = limited (p .contents)
     cases false (u ∷ us) = apart-alike u
 
 unless-moved : {b : Bool} {x y : Reading} (number at : ℕ) → number ≢ 13 → Moved b x y → Moved b (unless number at x) (unless number (at + 2) y)
@@ -184,36 +191,45 @@ unless-moved zero at h m = m
 unless-moved (suc number) at h m = on (suc number) at (λ e. omega arith) h
 
 -- a record that is not the end, if the records after it are taken alike
-module _ {b : Bool} {c d : Contents} (a : Alike b c d) (r : Record) (n : Never r) (rs : List Record) (at : ℕ) where
-  more : {f : Bool} → isEnd r ≡ false → Moved f (inTurn (at + width r) (added c r) rs) (inTurn (at + width r + 2) (added d r) rs) →
-      Moved f (inTurn at c (r ∷ rs)) (inTurn (at + 2) d (r ∷ rs))
+module _ {b : Bool} {p q : Listing} (a : Alike b p q) (r : Record) (n : Never r) (rs : List Record) (at : ℕ) where
+  more : {f : Bool} → isEnd r ≡ false → Moved f (inTurn (at + width r) (added p r) rs) (inTurn (at + width r + 2) (added q r) rs) →
+      Moved f (inTurn at p (r ∷ rs)) (inTurn (at + 2) q (r ∷ rs))
   unfolding inTurn
   more e m =
       let swap : at + 2 + width r ≡ at + width r + 2 = omega arith in
-      rw (fault-alike a r, e, swap) (unless-moved (fault c r) at (n c) m)
+      rw (fault-alike a r, e, swap) (unless-moved (fault p r) at (n p) m)
 
 -- records after what is listed alike
-grown : {b : Bool} {c d : Contents} → Alike b c d → (r : Record) → Alike (taken b (r ∷ [])) (added c r) (added d r)
-unfolding taken added sixteenIn
-grown (same c) (record-of.Router id) = same _
-grown (same c) (record-of.Link l) = same _
-grown (same c) (record-of.Limit k) = same _
-grown (same c) record-of.End = same _
-grown (same c) (record-of.Refused number) = same _
-grown (but-limit c) (record-of.Router id) = but-limit _
-grown (but-limit c) (record-of.Link l) = but-limit _
-grown (but-limit c) (record-of.Limit k) = same _
-grown (but-limit c) record-of.End = but-limit _
-grown (but-limit c) (record-of.Refused number) = but-limit _
+arrived-alike : (p : Listing) (h : Half) (ks : List Half) → Alike false (arrived p h ks) (arrived (sixteenIn p) h ks)
+unfolding sixteenIn withLimit withLink arrived
+arrived-alike p h [] = but-limit _
+arrived-alike p h (k ∷ ks) = but-limit _
 
-turns : {b : Bool} {c d : Contents} → Alike b c d → (rs : List Record) → ((r : Record) → List·Memᴰ r rs → Never r) → (at : ℕ) →
-    Moved (taken b rs) (inTurn at c rs) (inTurn (at + 2) d rs)
+grown : {b : Bool} {p q : Listing} → Alike b p q → (r : Record) → Alike (taken b (r ∷ [])) (added p r) (added q r)
+unfolding taken added withRouter withLink withLimit sixteenIn
+grown (same p) (record-of.Router id) = same _
+grown (same p) (record-of.Link h) = same _
+grown (same p) (record-of.Half h) = same _
+grown (same p) (record-of.Limit k) = same _
+grown (same p) record-of.End = same _
+grown (same p) (record-of.Refused number) = same _
+grown (but-limit p) (record-of.Router id) = but-limit _
+grown (but-limit p) (record-of.Link h) = but-limit _
+grown (but-limit p) (record-of.Half h) = arrived-alike p h _
+grown (but-limit p) (record-of.Limit k) = same _
+grown (but-limit p) record-of.End = but-limit _
+grown (but-limit p) (record-of.Refused number) = but-limit _
+
+turns : {b : Bool} {p q : Listing} → Alike b p q → (rs : List Record) → ((r : Record) → List·Memᴰ r rs → Never r) → (at : ℕ) →
+    Moved (taken b rs) (inTurn at p rs) (inTurn (at + 2) q rs)
 unfolding taken inTurn unless fault isEnd some?
 turns a [] never at = on 1 at (λ e. omega arith) (λ e. omega arith)
 turns a (record-of.Router id ∷ rs) never at =
     more a _ (never _ (List·Memᴰ·head refl)) rs at refl (turns (grown a (record-of.Router id)) rs (λ r m. never r (List·Memᴰ·tail m)) _)
-turns a (record-of.Link l ∷ rs) never at =
-    more a _ (never _ (List·Memᴰ·head refl)) rs at refl (turns (grown a (record-of.Link l)) rs (λ r m. never r (List·Memᴰ·tail m)) _)
+turns a (record-of.Link h ∷ rs) never at =
+    more a _ (never _ (List·Memᴰ·head refl)) rs at refl (turns (grown a (record-of.Link h)) rs (λ r m. never r (List·Memᴰ·tail m)) _)
+turns a (record-of.Half h ∷ rs) never at =
+    more a _ (never _ (List·Memᴰ·head refl)) rs at refl (turns (grown a (record-of.Half h)) rs (λ r m. never r (List·Memᴰ·tail m)) _)
 turns a (record-of.Limit k ∷ rs) never at =
     more a _ (never _ (List·Memᴰ·head refl)) rs at refl (turns (grown a (record-of.Limit k)) rs (λ r m. never r (List·Memᴰ·tail m)) _)
 turns a (record-of.Refused number ∷ rs) never at =
@@ -230,7 +246,8 @@ taken-already : (rs : List Record) → taken true rs ≡ true
 unfolding taken
 taken-already [] = refl
 taken-already (record-of.Router id ∷ rs) = taken-already rs
-taken-already (record-of.Link l ∷ rs) = taken-already rs
+taken-already (record-of.Link h ∷ rs) = taken-already rs
+taken-already (record-of.Half h ∷ rs) = taken-already rs
 taken-already (record-of.Limit k ∷ rs) = taken-already rs
 taken-already (record-of.End ∷ rs) = taken-already rs
 taken-already (record-of.Refused number ∷ rs) = taken-already rs
@@ -240,7 +257,8 @@ unfolding taken
 taken-some [] k m = absurd (List·Memᴰ·not-nil m)
 taken-some (record-of.Limit j ∷ rs) k m = taken-already rs
 taken-some (record-of.Router id ∷ rs) k m = taken-some rs k (behind (λ e. let z : _≡_ {A = ℕ} 0 1 = cc in omega arith) m)
-taken-some (record-of.Link l ∷ rs) k m = taken-some rs k (behind (λ e. let z : _≡_ {A = ℕ} 0 1 = cc in omega arith) m)
+taken-some (record-of.Link h ∷ rs) k m = taken-some rs k (behind (λ e. let z : _≡_ {A = ℕ} 0 1 = cc in omega arith) m)
+taken-some (record-of.Half h ∷ rs) k m = taken-some rs k (behind (λ e. let z : _≡_ {A = ℕ} 0 1 = cc in omega arith) m)
 taken-some (record-of.End ∷ rs) k m = taken-some rs k (behind (λ e. let z : _≡_ {A = ℕ} 0 1 = cc in omega arith) m)
 taken-some (record-of.Refused number ∷ rs) k m = taken-some rs k (behind (λ e. let z : _≡_ {A = ℕ} 0 1 = cc in omega arith) m)
 
@@ -249,14 +267,15 @@ unfolding taken
 taken-none [] none = refl
 taken-none (record-of.Limit k ∷ rs) none = absurd (none k (List·Memᴰ·head refl))
 taken-none (record-of.Router id ∷ rs) none = taken-none rs (λ k m. none k (List·Memᴰ·tail m))
-taken-none (record-of.Link l ∷ rs) none = taken-none rs (λ k m. none k (List·Memᴰ·tail m))
+taken-none (record-of.Link h ∷ rs) none = taken-none rs (λ k m. none k (List·Memᴰ·tail m))
+taken-none (record-of.Half h ∷ rs) none = taken-none rs (λ k m. none k (List·Memᴰ·tail m))
 taken-none (record-of.End ∷ rs) none = taken-none rs (λ k m. none k (List·Memᴰ·tail m))
 taken-none (record-of.Refused number ∷ rs) none = taken-none rs (λ k m. none k (List·Memᴰ·tail m))
 
 module _ (stream : List ℕ) where
   -- the reading of the stream, with the K of a stream that gives none, and before
   front : reading (8 ∷ 16 ∷ stream) ≡ inTurn 2 (sixteenIn nothingListed) (records 0 stream)
-  unfolding reading nothingListed sixteenIn added width fault within isEnd
+  unfolding reading nothingListed sixteenIn withLimit added width fault within isEnd
   front = rw (next-limit 16 stream, goes-on 0 nothingListed (record-of.Limit 16) (records 0 stream) refl refl)
 
   moved : Moved (taken false (records 0 stream)) (reading stream) (reading (8 ∷ 16 ∷ stream))
@@ -264,12 +283,12 @@ module _ (stream : List ℕ) where
   moved = rw front (turns (but-limit nothingListed) (records 0 stream) (never-among 0 stream) 0)
 
   moved-before : Moved (taken true (records 0 stream)) (readBefore stream) (reading (8 ∷ 16 ∷ stream))
-  unfolding readBefore sixteenIn nothingListed
+  unfolding readBefore sixteenIn withLimit nothingListed
   moved-before = rw front (turns (same _) (records 0 stream) (never-among 0 stream) 0)
 
 -- what they return
 of-unlimited : {b : Bool} {x y : Reading} → Moved b x y → b ≡ false → (t : Topology) → x ≡ success t → y ≡ success (sixteen t)
-unfolding refusal accepted sixteenIn held
+unfolding refusal accepted withLimit held
 of-unlimited (on number at some other) e t r = absurd (some (ap (λ (r : Reading). r .answer .number) r))
 of-unlimited (apart-alike place) e t r = absurd (omega (arith, ap (λ (r : Reading). r .answer .number) r))
 of-unlimited (kept c) e t r = absurd (true≢false e)

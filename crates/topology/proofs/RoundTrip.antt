@@ -4,14 +4,16 @@
 use Prim.Native.Nat.{ℕ, _+_, _-_, _/_, _%_, _≤_, _<_, _^_}
 use mathlib.Core.List.{List, [], _∷_, _++_, List·Memᴰ, List·Memᴰ·head, List·Memᴰ·tail, List·Memᴰ·not-nil, List·Memᴰ·cases-cons, Memᴰ·map}
 use mathlib.Core.List.{List·Memᴰ·append-cases}
+use mathlib.Core.Bool.{Bool, true, false, cond}
 use mathlib.Core.Logic.{⊎-elim}
 use mathlib.Core.Path.{_≡_, refl, sym, _∙_, ap}
 use native.Mathlib.Nat.{div-one}
 use native.Mathlib.Omega.{arith}
-use lib.Dec.{T}
+use lib.Dec.{T, eqb}
 use lib.ListN.{length, take, drop, replicate, length-drop, take-append-drop}
 use lib.Seq.{length-take-le}
 use Rattle.network.proofs.Lists.{mem-take}
+use Rattle.stations.specs.declared.Half.{Half}
 use Rattle.stations.specs.declared.Link.{Link}
 use Rattle.stations.specs.declared.Topology.{Topology}
 use Rattle.stations.specs.Topology.{noLink, padded, contents, held, seen, networkOf}
@@ -22,16 +24,18 @@ use Rattle.soundness.specs.Theorems.{Sound}
 use Rattle.soundness.proofs.Sound.{tested, none-fact, within-fact, routers-listed, links-listed, sound-exact}
 use Rattle.stream.specs.declared.Reading.{Reading}
 use Rattle.stream.specs.Stream.{inBytes}
+use Rattle.stream.specs.Halves.{firstHalf, secondHalf}
 use Rattle.stream.specs.Reading.{accepted, reading}
 use Rattle.stream.specs.Theorems.{Bytes, success}
 use Rattle.stream.proofs.Digits.{byte-below}
 use Rattle.stream.proofs.Returned.{reads-sound}
-use Rattle.topology.specs.Written.{joinedOver, routerBytes, linkBytes, limitBytes, written}
+use Rattle.topology.specs.Written.{joinedOver, routerBytes, halfBody, halfBytes, linkBytes, limitBytes, written}
 use Rattle.topology.specs.Theorems.{WrittenRead, SoundIsRead, WrittenLong}
 use Rattle.topology.proofs.Joined.{joined-same}
 use Rattle.topology.proofs.Rewritten.{written-records}
-use Rattle.topology.proofs.WrittenLength.{written-length}
-use Rattle.topology.proofs.TakenInTurn.{GoodLinks, GoodContents, all-taken}
+use Rattle.topology.proofs.WrittenLength.{written-length, written-most}
+use Rattle.topology.proofs.LinkTaken.{GoodLinks}
+use Rattle.topology.proofs.TakenInTurn.{GoodContents, all-taken}
 
 -- a list of one element over and over
 all-same : {A : Type 0} (z : A) (xs : List A) → ((x : A) → List·Memᴰ x xs → x ≡ z) → xs ≡ replicate (length xs) z
@@ -46,9 +50,9 @@ repadded z slots n xs long fit rest =
     let behind : length (drop n xs) ≡ slots - length (take n xs) = rw (length-drop n xs, length-take-le n xs (omega arith), long) in
     sym (take-append-drop n xs) ∙ ap (λ ys. take n xs ++ ys) (all-same z (drop n xs) rest ∙ ap (λ m. replicate m z) behind)
 
-is-none : (l : Link) → (l .first .0 ≡ 0) × (l .second .0 ≡ 0) × (l .cost ≡ 0) → l ≡ noLink
+is-none : (l : Link) → (l .first .0 ≡ 0) × (l .second .0 ≡ 0) × (l .cost ≡ 0) × (l .back ≡ 0) → l ≡ noLink
 unfolding noLink
-is-none l (a, b, c) = λ i. record { first = record { 0 = a i }; second = record { 0 = b i }; cost = c i }
+is-none l (a, b, c, d) = λ i. record { first = record { 0 = a i }; second = record { 0 = b i }; cost = c i; back = d i }
 
 bytes-none : Bytes []
 bytes-none b m = absurd (List·Memᴰ·not-nil m)
@@ -68,6 +72,20 @@ bytes-joined g (x ∷ xs) each =
 limit-bytes : (k : ℕ) → k < 256 → Bytes (limitBytes k)
 unfolding limitBytes
 limit-bytes k h = bytes-cons 8 (k ∷ []) (omega arith) (bytes-cons k [] h bytes-none)
+
+link-bytes : (l : Link) → l .first .0 < 256 → l .second .0 < 256 → Bytes (linkBytes l)
+unfolding linkBytes halfBytes halfBody firstHalf secondHalf
+link-bytes l first second = either (eqb (l .cost) (l .back))
+  where
+    behind : (kind : ℕ) (h : Half) → kind < 256 → h .from .0 < 256 → h .to .0 < 256 → Bytes (kind ∷ halfBody h)
+    behind kind h k from to =
+        bytes-cons kind _ k (bytes-cons (h .from .0) _ from (bytes-cons (h .to .0) _ to (byte-below 2 (h .cost))))
+
+    either : (b : Bool) → Bytes (cond b (2 ∷ halfBody (firstHalf l)) (halfBytes (firstHalf l) ++ halfBytes (secondHalf l)))
+    either true = behind 2 (firstHalf l) (omega arith) first second
+    either false =
+        bytes-append (halfBytes (firstHalf l)) _ (behind 4 (firstHalf l) (omega arith) first second)
+        (behind 4 (secondHalf l) (omega arith) second first)
 
 module _ (t : Topology) (s : T (sound t)) where
   f : Sound t
@@ -119,28 +137,30 @@ module _ (t : Topology) (s : T (sound t)) where
   unfolding contents
   id-fits i m = f .ids-fit i (mem-take (t .routers) (t .id) m)
 
-  link-fits : (l : Link) → List·Memᴰ l (contents t .links) → (l .first .0 < 256) × (l .second .0 < 256) × (l .cost < 2 ^ 16)
+  link-fits : (l : Link) → List·Memᴰ l (contents t .links) → (l .first .0 < 256) × (l .second .0 < 256) × (l .cost < 2 ^ 16) × (l .back < 2 ^ 16)
   unfolding seen
   link-fits l m =
       let sound-link = links-good .facts .each (seen l) (Memᴰ·map seen m) in
-      let few : length (contents t .ids) ≤ 64 = omega (arith, routers-are, f .routers-most) in
-      (omega (arith, sound-link .first-listed), omega (arith, sound-link .second-listed), omega (arith, sound-link .cost-most))
+      let few : length (contents t .ids) ≤ 64 = omega (arith, routers-are, f .routers-most) in (
+        omega (arith, sound-link .first-listed),
+        omega (arith, sound-link .second-listed),
+        omega (arith, sound-link .cost-most),
+        omega (arith, sound-link .back-most),
+      )
 
   read-again : reading (written t) ≡ success t
   unfolding reading accepted
-  read-again = rw (written-records t id-fits (λ l m. link-fits l m .2)) (all-taken (contents t) contents-good ∙ ap success (sym whole-sound))
+  read-again = rw (written-records t id-fits (λ l m. let (first, second, cost, back) = link-fits l m in (cost, back))) (all-taken (contents t) contents-good ∙ ap success (sym whole-sound))
 
   written-bytes : Bytes (written t)
-  unfolding written routerBytes linkBytes
+  unfolding written routerBytes
   written-bytes =
       bytes-append (limitBytes (t .limit)) _ (limit-bytes (t .limit) (omega (arith, f .limit-most)))
       (bytes-append (joinedOver routerBytes (contents t .ids)) _
       (bytes-joined routerBytes (contents t .ids) (λ i m. bytes-cons 1 (inBytes 4 i) (omega arith) (byte-below 4 i)))
       (bytes-append (joinedOver linkBytes (contents t .links)) _
       (bytes-joined linkBytes (contents t .links)
-      (λ l m.
-      let (first, second, cost) = link-fits l m in
-      bytes-cons 2 _ (omega arith) (bytes-cons (l .first .0) _ first (bytes-cons (l .second .0) _ second (byte-below 2 (l .cost))))))
+      (λ l m. let (first, second, cost, back) = link-fits l m in link-bytes l first second))
       (bytes-cons 3 [] (omega arith) bytes-none)))
 
 pub written-read : WrittenRead
@@ -157,8 +177,10 @@ router-spelled : (id : ℕ) → routerBytes id ≡ 1 ∷ id / 16777216 % 256 ∷
 unfolding routerBytes inBytes
 router-spelled id = simp div-one
 
-link-spelled : (l : Link) → linkBytes l ≡ 2 ∷ l .first .0 ∷ l .second .0 ∷ l .cost / 256 % 256 ∷ l .cost % 256 ∷ []
-unfolding linkBytes inBytes
+link-spelled : (l : Link) → linkBytes l
+    ≡ cond (eqb (l .cost) (l .back)) (2 ∷ l .first .0 ∷ l .second .0 ∷ l .cost / 256 % 256 ∷ l .cost % 256 ∷ [])
+    (4 ∷ l .first .0 ∷ l .second .0 ∷ l .cost / 256 % 256 ∷ l .cost % 256 ∷ 4 ∷ l .second .0 ∷ l .first .0 ∷ l .back / 256 % 256 ∷ l .back % 256 ∷ [])
+unfolding linkBytes halfBytes halfBody firstHalf secondHalf inBytes
 link-spelled l = simp div-one
 
 pub written-long : WrittenLong
@@ -168,5 +190,5 @@ written-long t s =
       stream = rw (joined-same routerBytes _ _ (λ id m. router-spelled id), joined-same linkBytes _ _ (λ l m. link-spelled l));
       bytes = written-bytes t s;
       long = written-length t (routers-in t s) (links-in t s);
-      most = omega (arith, written-length t (routers-in t s) (links-in t s), f t s .routers-most, f t s .links-most);
+      most = omega (arith, written-most t (routers-in t s) (links-in t s), f t s .routers-most, f t s .links-most);
     }

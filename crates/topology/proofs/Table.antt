@@ -1,25 +1,28 @@
 -- The prover computes every fact from the definitions.
 -- Assumes nothing.
 use Rattle.network.specs.Lists.{numbersFrom, below, keep, every, any, leastBy, member, sameNumbers}
-use Rattle.network.specs.Network.{size, arcsOf, greatestCost, arcsAmong, linked, samePair}
+use Rattle.network.specs.Network.{size, arcsOf, greatestCost, arcsAmong, linked}
 use Rattle.network.specs.Distance.{absent, distanceIn, through, atFirst, round, rounds, distances}
 use Rattle.network.specs.Order.{reached}
 use Rattle.stations.specs.Topology.{noLink, padded, contents, held, zeros, seen, networkIn}
 use Rattle.soundness.specs.Apart.{apart}
 use Rattle.soundness.specs.Sound.{within}
-use Rattle.stream.specs.Stream.{bigEndianOn, bigEndian, inBytes, bodyLength, linkIn, decoded, recordIn, records}
-use Rattle.stream.specs.Reading.{refusal, accepted, routerFault, crowded, linkFault, fault, added, width, isEnd, joined, ended, unless, some?, inTurn}
-use Rattle.stream.specs.Reading.{nothingListed, reading}
-use Rattle.stream.specs.Table.{one, two, T-stream}
-use Rattle.topology.specs.Written.{joinedOver, routerBytes, linkBytes, limitBytes, written}
+use Rattle.stream.specs.Stream.{bigEndianOn, bigEndian, inBytes, bodyLength, halfIn, decoded, recordIn, records}
+use Rattle.stream.specs.Halves.{firstHalf, secondHalf, linkHalves, halves, sameHalf, leaves, opposite, linkOf}
+use Rattle.stream.specs.Reading.{refusal, accepted, routerFault, repeated, crowded, halvesFault, fault, withRouter, withLink, withLimit, arrived, added}
+use Rattle.stream.specs.Reading.{width, isEnd, joined, ended, unless, some?, inTurn, nothingListed, reading}
+use Rattle.stream.specs.Table.{one, two, three, T-stream}
+use Rattle.topology.specs.Written.{joinedOver, routerBytes, halfBody, halfBytes, linkBytes, limitBytes, written}
 use Rattle.topology.specs.Table.{holds, writes, facts, FactsHold}
 
 pub facts-hold : FactsHold
 unfolding numbersFrom below keep every any leastBy member
-    size arcsOf greatestCost arcsAmong linked samePair
+    size arcsOf greatestCost arcsAmong linked
     absent distanceIn through atFirst round rounds distances reached
     noLink padded contents held zeros seen networkIn apart within
-    bigEndianOn bigEndian inBytes bodyLength linkIn decoded recordIn records
-    refusal accepted routerFault crowded linkFault fault added width isEnd joined ended unless some? inTurn nothingListed reading
-    sameNumbers one two T-stream joinedOver routerBytes linkBytes limitBytes written holds writes facts
+    bigEndianOn bigEndian inBytes bodyLength halfIn decoded recordIn records
+    linkHalves firstHalf secondHalf halves sameHalf leaves opposite linkOf
+    refusal accepted routerFault repeated crowded halvesFault fault withRouter withLink withLimit arrived added
+    width isEnd joined ended unless some? inTurn nothingListed reading
+    sameNumbers one two three T-stream joinedOver routerBytes halfBody halfBytes linkBytes limitBytes written holds writes facts
 facts-hold = tt

@@ -10,9 +10,9 @@ use Rattle.stations.specs.declared.Topology.{Topology}
 use Rattle.stations.specs.Topology.{contents}
 use Rattle.topology.specs.Written.{written, limitBytes, routerBytes, linkBytes, joinedOver}
 use Rattle.topology.specs.Inner.{over}
-use Rattle.topology.proofs.Joined.{router-five, link-five, joined-many}
+use Rattle.topology.proofs.Joined.{router-five, joined-many}
 use Rattle.topology.proofs.Over.{over-next, over-over}
-use Rattle.topology.proofs.WrittenLength.{written-length}
+use Rattle.topology.proofs.WrittenLength.{written-parts}
 
 module _
     (t : Topology)
@@ -24,7 +24,7 @@ module _
     pub parts-written : {one two three : List ℕ} {q end : ℕ}
         → one ≡ over buffer 0 (limitBytes (t .limit))
         → (q ≡ 2 + 5 * t .routers) × (two ≡ over one 2 (joinedOver routerBytes (contents t .ids)))
-        → (end ≡ q + 5 * t .links) × (three ≡ over two q (joinedOver linkBytes (contents t .links)))
+        → (end ≡ q + length (joinedOver linkBytes (contents t .links))) × (three ≡ over two q (joinedOver linkBytes (contents t .links)))
         → set three end 3 ≡ over buffer 0 (written t)
     unfolding written contents limitBytes
     parts-written {one} {two} {three} {q} {end} one≡ (q≡, two≡) (end≡, three≡) =
@@ -32,9 +32,8 @@ module _
         let rs : List ℕ = joinedOver routerBytes (take (t .routers) (t .id)) in
         let ls : List ℕ = joinedOver linkBytes (take (t .links) (t .link)) in
         let rn : length rs ≡ 5 * t .routers = joined-many routerBytes router-five _ (length-take-le (t .routers) (t .id) ids) in
-        let ln : length ls ≡ 5 * t .links = joined-many linkBytes link-five _ (length-take-le (t .links) (t .link) links) in
         let first : two ≡ over buffer 0 (k ++ rs) = rw (two≡, one≡) (over-over buffer 0 k rs 2 refl (omega arith)) in
         let then : three ≡ over buffer 0 (k ++ rs ++ ls) =
         rw (three≡, first) (over-over buffer 0 (k ++ rs) ls q (simp length-append (omega arith)) (omega arith)) in
-        rw then (over-next buffer 0 (k ++ rs ++ ls) 3 end (simp length-append (omega arith)) (omega (arith, written-length t ids links))
+        rw then (over-next buffer 0 (k ++ rs ++ ls) 3 end (simp length-append (omega arith)) (omega (arith, written-parts t ids links))
         ∙ simp append-assoc)

@@ -1,5 +1,5 @@
 -- What is proved of the helper for old streams (02, #101): what it leaves of a lent buffer, whatever the stream is, and what reading returns of what it
--- made: what it returned of the stream while K was 16 without record 8.
+-- made: what reading the stream returns with K 16 before its first record.
 -- Assumes nothing.
 use Prim.Native.Nat.{ℕ, _+_, _≤_, _<_}
 use mathlib.Core.List.{List, [], _∷_, _++_, List·Memᴰ}
@@ -12,7 +12,7 @@ use Rattle.stream.specs.declared.Reading.{Reading}
 use Rattle.stream.specs.declared.Record.the-variants as record-of
 use Rattle.stream.specs.Stream.{records}
 use Rattle.stream.specs.Reading.{inTurn, reading}
-use Rattle.stream.specs.Theorems.{success, refused, fourBytes, linkOf}
+use Rattle.stream.specs.Theorems.{success, refused, fourBytes, twoBytes, halfOf}
 use Rattle.topology.specs.OldLimit.{withOldLimit}
 
 -- Where there is no room for the stream and two bytes more, 24 at that length, and the buffer stays; else 8 and 16, then the stream, then what stood
@@ -32,13 +32,17 @@ HelpExact = (stream buffer : List ℕ) → Helped stream buffer
 pub record Cut : Type 0 where
   pub none : records 0 [] ≡ []
   pub router : (a b e f : ℕ) (rest : List ℕ) → records 0 (1 ∷ a ∷ b ∷ e ∷ f ∷ rest) ≡ record-of.Router (fourBytes a b e f) ∷ records 0 rest
-  pub link : (u v e f : ℕ) (rest : List ℕ) → records 0 (2 ∷ u ∷ v ∷ e ∷ f ∷ rest) ≡ record-of.Link (linkOf u v e f) ∷ records 0 rest
+  pub link : (u v e f : ℕ) (rest : List ℕ) →
+      records 0 (2 ∷ u ∷ v ∷ e ∷ f ∷ rest) ≡ record-of.Link (halfOf u v (twoBytes e f)) ∷ records 0 rest
+  pub half : (u v e f : ℕ) (rest : List ℕ) →
+      records 0 (4 ∷ u ∷ v ∷ e ∷ f ∷ rest) ≡ record-of.Half (halfOf u v (twoBytes e f)) ∷ records 0 rest
   pub limit : (k : ℕ) (rest : List ℕ) → records 0 (8 ∷ k ∷ rest) ≡ record-of.Limit k ∷ records 0 rest
   pub end : (rest : List ℕ) → records 0 (3 ∷ rest) ≡ record-of.End ∷ records 0 rest
   pub router-cut : (body : List ℕ) → length body < 4 → records 0 (1 ∷ body) ≡ record-of.Refused 1 ∷ []
   pub link-cut : (body : List ℕ) → length body < 4 → records 0 (2 ∷ body) ≡ record-of.Refused 1 ∷ []
+  pub half-cut : (body : List ℕ) → length body < 4 → records 0 (4 ∷ body) ≡ record-of.Refused 1 ∷ []
   pub limit-cut : records 0 (8 ∷ []) ≡ record-of.Refused 1 ∷ []
-  pub unknown : (kind : ℕ) → kind ≢ 1 → kind ≢ 2 → kind ≢ 3 → kind ≢ 8 → (rest : List ℕ) →
+  pub unknown : (kind : ℕ) → kind ≢ 1 → kind ≢ 2 → kind ≢ 3 → kind ≢ 4 → kind ≢ 8 → (rest : List ℕ) →
       records 0 (kind ∷ rest) ≡ record-of.Refused 2 ∷ records 0 rest
 
 -- the stream has a record 8
@@ -58,11 +62,12 @@ pub record OldRead (stream : List ℕ) : Type 0 where
   pub others : (number at : ℕ) → number ≢ 0 → number ≢ 13 → reading stream ≡ refused number at →
       reading (8 ∷ 16 ∷ stream) ≡ refused number (at + 2)
 
--- reading, but with K 16 before the first record, as it was before 02, #101
+-- reading, but with K 16 before the first record, as K was before 02, #101
 unfoldable pub readBefore : List ℕ → Reading
-readBefore stream = inTurn 0 (record { ids = []; links = []; limit = 16 }) (records 0 stream)
+readBefore stream = inTurn 0 (record { contents = record { ids = []; links = []; limit = 16 }; lone = [] }) (records 0 stream)
 
--- What is read of `08 10` and the stream behind it is what was read of the stream then, refusals at moved as above.
+-- What is read of `08 10` and the stream behind it is what is so read of the stream, refusals at moved as above. Only K is as it was: before
+-- 02, #105, a record 4 was refused with 2, and here it is read as now.
 pub record AsBefore (stream : List ℕ) : Type 0 where
   pub topology : reading (8 ∷ 16 ∷ stream) .topology ≡ readBefore stream .topology
   pub number : reading (8 ∷ 16 ∷ stream) .answer .number ≡ readBefore stream .answer .number

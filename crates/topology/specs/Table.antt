@@ -7,7 +7,7 @@ use mathlib.Core.List.{List, [], _∷_, _++_}
 use lib.Dec.{T}
 use Rattle.network.specs.Lists.{every, sameNumbers}
 use Rattle.stream.specs.Reading.{reading}
-use Rattle.stream.specs.Table.{one, two, T-stream}
+use Rattle.stream.specs.Table.{one, two, three, T-stream}
 use Rattle.topology.specs.Written.{written}
 
 pub record Fact : Type 0 where
@@ -20,7 +20,8 @@ holds fact = sameNumbers (written (reading (fact .stream) .topology)) (fact .byt
 unfoldable pub writes : List ℕ → List ℕ → Fact
 writes stream bytes = record { stream = stream; bytes = bytes }
 
--- T, with the K of a stream that gives none; T with K 7; K behind the routers; K 16; an ID and a cost of different bytes; places as read, the second before the first
+-- T, with the K of a stream that gives none; T with K 7; K behind the routers; K 16; an ID and a cost of different bytes; places as read, the second before the
+-- first; costs that differ, the first half's sender first; halves whose costs agree; a link numbered at its second half, and a lone half
 unfoldable pub facts : List Fact
 facts =
     writes T-stream
@@ -30,6 +31,11 @@ facts =
     ∷ writes (8 ∷ 16 ∷ one ++ (3 ∷ [])) (8 ∷ 16 ∷ 1 ∷ 0 ∷ 0 ∷ 0 ∷ 1 ∷ 3 ∷ [])
     ∷ writes (1 ∷ 1 ∷ 2 ∷ 3 ∷ 4 ∷ 3 ∷ []) (8 ∷ 3 ∷ 1 ∷ 1 ∷ 2 ∷ 3 ∷ 4 ∷ 3 ∷ [])
     ∷ writes (two ++ (2 ∷ 1 ∷ 0 ∷ 1 ∷ 2 ∷ 3 ∷ [])) (8 ∷ 3 ∷ two ++ (2 ∷ 1 ∷ 0 ∷ 1 ∷ 2 ∷ 3 ∷ []))
+    ∷ writes (two ++ (4 ∷ 0 ∷ 1 ∷ 0 ∷ 2 ∷ 4 ∷ 1 ∷ 0 ∷ 1 ∷ 3 ∷ 3 ∷ [])) (8 ∷ 3 ∷ two ++ (4 ∷ 0 ∷ 1 ∷ 0 ∷ 2 ∷ 4 ∷ 1 ∷ 0 ∷ 1 ∷ 3 ∷ 3 ∷ []))
+    ∷ writes (two ++ (4 ∷ 1 ∷ 0 ∷ 0 ∷ 2 ∷ 4 ∷ 0 ∷ 1 ∷ 0 ∷ 3 ∷ 3 ∷ [])) (8 ∷ 3 ∷ two ++ (4 ∷ 1 ∷ 0 ∷ 0 ∷ 2 ∷ 4 ∷ 0 ∷ 1 ∷ 0 ∷ 3 ∷ 3 ∷ []))
+    ∷ writes (two ++ (4 ∷ 1 ∷ 0 ∷ 0 ∷ 7 ∷ 4 ∷ 0 ∷ 1 ∷ 0 ∷ 7 ∷ 3 ∷ [])) (8 ∷ 3 ∷ two ++ (2 ∷ 1 ∷ 0 ∷ 0 ∷ 7 ∷ 3 ∷ []))
+    ∷ writes (three ++ (4 ∷ 0 ∷ 1 ∷ 0 ∷ 5 ∷ 2 ∷ 1 ∷ 2 ∷ 0 ∷ 7 ∷ 4 ∷ 1 ∷ 0 ∷ 0 ∷ 6 ∷ 4 ∷ 2 ∷ 0 ∷ 0 ∷ 9 ∷ 3 ∷ []))
+    (8 ∷ 3 ∷ three ++ (2 ∷ 1 ∷ 2 ∷ 0 ∷ 7 ∷ 4 ∷ 0 ∷ 1 ∷ 0 ∷ 5 ∷ 4 ∷ 1 ∷ 0 ∷ 0 ∷ 6 ∷ 3 ∷ []))
     ∷ []
 
 -- The one statement: every fact of the list holds, by computing it.

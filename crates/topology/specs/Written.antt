@@ -1,14 +1,17 @@
--- Writing a topology stream (01, Topology stream; Refusals, 14 and 24).
+-- Writing a topology stream (01, Topology stream; Refusals, 14 and 24; 02, #101 and #105).
 -- Assumes nothing.
 use Prim.Native.Nat.{ℕ}
 use mathlib.Core.Bool.{cond}
 use mathlib.Core.List.{List, [], _∷_, _++_}
+use lib.Dec.{eqb}
+use Rattle.stations.specs.declared.Half.{Half}
 use Rattle.stations.specs.declared.Link.{Link}
 use Rattle.stations.specs.declared.Topology.{Topology}
 use Rattle.stations.specs.Topology.{contents}
 use Rattle.stations.specs.Outcome.{Outcome, turnedAway, given}
 use Rattle.soundness.specs.Sound.{sound}
 use Rattle.stream.specs.Stream.{inBytes}
+use Rattle.stream.specs.Halves.{firstHalf, secondHalf}
 
 -- what f gives over the list, one after the other
 unfoldable pub joinedOver : {A B : Type 0} → (A → List B) → List A → List B
@@ -19,9 +22,17 @@ joinedOver f (x ∷ xs) = f x ++ joinedOver f xs
 unfoldable pub routerBytes : ℕ → List ℕ
 routerBytes id = 1 ∷ inBytes 4 id
 
--- kind 2, place, place, cost (2)
+-- 02, #105: the body of a half, from, to, cost (2); that of a link, place, place, cost (2), is its first half's
+unfoldable pub halfBody : Half → List ℕ
+halfBody h = h .from .0 ∷ h .to .0 ∷ inBytes 2 (h .cost)
+
+-- 02, #105: kind 4, from, to, cost (2)
+unfoldable pub halfBytes : Half → List ℕ
+halfBytes h = 4 ∷ halfBody h
+
+-- 02, #105: where the costs agree kind 2, place, place, cost (2); else both halves, the first place's first
 unfoldable pub linkBytes : Link → List ℕ
-linkBytes l = 2 ∷ l .first .0 ∷ l .second .0 ∷ inBytes 2 (l .cost)
+linkBytes l = cond (eqb (l .cost) (l .back)) (2 ∷ halfBody (firstHalf l)) (halfBytes (firstHalf l) ++ halfBytes (secondHalf l))
 
 -- kind 8, K
 unfoldable pub limitBytes : ℕ → List ℕ

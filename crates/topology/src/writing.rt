@@ -1,12 +1,14 @@
-// Putting records into a lent buffer, from an offset on. `put_routers` and `put_links` answer the offset after what they put.
+// Putting records into a lent buffer, from an offset on. `put_routers`, `put_link` and `put_links` answer the offset after what they put.
+use stations::Half;
 use stations::Link;
 use stations::Topology;
+ghost use mathlib.Core.List.{_∷_};
 ghost use mathlib.Core.Path.{_≡_};
 ghost use Prim.Native.Nat.{_+_, _*_, _≤_};
 ghost use lib.ListN.{length};
 ghost use Rattle.stations.specs.Topology.{contents};
 ghost use Rattle.stations.specs.Inner.{Counted};
-ghost use Rattle.topology.specs.Written.{routerBytes, linkBytes, limitBytes, joinedOver, written};
+ghost use Rattle.topology.specs.Written.{routerBytes, halfBody, linkBytes, limitBytes, joinedOver, written};
 ghost use Rattle.topology.specs.Inner.{over};
 
 fn put_router(out: &mut [u8], at: usize, id: u32)
@@ -20,15 +22,42 @@ fn put_router(out: &mut [u8], at: usize, id: u32)
     out[at + 4] = (id % 256) as u8;
 }
 
-fn put_link(out: &mut [u8], at: usize, l: Link)
+// A half's body behind a kind: record 4, or record 2, whose body is that of a link's first half.
+fn put_half(out: &mut [u8], at: usize, kind: u8, h: Half)
     requires { ⌜ at + 5 ≤ length (now out) ⌝ }
-    ensures { λ _. ⌜ now (out .exit) ≡ over (now (out .entry)) at (linkBytes l) ⌝ }
+    ensures { λ _. ⌜ now (out .exit) ≡ over (now (out .entry)) at (kind ∷ halfBody h) ⌝ }
 {
-    out[at] = 2;
-    out[at + 1] = l.first.0;
-    out[at + 2] = l.second.0;
-    out[at + 3] = (l.cost / 256 % 256) as u8;
-    out[at + 4] = (l.cost % 256) as u8;
+    out[at] = kind;
+    out[at + 1] = h.from.0;
+    out[at + 2] = h.to.0;
+    out[at + 3] = (h.cost / 256 % 256) as u8;
+    out[at + 4] = (h.cost % 256) as u8;
+}
+
+// Record 2 where the costs agree, else both halves, the first place's first (02, #105).
+fn put_link(out: &mut [u8], at: usize, l: Link) -> usize
+    requires { ⌜ at + length (linkBytes l) ≤ length (now out) ⌝ }
+    ensures { λ r. ⌜ (r ≡ at + length (linkBytes l)) × (now (out .exit) ≡ over (now (out .entry)) at (linkBytes l)) ⌝ }
+{
+    let u = l.first;
+    let v = l.second;
+    let first = Half {
+        from: u,
+        to: v,
+        cost: l.cost,
+    };
+    if l.cost == l.back {
+        put_half(out, at, 2, first);
+        return at + 5;
+    }
+    let second = Half {
+        from: v,
+        to: u,
+        cost: l.back,
+    };
+    put_half(out, at, 4, first);
+    put_half(out, at + 5, 4, second);
+    at + 10
 }
 
 // Record 8, at the start.
@@ -54,16 +83,17 @@ pub(crate) fn put_routers(t: Topology, out: &mut [u8], at: usize) -> usize
 }
 
 pub(crate) fn put_links(t: Topology, out: &mut [u8], at: usize) -> usize
-    requires { ⌜ Counted t × (at + 5 * t .links ≤ length (now out)) ⌝ }
-    ensures { λ r. ⌜ (r ≡ at + 5 * t .links) × (now (out .exit) ≡ over (now (out .entry)) at (joinedOver linkBytes (contents t .links))) ⌝ }
+    requires { ⌜ Counted t × (at + length (joinedOver linkBytes (contents t .links)) ≤ length (now out)) ⌝ }
+    ensures { λ r. ⌜ (r ≡ at + length (joinedOver linkBytes (contents t .links))) × (now (out .exit) ≡ over (now (out .entry)) at (joinedOver linkBytes (contents t .links))) ⌝ }
 {
     let m = t.links;
+    let mut next = at;
     let mut i: usize = 0;
     while i < m {
-        put_link(out, at + 5 * i, t.link[i]);
+        next = put_link(out, next, t.link[i]);
         i += 1;
     }
-    at + 5 * m
+    next
 }
 
 // The bytes of another slice.
@@ -78,10 +108,33 @@ pub(crate) fn put_bytes<'a, 'b>(out: &'a mut [u8], at: usize, bytes: &'b [u8])
     }
 }
 
+fn link_length(l: Link) -> usize
+    ensures { λ r. ⌜ r ≡ length (linkBytes l) ⌝ }
+{
+    if l.cost != l.back {
+        return 10;
+    }
+    5
+}
+
+fn links_length(t: Topology) -> usize
+    requires { ⌜ Counted t ⌝ }
+    ensures { λ r. ⌜ r ≡ length (joinedOver linkBytes (contents t .links)) ⌝ }
+{
+    let m = t.links;
+    let mut bytes: usize = 0;
+    let mut i: usize = 0;
+    while i < m {
+        bytes += link_length(t.link[i]);
+        i += 1;
+    }
+    bytes
+}
+
 // How many bytes writing needs.
 pub(crate) fn length_of(t: Topology) -> usize
     requires { ⌜ Counted t ⌝ }
     ensures { λ r. ⌜ r ≡ length (written t) ⌝ }
 {
-    2 + 5 * t.routers + 5 * t.links + 1
+    2 + 5 * t.routers + links_length(t) + 1
 }

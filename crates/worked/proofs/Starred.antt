@@ -2,7 +2,7 @@
 -- Assumes nothing.
 use mathlib.Core.Path.{refl}
 use Rattle.network.specs.Lists.{numbersFrom, below, keep, every, any, leastBy, greatestBy, ahead, foremost, insert, sort, member, distinct, sameNumbers, wins}
-use Rattle.network.specs.Network.{size, idOf, arcsOf, greatestCost, arcsAmong, linked, soundLink, samePair, pairsDiffer, soundLinks}
+use Rattle.network.specs.Network.{size, idOf, arcsOf, greatestCost, arcsAmong, linked, soundCost, soundLink, samePair, pairsDiffer, soundLinks}
 use Rattle.network.specs.Distance as of-distance
 use Rattle.network.specs.Distance.{absent, distanceIn, through, round, rounds, distances}
 use Rattle.network.specs.Order as of-order
@@ -19,9 +19,10 @@ use Rattle.stations.specs.Outcome.{turnedAway, given}
 use Rattle.stations.specs.Topology.{noLink, padded, contents, held, zeros, seen, networkIn, networkOf}
 use Rattle.soundness.specs.Apart.{apart}
 use Rattle.soundness.specs.Sound.{within, inLimits, wellLinked, uncrowded, none?, connected, isNoLink, unusedZero, slotted, sound}
-use Rattle.stream.specs.Stream.{bigEndianOn, bigEndian, bodyLength, linkIn, decoded, recordIn, records}
-use Rattle.stream.specs.Reading.{refusal, accepted, routerFault, crowded, linkFault, fault, added, width, isEnd, joined, ended, unless, some?, inTurn}
-use Rattle.stream.specs.Reading.{nothingListed, reading}
+use Rattle.stream.specs.Stream.{bigEndianOn, bigEndian, bodyLength, halfIn, decoded, recordIn, records}
+use Rattle.stream.specs.Halves.{firstHalf, secondHalf, linkHalves, halves, sameHalf, leaves, opposite, linkOf}
+use Rattle.stream.specs.Reading.{refusal, accepted, routerFault, repeated, crowded, halvesFault, fault, withRouter, withLink, withLimit, arrived, added}
+use Rattle.stream.specs.Reading.{width, isEnd, joined, ended, unless, some?, inTurn, nothingListed, reading}
 use Rattle.stream.specs.Table.{T-stream}
 use Rattle.topology.specs.Written.{joinedOver}
 use Rattle.order.specs.Calls.{modeOf, building, wrongRanks, unreadyRanks, atFirst, judging, checking}
@@ -34,12 +35,12 @@ use Rattle.packet.specs.Schedule.{rowIn, rowCounts, rowsIn, soundLength, wrongS
 use Rattle.packet.specs.Calls.{tested, testedBy, testedOver, figure, figures, countingHops, walking}
 use Rattle.worked.specs.Fact.{upBut, leftAt, callOf, samePaths, claimHolds, holds}
 use Rattle.worked.specs.Chain.{wrote, endsSo, byTable, byOrder, byReading, follows}
-use Rattle.worked.specs.Starred.{link, T-network, F-network, alone, about, F-stream, alone-stream, from, F-schedule, starred, StarredHold}
+use Rattle.worked.specs.Starred.{link, twoCosts, T-network, F-network, alone, slope, slope-stream, about, F-stream, alone-stream, from, F-schedule, starred, StarredHold}
 use Rattle.worked.specs.Starred.{T-reversed, allUp, further, FurtherHold, WorkedWellFormed, StreamsRead}
 
 pub starred-hold : StarredHold
 unfolding numbersFrom below keep every any leastBy greatestBy ahead foremost insert sort member distinct sameNumbers wins
-    size idOf arcsOf greatestCost arcsAmong linked soundLink samePair pairsDiffer soundLinks
+    size idOf arcsOf greatestCost arcsAmong linked soundCost soundLink samePair pairsDiffer soundLinks
     absent distanceIn through of-distance.atFirst round rounds distances
     reached shortestNextHops leadsInto ready candidate placedNeighbours preferred select continued placing build
     candidatesInTurn holdsEachOnce firstIs othersInTurn of-order.accepted
@@ -47,8 +48,10 @@ unfolding numbersFrom below keep every any leastBy greatestBy ahead foremost ins
     hopTo hop walkOn walkEnd walk start longest up firstLive
     firstOr turnedAway given noLink padded contents held zeros seen networkIn networkOf apart
     within inLimits wellLinked uncrowded none? connected isNoLink unusedZero slotted sound
-    bigEndianOn bigEndian bodyLength linkIn decoded recordIn records
-    refusal accepted routerFault crowded linkFault fault added width isEnd joined ended unless some? inTurn nothingListed reading
+    bigEndianOn bigEndian bodyLength halfIn decoded recordIn records
+    linkHalves firstHalf secondHalf halves sameHalf leaves opposite linkOf
+    refusal accepted routerFault repeated crowded halvesFault fault withRouter withLink withLimit arrived added
+    width isEnd joined ended unless some? inTurn nothingListed reading
     T-stream joinedOver modeOf building wrongRanks unreadyRanks atFirst judging checking answers
     rowBytes headerBytes rowOf rowsBytes tableBytes rowStart
     kindIn destinationIn countIn limitIn rankIn placesIn arcsTo entriesIn listed orderIn
@@ -67,19 +70,21 @@ unfolding numbersFrom below keep every any leastBy greatestBy ahead foremost ins
     hopTo hop start routeOn route longest afterHop afterCall afterCalls
     up firstLive validStates greatestHop greatestHops pathsAt throughEach pathsFrom everyPath costOf
     upBut leftAt callOf samePaths claimHolds holds
-    link T-network F-network T-reversed about allUp further
+    link twoCosts T-network F-network T-reversed slope about allUp further
 further-hold = tt
 
 pub worked-well-formed : WorkedWellFormed
-unfolding every any member distinct greatestCost soundLink samePair pairsDiffer soundLinks link T-network F-network alone
-worked-well-formed = (linked-well-formed _ _ tt, linked-well-formed _ _ tt, linked-well-formed _ _ tt)
+unfolding every any member distinct greatestCost soundCost soundLink samePair pairsDiffer soundLinks link twoCosts T-network F-network alone slope
+worked-well-formed = (linked-well-formed _ _ tt, linked-well-formed _ _ tt, linked-well-formed _ _ tt, linked-well-formed _ _ tt)
 
 pub streams-read : StreamsRead
 unfolding numbersFrom below keep every any leastBy member
-    size arcsOf greatestCost arcsAmong linked samePair
+    size arcsOf greatestCost arcsAmong linked
     absent distanceIn through of-distance.atFirst round rounds distances reached
     noLink padded contents held zeros seen networkIn networkOf apart within
-    bigEndianOn bigEndian bodyLength linkIn decoded recordIn records
-    refusal accepted routerFault crowded linkFault fault added width isEnd joined ended unless some? inTurn nothingListed reading
-    T-stream link T-network F-network alone F-stream alone-stream
-streams-read = (refl, refl, refl, refl)
+    bigEndianOn bigEndian bodyLength halfIn decoded recordIn records
+    linkHalves firstHalf secondHalf halves sameHalf leaves opposite linkOf
+    refusal accepted routerFault repeated crowded halvesFault fault withRouter withLink withLimit arrived added
+    width isEnd joined ended unless some? inTurn nothingListed reading
+    T-stream link twoCosts T-network F-network alone slope F-stream alone-stream slope-stream
+streams-read = (refl, refl, refl, refl, refl)

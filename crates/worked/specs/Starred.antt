@@ -18,7 +18,11 @@ use Rattle.worked.specs.Fact.{Fact, Claim, order-is, row-is, greatest-ar
 use Rattle.worked.specs.Chain.{Chain, Expected, builds, lists, counts, walks, delivered, dropped, follows}
 
 unfoldable pub link : ℕ → ℕ → ℕ → Link
-link u v c = record { first = u; second = v; cost = c }
+link u v c = record { first = u; second = v; cost = c; back = c }
+
+-- 02, #105: a link with a cost for each direction
+unfoldable pub twoCosts : ℕ → ℕ → ℕ → ℕ → Link
+twoCosts u v c b = record { first = u; second = v; cost = c; back = b }
 
 -- 01: T has IDs 1, 2, 3; links 0-1 cost 1, 1-2 cost 1, 0-2 cost 3
 unfoldable pub T-network : Network
@@ -33,6 +37,16 @@ F-network =
 -- 01: one router alone
 unfoldable pub alone : Network
 alone = linked (1 ∷ []) []
+
+-- 02, #105: three routers with a cost for each direction: 0 sends to 1 at 9 and to 2 at 1, 1 to 0 at 1 and to 2 at 4, 2 to 0 at 4 and to 1 at 2
+unfoldable pub slope : Network
+slope = linked (1 ∷ 2 ∷ 3 ∷ []) (twoCosts 0 1 9 1 ∷ twoCosts 0 2 1 4 ∷ twoCosts 2 1 2 4 ∷ [])
+
+-- these in bytes, their links as halves
+unfoldable pub slope-stream : List ℕ
+slope-stream =
+    1 ∷ 0 ∷ 0 ∷ 0 ∷ 1 ∷ 1 ∷ 0 ∷ 0 ∷ 0 ∷ 2 ∷ 1 ∷ 0 ∷ 0 ∷ 0 ∷ 3
+    ∷ 4 ∷ 0 ∷ 1 ∷ 0 ∷ 9 ∷ 4 ∷ 1 ∷ 0 ∷ 0 ∷ 1 ∷ 4 ∷ 0 ∷ 2 ∷ 0 ∷ 1 ∷ 4 ∷ 2 ∷ 0 ∷ 0 ∷ 4 ∷ 4 ∷ 2 ∷ 1 ∷ 0 ∷ 2 ∷ 4 ∷ 1 ∷ 2 ∷ 0 ∷ 4 ∷ 3 ∷ []
 
 -- F in bytes: its routers, and its links in two lines
 unfoldable pub F-stream : List ℕ
@@ -86,7 +100,8 @@ unfoldable pub about : Network → ℕ → Mode → Claim → Fact
 about n d mode claim = record { network = n; destination = d; mode = mode; claim = claim }
 
 -- Facts beside the starred ones: 01's listing of T and its rows of F, where a tie stands in a row; T with its IDs reversed, where an ID taken for a
--- place would show; every path from a start; lists of calls, refused ones included, and what walks cost, worked by hand.
+-- place would show; every path from a start; lists of calls, refused ones included, and what walks cost, worked by hand; orders, rows and walks by
+-- the costs of the direction of travel (02, #105): from place 2 to place 0 a walk costs 2 + 1, or 4 by its own link, and from place 0 to place 2 it costs 1.
 unfoldable pub further : List Fact
 further =
     about T-network 0 shortest-path (greatest-are 16 (0 ∷ 1 ∷ 2 ∷ []))
@@ -116,6 +131,13 @@ further =
     ∷ about T-network 0 shortest-path (walk-costs 16 2 (allUp ∷ allUp ∷ []) 2)
     ∷ about T-network 0 shortest-path (walk-costs 16 2 (upBut T-network (1 ∷ []) ∷ allUp ∷ []) 3)
     ∷ about F-network 0 shortest-path (walk-costs 16 5 (replicate 5 (upBut F-network [])) 3)
+    ∷ about slope 0 shortest-path (order-is (0 ∷ 1 ∷ 2 ∷ []))
+    ∷ about slope 0 shortest-path (row-is 16 2 (1 ∷ 0 ∷ []))
+    ∷ about slope 0 shortest-path (walk-costs 16 2 (allUp ∷ allUp ∷ []) 3)
+    ∷ about slope 0 shortest-path (walk-costs 16 2 (upBut slope (2 ∷ []) ∷ allUp ∷ []) 4)
+    ∷ about slope 2 shortest-path (order-is (2 ∷ 0 ∷ 1 ∷ []))
+    ∷ about slope 2 shortest-path (row-is 16 1 (0 ∷ 2 ∷ []))
+    ∷ about slope 2 shortest-path (walk-costs 16 0 (allUp ∷ allUp ∷ []) 1)
     ∷ about T-network 0 shortest-path (calls-leave 16 (set 2 ∷ hop allUp ∷ []) 1 1)
     ∷ about T-network 0 shortest-path (calls-leave 16 (set 2 ∷ hop (1 ∷ 1 ∷ []) ∷ []) 2 0)
     ∷ about T-network 0 shortest-path (calls-leave 16 (set 2 ∷ hop allUp ∷ set 3 ∷ []) 1 1)
@@ -127,14 +149,15 @@ further =
 abbrev pub FurtherHold : Type 0
 FurtherHold = T (every holds further)
 
--- The three networks are well formed, so every theorem of the crate network holds of them.
+-- The networks are well formed, so every theorem of the crate network holds of them.
 abbrev pub WorkedWellFormed : Type 0
-WorkedWellFormed = WellFormed T-network × WellFormed F-network × WellFormed alone
+WorkedWellFormed = WellFormed T-network × WellFormed F-network × WellFormed alone × WellFormed slope
 
--- The streams, with the K that the list gives them, are read as these networks.
+-- The streams, with the K that the list gives them, 16 for the last, are read as these networks.
 abbrev pub StreamsRead : Type 0
 StreamsRead =
     (networkOf (reading (8 ∷ 16 ∷ T-stream) .topology) ≡ T-network)
     × (networkOf (reading (8 ∷ 16 ∷ F-stream) .topology) ≡ F-network)
     × (networkOf (reading (8 ∷ 1 ∷ F-stream) .topology) ≡ F-network)
     × (networkOf (reading (8 ∷ 16 ∷ alone-stream) .topology) ≡ alone)
+    × (networkOf (reading (8 ∷ 16 ∷ slope-stream) .topology) ≡ slope)

@@ -62,7 +62,7 @@ laid : (c : tie.After-distances-for) →
     let o : tie.After-of = c .before .before .before .before .before in
     let args = o .before .before .before .before .before .before .before .args in
     let arcs = o .of .result in
-    Lent (args .t1) (arcs .count) (arcs .to) (arcs .cost) (args .t1 .id) (args .t1 .routers) (args .destination .0) (args .mode) (c .distances-for .result)
+    Lent (args .t1) (arcs .count) (arcs .to) (arcs .cost) (arcs .back) (args .t1 .id) (args .t1 .routers) (args .destination .0) (args .mode) (c .distances-for .result)
 laid c =
     let o : tie.After-of = c .before .before .before .before .before in
     let e : tie.Else3 = o .before in
@@ -81,14 +81,14 @@ laid c =
 
 build-requires : tie.Need-build-requires
 build-requires c κs =
-    let distances : tie.After-distances-for = c .before .before .before .before .before .before .before .before in
+    let distances : tie.After-distances-for = c .before .before .before .before .before .before .before .before .before in
     let e : tie.Else3 = distances .before .before .before .before .before .before in
     ((_, laid distances), e .if3 .left)
 
 returns-4 : tie.Need-returns-4
 unfolding building given turnedAway
 returns-4 c =
-    let distances : tie.After-distances-for = c .before .before .before .before .before .before .before .before .before .before .before in
+    let distances : tie.After-distances-for = c .before .before .before .before .before .before .before .before .before .before .before .before in
     let e : tie.Else3 = distances .before .before .before .before .before .before in
     rw (
       c .before .before .build .ensures _ (laid distances),

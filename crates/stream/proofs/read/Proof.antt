@@ -3,28 +3,31 @@
 -- Assumes nothing.
 use Prim.Native.Nat.{ℕ, _+_, _-_, _<_}
 use mathlib.Core.List.{List}
+use mathlib.Core.Logic.{⊎-elim}
 use mathlib.Core.Path.{_≡_, refl, sym, ap, _∙_}
 use native.Mathlib.Omega.{arith}
 use borrow.Author.Needs.{needs}
 use lib.ListN.{length, drop}
 use Rattle.stations.specs.Topology.{contents}
+use Rattle.stream.specs.Halves.{opposite, linkOf}
 use Rattle.stream.specs.declared.Record.{Record}
 use Rattle.stream.specs.declared.Record.the-variants as record-of
 use Rattle.stream.specs.declared.records.Taken.{Taken}
 use Rattle.stream.specs.Stream.{recordIn}
-use Rattle.stream.specs.Reading.{refusal, fault, width, isEnd, nothingListed}
+use Rattle.stream.specs.Reading.{refusal, fault, width, isEnd, ended, nothingListed}
 use Rattle.stream.specs.Reader.{taken}
 use Rattle.stream.proofs.AtTurn.{turn-past, turn-end, turn-refused, each-byte}
-use Rattle.stream.proofs.Standing.{Standing, Passed, standing-first, listed, id-slots, indexed, falls}
-use Rattle.stream.proofs.Standing.{past-router, past-limit, past-nothing, past-link, room-router, room-link, roomy}
+use Rattle.stream.proofs.Standing.{Standing, Passed, standing-first, contents-are, listed, few, id-slots, ids-are, indexed, falls}
+use Rattle.stream.proofs.Standing.{room-router, past-router, past-limit, past-nothing}
+use Rattle.stream.proofs.Marked.{room-link, roomy-first, roomy-second, past-link, places, room-half, roomy, joined, alone, past-half}
 use Rattle.stream.proofs.read.Statement.{statement}
 use Rattle.stream.proofs.read.Tie as tie
 
 abbrev Inv-loop : tie.InvT-loop
-Inv-loop stream t₀ linked₀ count₀ at₀ t linked count at = Standing stream t linked count at
+Inv-loop stream t₀ costs₀ leaving₀ halves₀ at₀ t costs leaving halves at = Standing stream t costs leaving halves at
 
 abbrev μ-loop : tie.MeasureT-loop
-μ-loop stream t₀ linked₀ count₀ at₀ t linked count at = length stream - at
+μ-loop stream t₀ costs₀ leaving₀ halves₀ at₀ t costs leaving halves at = length stream - at
 
 -- of what is taken, the record, and the offset past it
 found : (s : List ℕ) (at : ℕ) {t : Taken} → t ≡ taken s at → t .found ≡ recordIn (drop at s)
@@ -40,7 +43,7 @@ unfolding nothingListed
 loop-holds c = rw (c .blank .ensures) (standing-first _ (each-byte _ (λ i. c .before .shared-slice-known .given i .fits)))
 
 fault-of-requires : tie.Need-fault-of-requires Inv-loop μ-loop
-fault-of-requires c κs = let w = c .before .before .before .before .before .before .loop .inv in (listed w .counted .routers-fit, id-slots w)
+fault-of-requires c κs = let w = c .before .before .before .before .before .before .loop .inv in (listed w .counted .routers-fit, few w, id-slots w)
 
 -- a turn: the record, and its fault
 module _ (c : tie.After-fault-of Inv-loop μ-loop) where
@@ -53,9 +56,8 @@ module _ (c : tie.After-fault-of Inv-loop μ-loop) where
   is-found : took .found ≡ recordIn (drop (turn .loop .at) (turn .before .before .before .args .stream .now))
   is-found = found _ _ (c .before .before .before .before .before .next-from .ensures)
 
-  number-is : c .fault-of .result ≡ fault (contents (turn .loop .t)) (took .found)
-  unfolding contents
-  number-is = c .fault-of .ensures (contents (turn .loop .t)) refl (indexed (turn .loop .inv))
+  number-is : c .fault-of .result ≡ fault (turn .loop .inv .listing) (took .found)
+  number-is = c .fault-of .ensures (turn .loop .inv .listing) (ids-are (turn .loop .inv)) (indexed (turn .loop .inv))
 
 returns : tie.Need-returns Inv-loop μ-loop
 returns c =
@@ -73,7 +75,7 @@ module _ (c : tie.Else1 Inv-loop μ-loop) where
   passed : (r : Record) → took (c .before) .found ≡ r → Passed (there .loop .inv) r (took (c .before) .at)
   passed r e = record {
     is = sym e ∙ is-found (c .before);
-    none = ap (fault (contents (there .loop .t))) (sym e) ∙ sym (number-is (c .before)) ∙ c .if1 .left;
+    none = ap (fault (there .loop .inv .listing)) (sym e) ∙ sym (number-is (c .before)) ∙ c .if1 .left;
     ends =
         reached _ _ (c .before .before .before .before .before .before .next-from .ensures) ∙ ap (λ (q : Record). there .loop .at + width q) e;
   }
@@ -96,7 +98,7 @@ loop-less c = falls (there (w-router (c .before)) .loop .inv) (is-router (c .bef
 loop-again : tie.Need-loop-again Inv-loop μ-loop
 loop-again c = past-router (there (w-router (c .before)) .loop .inv) (is-router (c .before))
 
--- a link
+-- a link: both its halves are stored
 module _ (c : tie.After-record2 Inv-loop μ-loop) where
   abbrev w-link : tie.Else1 Inv-loop μ-loop
   w-link = c .before .before
@@ -107,34 +109,90 @@ module _ (c : tie.After-record2 Inv-loop μ-loop) where
   link-fits : there w-link .loop .t .links < 256
   link-fits = room-link (there w-link .loop .inv) is-link
 
+abbrev link-of : tie.After-index2 Inv-loop μ-loop → tie.After-record2 Inv-loop μ-loop
+link-of c = c .before .before .before .before .before
+
 mark-requires : tie.Need-mark-requires Inv-loop μ-loop
 mark-requires c κs =
-    let r = c .before .before .before .before .before in
-    roomy (there (w-link r) .loop .inv) (is-link r) (c .before .index .ensures) (c .index2 .ensures)
+    let i = c .before .before in
+    let r = link-of i in
+    roomy-first (there (w-link r) .loop .inv) (is-link r) (i .before .index .ensures) (i .index2 .ensures)
+
+mark-requires-2 : tie.Need-mark-requires-2 Inv-loop μ-loop
+mark-requires-2 c κs =
+    let first = c .before .before in
+    let i = first .before .before .before in
+    let r = link-of i in
+    rw (first .mark .ensures .1) (roomy-second (there (w-link r) .loop .inv) (is-link r) (i .before .index .ensures) (i .index2 .ensures))
 
 loop-less-2 : tie.Need-loop-less-2 Inv-loop μ-loop
 unfolding isEnd
-loop-less-2 c = let r = c .before .before .before .before .before .before in falls (there (w-link r) .loop .inv) (is-link r) refl
+loop-less-2 c = let r = link-of (c .before .before .before .before .before .before) in falls (there (w-link r) .loop .inv) (is-link r) refl
 
 loop-again-2 : tie.Need-loop-again-2 Inv-loop μ-loop
+unfolding linkOf opposite
 loop-again-2 c =
-    let r = c .before .before .before .before .before .before in
-    past-link (there (w-link r) .loop .inv) (is-link r) (c .before .before .index .ensures) (c .before .index2 .ensures) (c .mark .ensures .0) (c .mark .ensures .1)
+    let first = c .before .before .before in
+    let i = first .before .before .before in
+    let r = link-of i in
+    past-link (there (w-link r) .loop .inv) (is-link r) (i .before .index .ensures) (i .index2 .ensures) (first .mark .ensures) (c .mark2 .ensures)
 
--- a limit, and what stands in a record's place with no number
+-- a half: with its opposite, if that is listed, it makes a link
+module _ (c : tie.After-record3 Inv-loop μ-loop) where
+  abbrev w-half : tie.Else1 Inv-loop μ-loop
+  w-half = c .before .before
+
+  is-half : Passed (there w-half .loop .inv) (record-of.Half (c .record3 .given .0 .0)) (took (w-half .before) .at)
+  is-half = passed w-half _ (c .record3 .given .1)
+
+module _ (c : tie.After-index4 Inv-loop μ-loop) where
+  abbrev half-of : tie.After-record3 Inv-loop μ-loop
+  half-of = c .before .before .before .before .before
+
+  abbrev w-there : tie.At-loop Inv-loop μ-loop
+  w-there = there (w-half half-of)
+
+  ends-in : (c .before .index3 .result < 64) × (c .index4 .result < 64)
+  ends-in = places (w-there .loop .inv) (is-half half-of) (c .before .index3 .ensures) (c .index4 .ensures)
+
+link-room : (c : tie.Then2 Inv-loop μ-loop) → w-there (c .before) .loop .t .links < 256
+link-room c =
+    let i = c .before in
+    room-half (w-there i .loop .inv) (is-half (half-of i)) (i .before .index3 .ensures) (i .index4 .ensures) (c .if2 .taken)
+
+mark-requires-3 : tie.Need-mark-requires-3 Inv-loop μ-loop
+mark-requires-3 c κs =
+    let i = c .before .before .before in
+    roomy (w-there i .loop .inv) (is-half (half-of i)) (i .before .index3 .ensures) (i .index4 .ensures)
+
 loop-less-3 : tie.Need-loop-less-3 Inv-loop μ-loop
 unfolding isEnd
-loop-less-3 c = let w = c .before .before .before in falls (there w .loop .inv) (passed w _ (c .before .record3 .given .1)) refl
+loop-less-3 c = let i = c .before .before .before .before in falls (w-there i .loop .inv) (is-half (half-of i)) refl
 
 loop-again-3 : tie.Need-loop-again-3 Inv-loop μ-loop
-loop-again-3 c = let w = c .before .before .before in past-limit (there w .loop .inv) (passed w _ (c .before .record3 .given .1))
+loop-again-3 c =
+    let j = c .before .before .before in
+    let i = j .before in
+    let w = w-there i .loop .inv in
+    let r = is-half (half-of i) in
+    let u = i .before .index3 .ensures in
+    let v = i .index4 .ensures in
+    past-half w r u v (⊎-elim (λ x. x .1 ∙ joined w r u v (x .0 .taken)) (λ x. x .1 ∙ alone w r u v (x .0 .left)) (j .if2 .came)) (c .mark3 .ensures)
 
+-- a limit, and what stands in a record's place with no number
 loop-less-4 : tie.Need-loop-less-4 Inv-loop μ-loop
 unfolding isEnd
-loop-less-4 c = let w = c .before .before in falls (there w .loop .inv) (passed w _ (c .enum-told2 .given .1)) refl
+loop-less-4 c = let w = c .before .before .before in falls (there w .loop .inv) (passed w _ (c .before .record4 .given .1)) refl
 
 loop-again-4 : tie.Need-loop-again-4 Inv-loop μ-loop
-loop-again-4 c = let w = c .before .before in past-nothing (there w .loop .inv) (passed w _ (c .enum-told2 .given .1))
+loop-again-4 c = let w = c .before .before .before in past-limit (there w .loop .inv) (passed w _ (c .before .record4 .given .1))
+
+loop-less-5 : tie.Need-loop-less-5 Inv-loop μ-loop
+unfolding isEnd
+loop-less-5 c = let w = c .before .before in falls (there w .loop .inv) (passed w _ (c .enum-told2 .given .1)) refl
+
+loop-again-5 : tie.Need-loop-again-5 Inv-loop μ-loop
+loop-again-5 c = let w = c .before .before in past-nothing (there w .loop .inv) (passed w _ (c .enum-told2 .given .1))
 
 -- the end, with its record and without
 ended-requires : tie.Need-ended-requires Inv-loop μ-loop
@@ -145,7 +203,8 @@ ended-requires c κs =
 returns-2 : tie.Need-returns-2 Inv-loop μ-loop
 returns-2 c =
     let f = c .before .before .before .before in
-    c .ended .ensures ∙ sym (turn-end _ _ _ (turn f .loop .inv .turn) (sym (is-found f) ∙ c .before .enum-told .given .1))
+    let w = turn f .loop .inv in
+    c .ended .ensures ∙ ap (ended _ (turn f .loop .at)) (contents-are w) ∙ sym (turn-end _ _ _ (w .turn) (sym (is-found f) ∙ c .before .enum-told .given .1))
 
 returns-3 : tie.Need-returns-3 Inv-loop μ-loop
 returns-3 c = c .refused2 .ensures ∙ sym (turn-past _ _ _ (c .before .before .loop .inv .turn) (c .before .loop-test .left))
@@ -167,12 +226,26 @@ read-spec =
     (λ c. router-fits (c .before))
     (λ c. omega (arith, router-fits (c .before)))
     (λ c. search needs)
-    (λ c. omega (arith, link-fits (c .before)))
-    (λ c. link-fits (c .before))
-    (λ c. omega (arith, link-fits (c .before)))
     (λ c κs. search needs)
     (λ c κs. search needs)
+    (λ c. omega (arith, link-fits (link-of c)))
+    (λ c. link-fits (link-of c))
+    (λ c. omega (arith, link-fits (link-of c)))
     mark-requires
+    mark-requires-2
+    (λ c. let i = c .before .before .before .before .before .before in omega (arith, few (there (w-link (link-of i)) .loop .inv)))
+    (λ c. search needs)
+    (λ c κs. search needs)
+    (λ c κs. search needs)
+    (λ c. omega (arith, ends-in c))
+    (λ c. omega (arith, ends-in c))
+    (λ c. omega (arith, ends-in c))
+    (λ c. omega (arith, ends-in c))
+    (λ c. omega (arith, link-room c))
+    (λ c. link-room c)
+    (λ c. omega (arith, link-room c))
+    mark-requires-3
+    (λ c. let i = c .before .before .before .before in omega (arith, few (w-there i .loop .inv)))
     (λ c. search needs)
     (λ c. search needs)
     ended-requires
@@ -186,5 +259,7 @@ read-spec =
     loop-again-3
     loop-less-4
     loop-again-4
+    loop-less-5
+    loop-again-5
     (λ c κs. search needs)
     returns-3)

@@ -7,15 +7,16 @@ use native.Mathlib.Omega.{arith}
 use borrow.Author.Needs.{needs}
 use borrow.Author.Tests.{not-true, not-false, lt-ltb, le-ltb}
 use lib.ListN.{length, set, length-set}
+use Rattle.stations.specs.Topology.{contents}
 use Rattle.stations.specs.Outcome.{given, turnedAway}
 use Rattle.stations.specs.Inner.{Counted}
 use Rattle.soundness.specs.Sound.{sound}
 use Rattle.soundness.specs.Theorems.{Sound}
 use Rattle.soundness.proofs.Sound.{sound-exact}
-use Rattle.topology.specs.Written.{written, writing}
+use Rattle.topology.specs.Written.{joinedOver, linkBytes, written, writing}
 use Rattle.topology.specs.Inner.{over}
 use Rattle.topology.proofs.Over.{over-start}
-use Rattle.topology.proofs.WrittenLength.{written-length}
+use Rattle.topology.proofs.WrittenLength.{written-parts}
 use Rattle.topology.proofs.WrittenParts.{parts-written}
 use Rattle.topology.proofs.write.Statement.{statement}
 use Rattle.topology.proofs.write.Tie as tie
@@ -60,8 +61,8 @@ links : (c : tie.Else2) → start c .args .t .links ≤ length (start c .args .t
 links c = let f = facts (c .before .before) in omega (arith, f .links-most, f .link-slots)
 
 needed : (c : tie.Else2)
-    → let t = start c .args .t in length (written t) ≡ 2 + 5 * t .routers + 5 * t .links + 1
-needed c = written-length (start c .args .t) (ids c) (links c)
+    → let t = start c .args .t in length (written t) ≡ 2 + 5 * t .routers + length (joinedOver linkBytes (contents t .links)) + 1
+needed c = written-parts (start c .args .t) (ids c) (links c)
 
 fits : (c : tie.Else2) → length (written (start c .args .t)) ≤ length (start c .args .out .now)
 fits c = omega (arith, c .before .length-of .ensures)

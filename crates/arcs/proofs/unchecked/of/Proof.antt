@@ -1,7 +1,8 @@
--- `arcs::unchecked::of` meets its contract. The loop's invariant: the slots hold the arcs of the links passed. A turn adds an arc
--- for each end of a link; there is room for both, since all links together give no router more than 16.
+-- `arcs::unchecked::of` meets its contract. The loop's invariant: the slots hold the arcs of the links passed, and with costs exchanged those of
+-- the links exchanged so. A turn adds an arc for each end of a link; there is room for both, since all links together give no router more than 16.
 -- Assumes nothing.
 use Prim.Native.Nat.{ℕ, _<_, _≤_, _-_}
+use mathlib.Core.List.{map, map-append}
 use mathlib.Core.Path.{_≡_, refl, ap, sym, _∙_, subst}
 use native.Mathlib.Numerals.{add-one-le}
 use native.Mathlib.Omega.{arith}
@@ -10,32 +11,33 @@ use lib.ListN.{getD, getD-replicate}
 use Rattle.stations.specs.declared.Link.{Link}
 use Rattle.stations.specs.Topology.{seen}
 use Rattle.arcs.specs.declared.Arcs.{Arcs}
-use Rattle.arcs.specs.Arcs.{withArc, inSlots}
+use Rattle.arcs.specs.Arcs.{withArc, inSlots, linkBack, slotsBack}
 use Rattle.arcs.proofs.Among.{there, back}
 use Rattle.arcs.proofs.Filled.{Filled, Next, filled-none, room-first, room-second, one-link}
 use Rattle.arcs.proofs.Links.{firstLinks, links-of, next-links, next-fits}
+use Rattle.arcs.proofs.Back.{next-back, arcs-back, back-exact}
 use Rattle.arcs.proofs.unchecked.of.Statement.{statement}
 use Rattle.arcs.proofs.unchecked.of.Tie as tie
 
 -- what stands past the end of an array of links
 abbrev none : Link
-none = record { first = record { 0 = 0 }; second = record { 0 = 0 }; cost = 0 }
+none = record { first = record { 0 = 0 }; second = record { 0 = 0 }; cost = 0; back = 0 }
 
 abbrev Inv-loop : tie.InvT-loop
-Inv-loop t links count₀ to₀ cost₀ link₀ i₀ count to cost link i = (i ≤ links) × Filled (t .routers) (firstLinks t i) (inSlots count to cost link)
+Inv-loop t links count₀ to₀ cost₀ back₀ link₀ i₀ count to cost back link i =
+    (i ≤ links) × Filled (t .routers) (firstLinks t i) (inSlots count to cost back link)
+    × Filled (t .routers) (map linkBack (firstLinks t i)) (inSlots count to back cost link)
 
 abbrev μ-loop : tie.MeasureT-loop
-μ-loop t links count₀ to₀ cost₀ link₀ i₀ count to cost link i = links - i
+μ-loop t links count₀ to₀ cost₀ back₀ link₀ i₀ count to cost back link i = links - i
 
 loop-holds : tie.Need-loop-holds Inv-loop μ-loop
 unfolding firstLinks
 loop-holds c =
-    let limit = links-of (c .args .t1) (c .pre) .routers-most in (
-      omega arith,
-      filled-none (c .args .t1 .routers) _
-          (record { counts = refl; tos = refl; costs = refl; links = refl })
-          (λ u h. getD-replicate {A = ℕ} 64 u 0 0 (omega arith)),
-    )
+    let limit = links-of (c .args .t1) (c .pre) .routers-most in
+    let none-yet = filled-none (c .args .t1 .routers) _ (record { counts = refl; tos = refl; costs = refl; backs = refl; links = refl })
+    (λ u h. getD-replicate {A = ℕ} 64 u 0 0 (omega arith)) in
+    (omega arith, none-yet, none-yet)
 
 -- the link of this turn
 few : (c : tie.In-loop Inv-loop μ-loop) → c .before .loop .i < 256
@@ -61,10 +63,10 @@ second-in c = omega (arith, next c .second-in, next c .limit)
 
 -- from the first call back to the turn, and from the second
 abbrev turn : tie.After-link Inv-loop μ-loop → tie.In-loop Inv-loop μ-loop
-turn c = c .before .before .before .before .before
+turn c = c .before .before .before .before .before .before
 
 abbrev added : tie.After-link2 Inv-loop μ-loop → tie.After-add Inv-loop μ-loop
-added c = c .before .before .before .before
+added c = c .before .before .before .before .before
 
 add-requires : tie.Need-add-requires Inv-loop μ-loop
 unfolding seen
@@ -77,16 +79,18 @@ add-requires-2 c κs =
     (second-in w, subst (λ (a : Arcs). getD (a .count) (link w .second .0) 0 < 16) (sym (added c .add .ensures)) (room-second (next w) (w .before .loop .inv .1)))
 
 loop-again : tie.Need-loop-again Inv-loop μ-loop
-unfolding seen there back
+unfolding seen there back withArc linkBack
 loop-again c =
     let first = added (c .before) in
     let w = turn (first .before) in
     let t = w .before .before .args .t1 in
     let h = w .loop-test .taken in
-    let twice = c .add2 .ensures ∙ ap (λ (a : Arcs). withArc a (link w .second .0) (back (seen (link w)) (w .before .loop .i))) (first .add .ensures) in (
+    let second : Arcs → Arcs = λ a. withArc a (link w .second .0) (back (seen (link w)) (w .before .loop .i)) (link w .cost) in
+    let twice = c .add2 .ensures ∙ ap second (first .add .ensures) in
+    let links = next-links t (links-of t (w .before .before .pre)) (w .before .loop .i) h none in (
       add-one-le h,
-      rw (next-links t (links-of t (w .before .before .pre)) (w .before .loop .i) h none)
-          (subst (Filled (t .routers) _) (sym twice) (one-link (next w) (w .before .loop .inv .1))),
+      rw links (subst (Filled (t .routers) _) (sym twice) (one-link (next w) (w .before .loop .inv .1))),
+      rw (links, map-append) (subst (Filled (t .routers) _) (sym (ap slotsBack twice)) (one-link (next-back (next w)) (w .before .loop .inv .2))),
     )
 
 returns : tie.Need-returns Inv-loop μ-loop
@@ -94,9 +98,13 @@ returns c =
     let start = c .before in
     let t = start .before .args .t1 in
     let w = links-of t (start .before .pre) in
-    let f = start .loop .inv .1 in
+    let (bound, f, g) = start .loop .inv in
+    let sized = back-exact t (start .before .pre) .routers in
     let end : start .loop .i ≡ t .links = omega arith in
-    record { slots = f .slots; arcs = λ u h. f .each u (omega (arith, w .size-is)) ∙ rw end (sym (w .arcs-are u (omega (arith, w .size-is)))) }
+    record {
+      out = record { slots = f .slots; arcs = λ u h. f .each u (omega (arith, w .size-is)) ∙ rw end (sym (w .arcs-are u (omega (arith, w .size-is)))) };
+      back = record { slots = g .slots; arcs = λ u h. g .each u (omega arith) ∙ rw end (sym (arcs-back t (start .before .pre) u (omega arith))) };
+    }
 
 pub of-spec : {M : Type 1} → statement M
 of-spec =

@@ -12,12 +12,12 @@ use Rattle.distances.proofs.settling.relax.Statement.{statement}
 use Rattle.distances.proofs.settling.relax.Tie as tie
 
 abbrev Inv-loop : tie.InvT-loop
-Inv-loop ds₀ to cost u count first here j₀ ds j = (j ≤ count) × Relaxed to cost u j ds₀ ds
+Inv-loop ds₀ to back u count first here j₀ ds j = (j ≤ count) × Relaxed to back u j ds₀ ds
 
 abbrev μ-loop : tie.MeasureT-loop
-μ-loop ds₀ to cost u count first here j₀ ds j = count - j
+μ-loop ds₀ to back u count first here j₀ ds j = count - j
 
--- a turn: where slot j leads, and what it costs
+-- a turn: where slot j leads, and what coming from there costs
 abbrev slot : tie.In-loop Inv-loop μ-loop → ℕ
 slot c = slotTo (c .before .before .before .args .to .now) (c .before .before .before .args .u) (c .before .loop .j)
 
@@ -25,7 +25,7 @@ inside : (c : tie.In-loop Inv-loop μ-loop) → slot c < 64
 inside c = c .before .before .before .pre .0 .leads (c .before .loop .j) (c .loop-test .taken)
 
 cheap : (c : tie.In-loop Inv-loop μ-loop) →
-    getD (c .before .before .before .args .cost .now) (c .before .before .before .args .u * 16 + c .before .loop .j) 0 ≤ 65535
+    getD (c .before .before .before .args .back .now) (c .before .before .before .args .u * 16 + c .before .loop .j) 0 ≤ 65535
 cheap c = c .before .before .before .pre .0 .cheap (c .before .loop .j) (c .loop-test .taken)
 
 loop-holds : tie.Need-loop-holds Inv-loop μ-loop

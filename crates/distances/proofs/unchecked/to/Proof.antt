@@ -10,10 +10,10 @@ use Rattle.distances.proofs.unchecked.to.Statement.{statement}
 use Rattle.distances.proofs.unchecked.to.Tie as tie
 
 abbrev Inv-loop : tie.InvT-loop
-Inv-loop counts to cost n d ds₀ marks₀ k₀ ds marks k = (k ≤ n) × Runs counts to cost n d k ds marks
+Inv-loop counts to back n d ds₀ marks₀ k₀ ds marks k = (k ≤ n) × Runs counts to back n d k ds marks
 
 abbrev μ-loop : tie.MeasureT-loop
-μ-loop counts to cost n d ds₀ marks₀ k₀ ds marks k = n - k
+μ-loop counts to back n d ds₀ marks₀ k₀ ds marks k = n - k
 
 most : (c : tie.Start Inv-loop μ-loop) → c .args .n ≤ 64
 most c = let laid = c .pre .0 in laid-given _ _ _ _ _ (c .pre .1) (laid .0) (laid .1) .held .most
@@ -47,7 +47,7 @@ nearest-requires c κs =
 slots : (c : tie.After-nearest Inv-loop μ-loop) →
     let at = c .before .before .before .before in
     let args = start at .args in
-    Slots (args .to .now) (args .cost .now) (at .loop .ds) (c .nearest .result) (getD (args .counts .now) (c .nearest .result) 0)
+    Slots (args .to .now) (args .back .now) (at .loop .ds) (c .nearest .result) (getD (args .counts .now) (c .nearest .result) 0)
 slots c =
     let at = c .before .before .before .before in
     runs-slots _ _ _ (start at .args .n) (found at .index .result) (inside (found at)) (at .loop .k) _ _ (at .loop .inv .1) (start at .pre .0)

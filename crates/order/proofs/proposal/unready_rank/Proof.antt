@@ -49,7 +49,7 @@ shared-slice-read-u c = omega (arith, c .before .before .before .loop .inv .prop
 at-place : (c : tie.After-shared-slice-known2 Inv-loop μ-loop) →
     let args = start (stood (c .before .before .before .before)) .args in
     let u = getD (args .order .now) (c .before .before .before .loop .rank) 0 in
-    Slots (args .t2 .to) (args .t2 .cost) (args .t3) u (getD (args .t2 .count) u 0)
+    Slots (args .t2 .to) (args .t2 .back) (args .t3) u (getD (args .t2 .count) u 0)
 at-place c =
     let w = c .before .before .before .loop .inv in
     slots (w .given) (place w (c .before .if1 .taken))

@@ -12,17 +12,17 @@ use Rattle.order.specs.Proposed.{Lent}
 use Rattle.distances.specs.Slots.{Slots}
 use Rattle.order.specs.Inner.{Inverse}
 use Rattle.order.proofs.Building.{Building, same-long}
-use Rattle.order.proofs.Lending.{slots-of, all, d-in, small, apart, room-first, begin, keys-fit, fits, next-in, room-next, go-on, done}
+use Rattle.order.proofs.Lending.{slots-of, all, all-back, d-in, small, apart, room-first, begin, keys-fit, fits, next-in, room-next, go-on, done}
 use Rattle.order.proofs.unchecked.build.Statement.{statement}
 use Rattle.order.proofs.unchecked.build.Tie as tie
 
 abbrev Inv-loop : tie.InvT-loop
-Inv-loop counts to cost ds ids n mode out₀ d places keys₀ count rank₀ out keys rank =
+Inv-loop counts to cost back ds ids n mode out₀ d places keys₀ count rank₀ out keys rank =
     (lower : List ℕ) × Inverse lower n places
-    × ((t : Topology) (l : Lent t counts to cost ids n d mode ds) → Building t (slots-of l) d mode ds lower out₀ out keys rank)
+    × ((t : Topology) (l : Lent t counts to cost back ids n d mode ds) → Building t (slots-of l) d mode ds lower out₀ out keys rank)
 
 abbrev μ-loop : tie.MeasureT-loop
-μ-loop counts to cost ds ids n mode out₀ d places keys₀ count rank₀ out keys rank = n - rank
+μ-loop counts to cost back ds ids n mode out₀ d places keys₀ count rank₀ out keys rank = n - rank
 
 -- from the call that counts d in back to the calls before it
 abbrev stood : tie.After-count-in Inv-loop μ-loop → tie.After-standings Inv-loop μ-loop
@@ -39,7 +39,7 @@ module _ (c : tie.After-index Inv-loop μ-loop) where
   abbrev LentFor : Topology → ℕ → Type 0
   LentFor t d =
       let args = c .before .before .args in
-      Lent t (args .counts .now) (args .to .now) (args .cost .now) (args .ids .now) (args .n) d (args .mode) (args .ds .now)
+      Lent t (args .counts .now) (args .to .now) (args .cost .now) (args .back .now) (args .ids .now) (args .n) d (args .mode) (args .ds .now)
 
   own : {t : Topology} → LentFor t (c .before .before .args .destination .0) → LentFor t (c .index .result)
   own l = rw (c .index .ensures) l
@@ -56,7 +56,7 @@ count-in-requires : tie.Need-count-in-requires Inv-loop μ-loop
 count-in-requires c κs =
     let stands = c .before .before in
     let (t, l) = lent (found (lowered stands)) in
-    (all l .each _ (d-in l), room-first l (lowered stands .lower-ids .ensures) (stands .standings .ensures))
+    (all-back l .each _ (d-in l), room-first l (lowered stands .lower-ids .ensures) (stands .standings .ensures))
 
 loop-holds : tie.Need-loop-holds Inv-loop μ-loop
 loop-holds c =
@@ -92,8 +92,8 @@ within : (c : tie.After-highest Inv-loop μ-loop) → place c < 64
 within c = let (t, l) = lent (begun (turn c)) in omega (arith, inside c, all l .most)
 
 at-place : (c : tie.After-highest Inv-loop μ-loop) → let args = begun (turn c) .before .before .args in
-    Slots (args .to .now) (args .cost .now) (args .ds .now) (place c) (getD (args .counts .now) (place c) 0)
-at-place c = let (t, l) = lent (begun (turn c)) in all l .each (place c) (inside c)
+    Slots (args .to .now) (args .back .now) (args .ds .now) (place c) (getD (args .counts .now) (place c) 0)
+at-place c = let (t, l) = lent (begun (turn c)) in all-back l .each (place c) (inside c)
 
 count-in-requires-2 : tie.Need-count-in-requires-2 Inv-loop μ-loop
 count-in-requires-2 c κs =

@@ -33,6 +33,7 @@ loop-again c =
     let k = getD (c .before .before .before .before .before .args .t1 .link) (l .i) noLink in
     let second = eqb (k .second .0) 0 in
     let cost = eqb (k .cost) 0 in
+    let back = eqb (k .back) 0 in
     let fails = and-false (l .none) in
     rest (l .inv) (omega arith) noLink
     (⊎-elim
@@ -40,8 +41,11 @@ loop-again c =
     ∙ sym
     (⊎-elim (λ v. rw (ne-eqb _ 0 (v .taken)) fails)
     (⊎-elim (λ v. rw (eq-eqb _ 0 (v .0 .left), not-true second (v .2 .taken)) fails)
-    (λ v. rw (eq-eqb _ 0 (v .0 .left), not-false second (v .2 .left), not-true cost (v .4 .taken)) fails)) (w .0 .came)))
-    (λ w. w .5 ∙ sym (rw (eq-eqb _ 0 (w .0 .left), not-false second (w .2 .left), not-false cost (w .4 .left)) (and-true (l .none)))) (c .if1 .came))
+    (⊎-elim (λ v. rw (eq-eqb _ 0 (v .0 .left), not-false second (v .2 .left), not-true cost (v .4 .taken)) fails)
+    (λ v. rw (eq-eqb _ 0 (v .0 .left), not-false second (v .2 .left), not-false cost (v .4 .left), not-true back (v .6 .taken)) fails))) (w .0 .came)))
+    (λ w. w .7
+    ∙ sym (rw (eq-eqb _ 0 (w .0 .left), not-false second (w .2 .left), not-false cost (w .4 .left), not-false back (w .6 .left)) (and-true (l .none))))
+    (c .if1 .came))
 
 returns : tie.Need-returns Inv-loop μ-loop
 returns c = rest-none (c .before .loop .inv) (c .loop-test .left)

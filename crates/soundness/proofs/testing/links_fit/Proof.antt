@@ -17,7 +17,7 @@ use Rattle.network.specs.Theorems.Network.{SoundLink}
 use Rattle.network.proofs.Selection.{getD-mem}
 use Rattle.stations.specs.declared.Topology.{Topology}
 use Rattle.stations.specs.Topology.{noLink, contents, seen}
-use Rattle.stations.proofs.Machine.{ids-length, links-length, cost-fits}
+use Rattle.stations.proofs.Machine.{ids-length, links-length, cost-fits, back-fits}
 use Rattle.stations.proofs.Prefix.{map-more}
 use Rattle.soundness.specs.Sound.{wellLinked}
 use Rattle.soundness.proofs.InTurn.{links-fit, well-linked}
@@ -75,19 +75,20 @@ returns-2 : tie.Need-returns-2 Inv-loop μ-loop
 unfolding noLink seen
 returns-2 c =
     unsound (c .before .before .before .before .before .before)
-    (⊎-elim (λ w s. s .ends-differ (omega (arith, w .taken))) (λ w s. omega (arith, eqb-true, s .cost-least)) (c .if3 .came))
+    (⊎-elim (λ w s. s .ends-differ (omega (arith, w .taken)))
+    (⊎-elim (λ w s. omega (arith, eqb-true, s .cost-least)) (λ w s. omega (arith, eqb-true, s .back-least))) (c .if3 .came))
 
--- a turn whose link is sound; that its cost is at most 65,535 is what a `u16` tells
-abbrev turn : tie.Else4 Inv-loop μ-loop → tie.In-loop Inv-loop μ-loop
-turn c = c .before .before .before .before .before .before .before .before
+-- a turn whose link is sound; that its costs are at most 65,535 is what a `u16` tells
+abbrev turn : tie.Else5 Inv-loop μ-loop → tie.In-loop Inv-loop μ-loop
+turn c = c .before .before .before .before .before .before .before .before .before .before
 
-abbrev ends-of : tie.Else4 Inv-loop μ-loop → tie.After-index2 Inv-loop μ-loop
-ends-of c = c .before .before .before .before .before
+abbrev ends-of : tie.Else5 Inv-loop μ-loop → tie.After-index2 Inv-loop μ-loop
+ends-of c = c .before .before .before .before .before .before .before
 
-second-in : (c : tie.Else4 Inv-loop μ-loop) → ends-of c .index2 .result < topology (turn c) .routers
-second-in c = leb-false _ _ (c .before .before .before .if2 .left)
+second-in : (c : tie.Else5 Inv-loop μ-loop) → ends-of c .index2 .result < topology (turn c) .routers
+second-in c = leb-false _ _ (c .before .before .before .before .before .if2 .left)
 
-sound-link : (c : tie.Else4 Inv-loop μ-loop) → SoundLink (topology (turn c) .routers) (link-at (turn c))
+sound-link : (c : tie.Else5 Inv-loop μ-loop) → SoundLink (topology (turn c) .routers) (link-at (turn c))
 unfolding noLink seen
 sound-link c =
     let w = turn c in
@@ -95,21 +96,23 @@ sound-link c =
     record {
       first-listed = omega arith;
       second-listed = omega (arith, second-in c);
-      ends-differ = λ e. c .before .before .if3 .left (omega arith);
+      ends-differ = λ e. c .before .before .before .before .if3 .left (omega arith);
       cost-least = omega (arith, eqb-false);
       cost-most = omega (arith, cost-fits (topology w) _ (w .before .before .before .good .0) _ m);
+      back-least = omega (arith, eqb-false);
+      back-most = omega (arith, back-fits (topology w) _ (w .before .before .before .good .0) _ m);
     }
 
-ends-are : (c : tie.Else4 Inv-loop μ-loop) →
+ends-are : (c : tie.Else5 Inv-loop μ-loop) →
     (ends-of c .before .index .result ≡ link-at (turn c) .first) × (ends-of c .index2 .result ≡ link-at (turn c) .second)
 unfolding noLink seen
 ends-are c = (ends-of c .before .index .ensures, ends-of c .index2 .ensures)
 
-ends : (c : tie.Else4 Inv-loop μ-loop) → (ends-of c .before .index .result < 64) × (ends-of c .index2 .result < 64)
+ends : (c : tie.Else5 Inv-loop μ-loop) → (ends-of c .before .index .result < 64) × (ends-of c .index2 .result < 64)
 ends c = (omega arith, omega (arith, second-in c))
 
 -- what the table of pairs has of it
-tabled : (c : tie.Else4 Inv-loop μ-loop) → let w = turn c in
+tabled : (c : tie.Else5 Inv-loop μ-loop) → let w = turn c in
     getD (w .before .loop .linked) (ends-of c .before .index .result * 64 + ends-of c .index2 .result) false
     ≡ any (samePair (link-at w)) (map seen (take (w .before .loop .i) (topology w .link)))
 tabled c =
@@ -121,10 +124,10 @@ returns-3 : tie.Need-returns-3 Inv-loop μ-loop
 unfolding noLink contents
 returns-3 c =
     let w = turn (c .before) in
-    rw (sym (failed pairs-grow (w .before .loop .inv .1) (omega arith) noLink (ap not (sym (tabled (c .before)) ∙ c .if5 .taken))), and-false)
+    rw (sym (failed pairs-grow (w .before .loop .inv .1) (omega arith) noLink (ap not (sym (tabled (c .before)) ∙ c .if6 .taken))), and-false)
 
 -- one of its ends has 16 neighbours already
-refuse : (c : tie.Else4 Inv-loop μ-loop) (u : ℕ) → (link-at (turn c) .first ≡ u) ⊎ (link-at (turn c) .second ≡ u) →
+refuse : (c : tie.Else5 Inv-loop μ-loop) (u : ℕ) → (link-at (turn c) .first ≡ u) ⊎ (link-at (turn c) .second ≡ u) →
     16 ≤ getD (turn c .before .loop .count) u 0 → false ≡ links-fit (topology (turn c))
 refuse c u e many =
     let w = turn c .before in
@@ -137,10 +140,10 @@ returns-4 : tie.Need-returns-4 Inv-loop μ-loop
 returns-4 c =
     let l = c .before .before in
     ⊎-elim (λ w. refuse l _ (inl (sym (ends-are l .0))) (w .taken)) (λ w. refuse l _ (inr (sym (ends-are l .1))) (leb-true _ _ (w .1 .taken)))
-    (c .if6 .came)
+    (c .if7 .came)
 
 -- the turn of a link that passes every test, as `Labels` has it
-labelling : (c : tie.Else4 Inv-loop μ-loop) → T (wellLinked (topology (turn c))) →
+labelling : (c : tie.Else5 Inv-loop μ-loop) → T (wellLinked (topology (turn c))) →
     Turn (topology (turn c)) (turn c .before .loop .i) (ends-of c .before .index .result) (ends-of c .index2 .result)
 unfolding seen
 labelling c well =
@@ -161,14 +164,14 @@ loop-again c =
     let within = turn l .loop-test .taken in
     let more = map-more seen (w .before .before .args .t1 .link) (w .loop .i) noLink (omega (arith, within, w .loop .inv .0 .long)) in (
       passed (sound-grow _) (w .loop .inv .0) within noLink (sound-passes _ _ s),
-      passed pairs-grow (w .loop .inv .1) within noLink (ap not (sym (tabled l) ∙ p .if5 .left)),
+      passed pairs-grow (w .loop .inv .1) within noLink (ap not (sym (tabled l) ∙ p .if6 .left)),
       rw more (tabled-more (w .loop .inv .2) k (omega (arith, s)) (omega (arith, s)) f g),
       rw more
-          (tallied-more (w .loop .inv .3) k f g (ends l .0) (ends l .1) (l .before .before .if3 .left) (e .before .if6 .left) (leb-false _ _ (e .if7 .left))),
+          (tallied-more (w .loop .inv .3) k f g (ends l .0) (ends l .1) (l .before .before .before .before .if3 .left) (e .before .if7 .left) (leb-false _ _ (e .if8 .left))),
       w .loop .inv .4,
       λ well.
           ⊎-elim (λ v. rw (v .2, v .1 .ensures) (after-merged (labelling l well) (h well)))
-          (λ v. rw (v .1) (after-same (labelling l well) (h well) (v .0 .left))) (c .if8 .came),
+          (λ v. rw (v .1) (after-same (labelling l well) (h well) (v .0 .left))) (c .if9 .came),
     )
 
 returns-5 : tie.Need-returns-5 Inv-loop μ-loop

@@ -25,6 +25,10 @@ returns-5 : tie.Need-returns-5
 unfolding width
 returns-5 c = search needs
 
+returns-6 : tie.Need-returns-6
+unfolding width
+returns-6 c = search needs
+
 pub width-of-spec : {M : Type 1} → statement M
 width-of-spec =
     tie.close
@@ -34,8 +38,10 @@ width-of-spec =
     (λ c. search needs)
     (λ c. search needs)
     (λ c. search needs)
+    (λ c. search needs)
     returns
     returns-2
     returns-3
     returns-4
-    returns-5)
+    returns-5
+    returns-6)

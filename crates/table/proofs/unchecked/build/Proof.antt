@@ -31,7 +31,7 @@ settled c = c .to .ensures _ (laid-out _ _ (start c .pre .0) (start c .pre .1))
 
 -- what is lent to building
 laid : (c : tie.After-to) → let a = start c .args in
-    Lent (a .t1) (a .t2 .count) (a .t2 .to) (a .t2 .cost) (a .t1 .id) (a .t1 .routers) (a .destination .0) (a .mode) (c .to .result)
+    Lent (a .t1) (a .t2 .count) (a .t2 .to) (a .t2 .cost) (a .t2 .back) (a .t1 .id) (a .t1 .routers) (a .destination .0) (a .mode) (c .to .result)
 laid c =
     let pre = start c .pre in
     record {
@@ -43,24 +43,24 @@ laid c =
 
 build-requires : tie.Need-build-requires
 build-requires c κs =
-    let distances : tie.After-to = c .before .before .before .before .before .before .before .before in ((_, laid distances), sound-exact _ .0 (start distances .pre .0) .routers-most)
+    let distances : tie.After-to = c .before .before .before .before .before .before .before .before .before in ((_, laid distances), sound-exact _ .0 (start distances .pre .0) .routers-most)
 
 -- from the order back to the distances
 abbrev gone : tie.After-build → tie.After-to
-gone c = c .before .before .before .before .before .before .before .before .before
+gone c = c .before .before .before .before .before .before .before .before .before .before
 
 -- the first bytes are the order
 module _ (c : tie.After-build) where
   long : let a = start (gone c) .args in length (build (networkOf (a .t1)) (a .destination .0) (modeOf (a .mode))) ≡ a .t1 .routers
   long = let s = start (gone c) in built-long (s .args .t1) (s .pre .0) _ (s .pre .2) _
 
-  all : length (c .build .last .1 .1 .1 .1 .1 .1 .1 .1 .0) ≡ 64
+  all : length (c .build .last .1 .1 .1 .1 .1 .1 .1 .1 .1 .0) ≡ 64
   all =
       ap length (c .build .ensures _ (laid (gone c)))
       ∙ simp (length-append, length-drop, long) (omega (arith, sound-exact _ .0 (start (gone c) .pre .0) .routers-most))
 
   front : let a = start (gone c) .args in
-      take (a .t1 .routers) (c .build .last .1 .1 .1 .1 .1 .1 .1 .1 .0) ≡ build (networkOf (a .t1)) (a .destination .0) (modeOf (a .mode))
+      take (a .t1 .routers) (c .build .last .1 .1 .1 .1 .1 .1 .1 .1 .1 .0) ≡ build (networkOf (a .t1)) (a .destination .0) (modeOf (a .mode))
   front =
       let count = start (gone c) .args .t1 .routers in
       ap (take count) (c .build .ensures _ (laid (gone c))) ∙ take-at _ _ count long

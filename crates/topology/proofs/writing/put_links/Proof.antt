@@ -7,33 +7,36 @@ use lib.ListN.{length}
 use Rattle.stations.specs.Topology.{contents, noLink}
 use Rattle.stations.proofs.Machine.{links-length}
 use Rattle.topology.specs.Written.{linkBytes}
-use Rattle.topology.proofs.Joined.{link-five, FirstPut, first-none, first-length, first-next, first-all}
+use Rattle.topology.proofs.Joined.{FirstPut, first-none, first-length, first-fits, first-next, first-all}
 use Rattle.topology.proofs.writing.put_links.Statement.{statement}
 use Rattle.topology.proofs.writing.put_links.Tie as tie
 
 abbrev Inv-loop : tie.InvT-loop
-Inv-loop out₀ at t m i₀ out i = FirstPut linkBytes link-five out₀ at (t .link) m out i
+Inv-loop out₀ at t m next₀ i₀ out next i = FirstPut linkBytes out₀ at (t .link) m out i next
 
 abbrev μ-loop : tie.MeasureT-loop
-μ-loop out₀ at t m i₀ out i = m - i
+μ-loop out₀ at t m next₀ i₀ out next i = m - i
 
 loop-holds : tie.Need-loop-holds Inv-loop μ-loop
-loop-holds c = first-none linkBytes link-five (omega (arith, links-length (c .before .args .t1) _ (c .before .good .0))) (c .before .pre .1)
+unfolding contents
+loop-holds c = first-none linkBytes refl (omega (arith, links-length (c .before .args .t1) _ (c .before .good .0))) (c .before .pre .1)
 
 same : (c : tie.At-loop Inv-loop μ-loop) → length (c .loop .out) ≡ length (c .before .before .args .out .now)
-same c = first-length linkBytes link-five (c .loop .inv)
+same c = first-length linkBytes (c .loop .inv)
+
+put-link-requires : tie.Need-put-link-requires Inv-loop μ-loop
+unfolding noLink
+put-link-requires c κs = first-fits linkBytes (c .before .before .before .loop .inv) noLink (omega arith)
 
 loop-again : tie.Need-loop-again Inv-loop μ-loop
 unfolding noLink
 loop-again c =
-    first-next linkBytes link-five (c .before .before .before .before .before .before .loop .inv) noLink (omega arith) (c .before .before .put-link .ensures)
-
-same-length : tie.Need-same-length Inv-loop μ-loop
-same-length c = same (c .before)
+    let put = c .before .before .put-link .ensures in
+    first-next linkBytes (c .before .before .before .before .before .before .loop .inv) noLink (omega arith) (put .0) (put .1)
 
 returns : tie.Need-returns Inv-loop μ-loop
 unfolding contents
-returns c = (refl, first-all linkBytes link-five (c .before .loop .inv) (omega arith))
+returns c = first-all linkBytes (c .before .loop .inv) (omega arith)
 
 pub put-links-spec : {M : Type 1} → statement M
 put-links-spec =
@@ -44,13 +47,9 @@ put-links-spec =
     loop-holds
     (λ c. omega arith)
     (λ c. omega arith)
-    (λ c. omega arith)
-    (λ c. omega arith)
-    (λ c κs. omega (arith, same (c .before .before .before)))
+    put-link-requires
     (λ c. omega arith)
     (λ c. omega arith)
     loop-again
-    (λ c. omega arith)
-    (λ c. omega arith)
-    same-length
+    (λ c. same (c .before))
     returns)
