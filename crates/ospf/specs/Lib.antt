@@ -1,0 +1,4 @@
+pub mod Lsa
+pub mod Neighbours
+pub mod Theorems
+pub mod Facts

@@ -1,0 +1,40 @@
+// Refusals 26 and 27 (02, #106), each over the whole file: 26 comes first, and what 27 reads has passed it.
+mod links;
+mod neighbours;
+mod sums;
+
+ghost use mathlib.Core.Path.{_≡_};
+ghost use Prim.Native.Nat.{_≤_};
+ghost use lib.ListN.{length};
+ghost use Rattle.ospf.specs.Lsa.{firstMalformed, firstWrongSum};
+
+// The offset of the first malformed LSA, the file's length if there is none.
+pub fn first_malformed(file: &[u8]) -> usize
+    ensures { λ r. ⌜ r ≡ firstMalformed (now (file .entry)) ⌝ }
+{
+    let mut at: usize = 0;
+    while at < file.len() {
+        let length = links::length_of(&file[at..]);
+        if length == 0 {
+            return at;
+        }
+        at += length;
+    }
+    at
+}
+
+// The offset of the first LSA with a wrong checksum, the file's length if there is none. No LSA is malformed.
+pub fn first_wrong_sum(file: &[u8]) -> usize
+    requires { ⌜ length (now file) ≤ firstMalformed (now file) ⌝ }
+    ensures { λ r. ⌜ r ≡ firstWrongSum (now (file .entry)) ⌝ }
+{
+    let mut at: usize = 0;
+    while at < file.len() {
+        let end = at + links::be16(file, at + 18) as usize;
+        if sums::is_wrong(&file[at..end]) {
+            return at;
+        }
+        at = end;
+    }
+    at
+}
