@@ -1,16 +1,16 @@
--- The reading of a stream before one of its records: what is listed so far is good, and the reading is that of the records from there on. A record
--- that has no fault is added, a fault or the end record gives what the reading returns.
+-- The reading of a stream before one of its records: it is that of the records from there on. A record that has no fault is added, a fault or the end
+-- record gives what the reading returns.
 -- Assumes nothing.
 use Prim.Native.Nat.{ℕ, zero, suc, _+_, _-_, _≤_, _<_}
 use mathlib.Core.Bool.{false}
-use mathlib.Core.List.{List, [], _∷_, List·Memᴰ·not-nil, List·Memᴰ·cases-cons, Memᴰ·append-right}
+use mathlib.Core.List.{List, [], _∷_, List·Memᴰ·not-nil, List·Memᴰ·cases-cons}
 use mathlib.Core.Logic.{_≢_, ⊎-elim}
 use mathlib.Core.Path.{_≡_, refl, sym, _∙_}
 use native.Mathlib.Decide.{decLt}
 use native.Mathlib.Omega.{arith}
 use borrow.Author.Tests.{lt-ltb, le-ltb}
 use lib.Dec.{ltb}
-use lib.ListN.{length, getD, take, drop, length-drop, take-append-drop, drop-of-length-le}
+use lib.ListN.{length, getD, drop, length-drop, drop-of-length-le}
 use lib.Seq.{drop-drop}
 use Rattle.stream.specs.declared.Record.{Record}
 use Rattle.stream.specs.declared.Record.the-variants as record-of
@@ -21,17 +21,14 @@ use Rattle.stream.specs.Reading.{refusal, fault, added, width, isEnd, en
 use Rattle.stream.specs.Theorems.{Bytes}
 use Rattle.stream.proofs.Stream.{WholeRecord, whole-record, some-records}
 use Rattle.stream.proofs.Faults.{unless-fault}
-use Rattle.stream.proofs.Fitting.{record-fits}
-use Rattle.stream.proofs.Kept.{Good, good-nothing, kept}
 
 pub record Turn (s : List ℕ) (p : Listing) (at : ℕ) : Type 0 where
-  pub good : Good p
   pub inside : at ≤ length s
   pub goes-on : reading s ≡ inTurn at p (records 0 (drop at s))
 
 pub turn-first : (s : List ℕ) → Turn s nothingListed 0
 unfolding reading
-turn-first s = record { good = good-nothing; inside = omega arith; goes-on = refl }
+turn-first s = record { inside = omega arith; goes-on = refl }
 
 -- a record without a fault goes on
 unless-none : (number at : ℕ) (r : Reading) → number ≡ 0 → unless number at r ≡ r
@@ -83,27 +80,20 @@ module _ (s : List ℕ) (p : Listing) (at : ℕ) (turn : Turn s p at) where
     turn-fits : at + width (recordIn (drop at s)) ≤ length s
     turn-fits = omega (arith, w .fits, length-drop at s, turn .inside)
 
-    turn-next : Bytes s → isEnd (recordIn (drop at s)) ≡ false →
-        Turn s (added p (recordIn (drop at s))) (at + width (recordIn (drop at s)))
+    turn-next : isEnd (recordIn (drop at s)) ≡ false → Turn s (added p (recordIn (drop at s))) (at + width (recordIn (drop at s)))
     unfolding inTurn
-    turn-next bytes e =
-        record {
-          good =
-              kept p (turn .good) (recordIn (drop at s)) none
-              (record-fits (drop at s) (λ b m. bytes b (rw take-append-drop at (Memᴰ·append-right (take at s) m))));
-          inside = turn-fits;
-          goes-on = turn .goes-on ∙ rw (w .next) (unless-none _ at _ none ∙ rw (e, drop-drop));
-        }
+    turn-next e =
+        record { inside = turn-fits; goes-on = turn .goes-on ∙ rw (w .next) (unless-none _ at _ none ∙ rw (e, drop-drop)) }
 
   -- the record as the code has it: its fault refuses, else the reading goes on
   module _ (r : Record) (is : r ≡ recordIn (drop at s)) where
     pub turn-refused : at < length s → fault p r ≢ 0 → refusal (fault p r) at ≡ reading s
     turn-refused h other = rw is (sym (turn-fault h (rw is at other)))
 
-    pub turn-taken : fault p r ≡ 0 → isEnd r ≡ false → Bytes s → Turn s (added p r) (at + width r) × (1 ≤ width r)
-    turn-taken none e bytes =
+    pub turn-taken : fault p r ≡ 0 → isEnd r ≡ false → Turn s (added p r) (at + width r) × (1 ≤ width r)
+    turn-taken none e =
         let there : fault p (recordIn (drop at s)) ≡ 0 = rw is at none in
-        rw is (turn-next there bytes (rw is at e), turn-more there)
+        rw is (turn-next there (rw is at e), turn-more there)
 
 -- bytes, by their places
 pub each-byte : (s : List ℕ) → ((i : ℕ) → getD s i 0 < 256) → Bytes s

@@ -10,8 +10,8 @@ pub mod NoFault
 pub mod Fitting
 pub mod Kept
 pub mod AtTurn
+pub mod Filled
 pub mod Standing
-pub mod Marked
 pub mod Returned
 pub mod Decides
 pub mod HalfVerdicts

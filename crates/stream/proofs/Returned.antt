@@ -82,7 +82,7 @@ module _ (p : Listing) (g : Good p) (some : 0 < length (p .contents .ids)) (toge
   pub good-sound : T (sound (held c))
   good-sound = sound-exact (held c) .1 facts
 
-read-refusal : (number at : ℕ) → number ≢ 0 → Read (refusal number at)
+pub read-refusal : (number at : ℕ) → number ≢ 0 → Read (refusal number at)
 unfolding refusal zeros held padded noLink
 read-refusal number at other =
     record { at-none = λ z. absurd (other z); is-sound = λ z. absurd (other z); zeros = λ n. refl }
@@ -93,7 +93,7 @@ module _ (p : Listing) (g : Good p) where
   read-accepted some together =
       record { at-none = λ z. refl; is-sound = λ z. good-sound p g some together; zeros = λ other. absurd (other refl) }
 
-  ended-reads : (follows : Bool) (at : ℕ) → Read (ended follows at (p .contents))
+  pub ended-reads : (follows : Bool) (at : ℕ) → Read (ended follows at (p .contents))
   unfolding ended joined
   ended-reads true at = read-refusal 11 (at + 1) (λ e. omega (arith, e))
   ended-reads false at = cases (eqb (length (p .contents .ids)) 0) refl

@@ -1,11 +1,11 @@
 -- What the inner functions ask of their arguments and promise of their results.
 -- Assumes nothing.
 use Prim.Native.Nat.{ℕ, _+_, _*_, _<_}
-use mathlib.Core.Bool.{not}
+use mathlib.Core.Bool.{cond, not}
 use mathlib.Core.List.{List}
 use mathlib.Core.Path.{_≡_}
 use lib.Dec.{T, eqb}
-use lib.ListN.{length, getD}
+use lib.ListN.{length, getD, set}
 use Rattle.network.specs.Lists.{keep}
 use Rattle.stations.specs.declared.Half.{Half}
 use Rattle.stations.specs.declared.Topology.{Topology}
@@ -36,3 +36,19 @@ pub record Roomy (leaving : List ℕ) (u v : ℕ) : Type 0 where
   pub from-listed : u < mostRouters
   pub to-listed : v < mostRouters
   pub room : getD leaving u 0 < mostNeighbours
+
+-- what the table has at the half opposite to h: its cost, 0 if it is not listed
+abbrev pub oppositeCost : List ℕ → Half → ℕ
+oppositeCost costs h = getD costs (h .to .0 * mostRouters + h .from .0) 0
+
+-- what is held with the half h, by what its opposite costs: the same if that is not listed, else with the link that both make in the first unused slot
+unfoldable pub paired : Topology → Half → ℕ → Topology
+paired t h cost =
+    cond (eqb cost 0) t
+    (record {
+      routers = t .routers;
+      links = t .links + 1;
+      limit = t .limit;
+      id = t .id;
+      link = set (t .link) (t .links) (record { first = h .to; second = h .from; cost = cost; back = h .cost });
+    })

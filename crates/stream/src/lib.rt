@@ -2,6 +2,7 @@
 mod reader;
 mod records;
 mod taking;
+pub mod unchecked;
 
 use stations::Answer;
 use stations::DEFAULT_NEXT_HOPS;
@@ -35,7 +36,7 @@ pub enum Record {
 pub fn read(stream: &[u8]) -> Reading
     ensures { λ r. ⌜ r ≡ reading (now (stream .entry)) ⌝ }
 {
-    let mut t = taking::blank(DEFAULT_NEXT_HOPS);
+    let mut t = unchecked::blank(DEFAULT_NEXT_HOPS);
     let mut costs = [0u16; ROUTERS * ROUTERS];
     let mut leaving = [0usize; ROUTERS];
     let mut halves: usize = 0;
@@ -47,7 +48,7 @@ pub fn read(stream: &[u8]) -> Reading
         let m = t.links;
         let number = taking::fault_of(&t.id, &costs, &leaving, n, halves, record);
         if number != 0 {
-            return taking::refused(number, at);
+            return unchecked::refused(number, at);
         }
         match record {
             Record::Router(id) => {
@@ -71,32 +72,18 @@ pub fn read(stream: &[u8]) -> Reading
                 halves += 2;
             }
             Record::Half(h) => {
-                let from = h.from;
-                let to = h.to;
-                let u = from.index();
-                let v = to.index();
-                let opposite = costs[v * ROUTERS + u];
-                if opposite != 0 {
-                    t.link[m] = Link {
-                        first: to,
-                        second: from,
-                        cost: opposite,
-                        back: h.cost,
-                    };
-                    t.links = m + 1;
-                }
-                taking::mark(&mut costs, &mut leaving, u, v, h.cost);
+                t = unchecked::half_taken(t, &mut costs, &mut leaving, h);
                 halves += 1;
             }
             Record::Limit(k) => {
                 t.limit = k;
             }
             Record::End => {
-                return taking::ended(t, at, stream.len());
+                return unchecked::ended(t, at, stream.len());
             }
             Record::Refused(_) => {}
         }
         at = taken.at;
     }
-    taking::refused(1, at)
+    unchecked::refused(1, at)
 }

@@ -1,130 +1,28 @@
 // Taking the records of a topology stream in turn: what refuses a record, and what a half adds to the tables that the next ones are looked up in.
 use super::Reading;
 use super::Record;
-use soundness::unchecked;
+use super::unchecked;
 use stations::Answer;
-use stations::HALVES;
-use stations::Half;
-use stations::LINKS;
-use stations::Link;
-use stations::NEIGHBOURS;
 use stations::NEXT_HOPS;
-use stations::Place;
 use stations::ROUTERS;
 use stations::Topology;
 ghost use mathlib.Core.Bool.{cond};
 ghost use mathlib.Core.Path.{_≡_};
-ghost use mathlib.Core.List.{[], _∷_};
-ghost use Prim.Native.Nat.{_+_, _*_, _<_, _≤_};
-ghost use lib.Dec.{ltb};
+ghost use Prim.Native.Nat.{_+_, _*_, _≤_};
 ghost use lib.ListN.{length, take, getD, set};
 ghost use Rattle.stations.specs.Limits.{mostRouters, mostHalves, mostNextHops};
-ghost use Rattle.stations.specs.Topology.{Contents, contents, held};
 ghost use Rattle.soundness.specs.Sound.{within};
-ghost use Rattle.stream.specs.Halves.{Listing, opposite};
-ghost use Rattle.stream.specs.Reading.{refusal, fault, routerFault, halvesFault, width};
-ghost use Rattle.stream.specs.Reading as said;
-ghost use Rattle.stream.specs.Inner.{Listed, Indexed, Roomy};
+ghost use Rattle.stream.specs.Halves.{Listing};
+ghost use Rattle.stream.specs.Reading.{fault, width};
+ghost use Rattle.stream.specs.Inner.{Indexed, Roomy};
 
-// All zeros but for the next-hop limit.
-pub(crate) fn blank(limit: u8) -> Topology
-    ensures { λ r. ⌜ r ≡ held record { ids = []; links = []; limit = limit } ⌝ }
-{
-    let none = Link {
-        first: Place(0),
-        second: Place(0),
-        cost: 0,
-        back: 0,
-    };
-    Topology {
-        routers: 0,
-        links: 0,
-        limit: limit,
-        id: [0; ROUTERS],
-        link: [none; LINKS],
-    }
-}
-
-pub(crate) fn refused(number: u8, at: usize) -> Reading
-    ensures { λ r. ⌜ r ≡ refusal number at ⌝ }
-{
-    let zeros = blank(0);
-    Reading {
-        answer: Answer {
-            number: number,
-            at: at,
-        },
-        topology: zeros,
-    }
-}
-
-fn taken(t: Topology) -> Reading
+pub(crate) fn taken(t: Topology) -> Reading
     ensures { λ r. ⌜ r ≡ record { answer = record { number = 0; at = 0 }; topology = t } ⌝ }
 {
     Reading {
         answer: Answer { number: 0, at: 0 },
         topology: t,
     }
-}
-
-// Refusals 3 and 4: the number of the first test that the router fails, 0 if it fails none.
-fn router_fault(ids: &[u32; ROUTERS], n: usize, id: u32) -> u8
-    requires { ⌜ (n ≤ mostRouters) × (length (now ids) ≡ mostRouters) ⌝ }
-    ensures { λ r. ⌜ ((c : Contents) → c .ids ≡ take n (now (ids .entry)) → r ≡ routerFault c id) ⌝ }
-{
-    if unchecked::is_listed(ids, n, id) {
-        return 3;
-    }
-    if ROUTERS <= n {
-        return 4;
-    }
-    0
-}
-
-// Refusals 5 to 10: the same of a half or, where both are listed at once, of a link, with n routers and m halves listed so far. A place is looked up only
-// where it is listed.
-fn halves_fault<'a>(
-    costs: &'a [u16; ROUTERS * ROUTERS],
-    leaving: &'a [usize; ROUTERS],
-    n: usize,
-    m: usize,
-    h: Half,
-    both: bool,
-) -> u8
-    requires { ⌜ (n ≤ mostRouters) × (m ≤ mostHalves) ⌝ }
-    ensures { λ r. ⌜ ((p : Listing) → Indexed p n m (now (costs .entry)) (now (leaving .entry)) → r ≡ halvesFault p h (cond both (h ∷ opposite h ∷ []) (h ∷ []))) ⌝ }
-{
-    let from = h.from.index();
-    let to = h.to.index();
-    if n <= from {
-        return 5;
-    }
-    if n <= to {
-        return 5;
-    }
-    if from == to {
-        return 6;
-    }
-    if h.cost == 0 {
-        return 7;
-    }
-    if costs[from * ROUTERS + to] != 0 {
-        return 8;
-    }
-    if both && costs[to * ROUTERS + from] != 0 {
-        return 8;
-    }
-    let adds = if both { 2 } else { 1 };
-    if HALVES < m + adds {
-        return 9;
-    }
-    if NEIGHBOURS <= leaving[from] {
-        return 10;
-    }
-    if both && NEIGHBOURS <= leaving[to] {
-        return 10;
-    }
-    0
 }
 
 // Refusal 16.
@@ -154,9 +52,9 @@ pub(crate) fn fault_of<'a>(
     ensures { λ r. ⌜ ((p : Listing) → p .contents .ids ≡ take n (now (ids .entry)) → Indexed p n m (now (costs .entry)) (now (leaving .entry)) → r ≡ fault p «record») ⌝ }
 {
     match record {
-        Record::Router(id) => router_fault(ids, n, id),
-        Record::Link(h) => halves_fault(costs, leaving, n, m, h, true),
-        Record::Half(h) => halves_fault(costs, leaving, n, m, h, false),
+        Record::Router(id) => unchecked::router_fault(ids, n, id),
+        Record::Link(h) => unchecked::halves_fault(costs, leaving, n, m, h, true),
+        Record::Half(h) => unchecked::halves_fault(costs, leaving, n, m, h, false),
         Record::Limit(k) => limit_fault(k),
         Record::End => 0,
         Record::Refused(number) => number,
@@ -191,22 +89,4 @@ pub(crate) fn width_of(record: Record) -> usize
         Record::End => 1,
         Record::Refused(_) => 0,
     }
-}
-
-// At the end record: refusals 11, 12 and 13.
-pub(crate) fn ended(t: Topology, at: usize, length: usize) -> Reading
-    requires { ⌜ Listed t × (at < «length») ⌝ }
-    ensures { λ r. ⌜ r ≡ said.ended (ltb (at + 1) «length») at (contents t) ⌝ }
-{
-    if at + 1 < length {
-        return refused(11, at + 1);
-    }
-    if t.routers == 0 {
-        return refused(12, at);
-    }
-    let place = unchecked::lowest_apart(t);
-    if place < t.routers {
-        return refused(13, place);
-    }
-    taken(t)
 }

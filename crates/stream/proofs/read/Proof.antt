@@ -3,23 +3,21 @@
 -- Assumes nothing.
 use Prim.Native.Nat.{ℕ, _+_, _-_, _<_}
 use mathlib.Core.List.{List}
-use mathlib.Core.Logic.{⊎-elim}
 use mathlib.Core.Path.{_≡_, refl, sym, ap, _∙_}
 use native.Mathlib.Omega.{arith}
 use borrow.Author.Needs.{needs}
 use lib.ListN.{length, drop}
-use Rattle.stations.specs.Topology.{contents}
 use Rattle.stream.specs.Halves.{opposite, linkOf}
 use Rattle.stream.specs.declared.Record.{Record}
 use Rattle.stream.specs.declared.Record.the-variants as record-of
 use Rattle.stream.specs.declared.records.Taken.{Taken}
 use Rattle.stream.specs.Stream.{recordIn}
-use Rattle.stream.specs.Reading.{refusal, fault, width, isEnd, ended, nothingListed}
+use Rattle.stream.specs.Reading.{refusal, fault, added, width, isEnd, ended, nothingListed}
 use Rattle.stream.specs.Reader.{taken}
 use Rattle.stream.proofs.AtTurn.{turn-past, turn-end, turn-refused, each-byte}
-use Rattle.stream.proofs.Standing.{Standing, Passed, standing-first, contents-are, listed, few, id-slots, ids-are, indexed, falls}
-use Rattle.stream.proofs.Standing.{room-router, past-router, past-limit, past-nothing}
-use Rattle.stream.proofs.Marked.{room-link, roomy-first, roomy-second, past-link, places, room-half, roomy, joined, alone, past-half}
+use Rattle.stream.proofs.Filled.{contents-are, listed, few, id-slots, ids-are, indexed, room-router, past-router, past-limit}
+use Rattle.stream.proofs.Filled.{room-link, roomy-first, roomy-second, past-link, room-half, roomy, past-half}
+use Rattle.stream.proofs.Standing.{Standing, Passed, standing-first, fits, falls, onward}
 use Rattle.stream.proofs.read.Statement.{statement}
 use Rattle.stream.proofs.read.Tie as tie
 
@@ -43,7 +41,7 @@ unfolding nothingListed
 loop-holds c = rw (c .blank .ensures) (standing-first _ (each-byte _ (λ i. c .before .shared-slice-known .given i .fits)))
 
 fault-of-requires : tie.Need-fault-of-requires Inv-loop μ-loop
-fault-of-requires c κs = let w = c .before .before .before .before .before .before .loop .inv in (listed w .counted .routers-fit, few w, id-slots w)
+fault-of-requires c κs = let w = c .before .before .before .before .before .before .loop .inv .filled in (listed w .counted .routers-fit, few w, id-slots w)
 
 -- a turn: the record, and its fault
 module _ (c : tie.After-fault-of Inv-loop μ-loop) where
@@ -57,7 +55,7 @@ module _ (c : tie.After-fault-of Inv-loop μ-loop) where
   is-found = found _ _ (c .before .before .before .before .before .next-from .ensures)
 
   number-is : c .fault-of .result ≡ fault (turn .loop .inv .listing) (took .found)
-  number-is = c .fault-of .ensures (turn .loop .inv .listing) (ids-are (turn .loop .inv)) (indexed (turn .loop .inv))
+  number-is = c .fault-of .ensures (turn .loop .inv .listing) (ids-are (turn .loop .inv .filled)) (indexed (turn .loop .inv .filled))
 
 returns : tie.Need-returns Inv-loop μ-loop
 returns c =
@@ -89,14 +87,18 @@ module _ (c : tie.After-record Inv-loop μ-loop) where
   is-router = passed w-router _ (c .«record» .given .1)
 
   router-fits : there w-router .loop .t .routers < 64
-  router-fits = room-router (there w-router .loop .inv) is-router
+  router-fits = room-router (there w-router .loop .inv .filled) _ (is-router .none)
 
 loop-less : tie.Need-loop-less Inv-loop μ-loop
 unfolding isEnd
 loop-less c = falls (there (w-router (c .before)) .loop .inv) (is-router (c .before)) refl
 
 loop-again : tie.Need-loop-again Inv-loop μ-loop
-loop-again c = past-router (there (w-router (c .before)) .loop .inv) (is-router (c .before))
+unfolding isEnd
+loop-again c =
+    let w = there (w-router (c .before)) .loop .inv in
+    let r = is-router (c .before) in
+    onward w r refl (past-router (w .filled) _ (r .none) (fits w r))
 
 -- a link: both its halves are stored
 module _ (c : tie.After-record2 Inv-loop μ-loop) where
@@ -107,7 +109,7 @@ module _ (c : tie.After-record2 Inv-loop μ-loop) where
   is-link = passed w-link _ (c .record2 .given .1)
 
   link-fits : there w-link .loop .t .links < 256
-  link-fits = room-link (there w-link .loop .inv) is-link
+  link-fits = room-link (there w-link .loop .inv .filled) _ (is-link .none)
 
 abbrev link-of : tie.After-index2 Inv-loop μ-loop → tie.After-record2 Inv-loop μ-loop
 link-of c = c .before .before .before .before .before
@@ -116,28 +118,30 @@ mark-requires : tie.Need-mark-requires Inv-loop μ-loop
 mark-requires c κs =
     let i = c .before .before in
     let r = link-of i in
-    roomy-first (there (w-link r) .loop .inv) (is-link r) (i .before .index .ensures) (i .index2 .ensures)
+    roomy-first (there (w-link r) .loop .inv .filled) _ (is-link r .none) (i .before .index .ensures) (i .index2 .ensures)
 
 mark-requires-2 : tie.Need-mark-requires-2 Inv-loop μ-loop
 mark-requires-2 c κs =
     let first = c .before .before in
     let i = first .before .before .before in
     let r = link-of i in
-    rw (first .mark .ensures .1) (roomy-second (there (w-link r) .loop .inv) (is-link r) (i .before .index .ensures) (i .index2 .ensures))
+    rw (first .mark .ensures .1) (roomy-second (there (w-link r) .loop .inv .filled) _ (is-link r .none) (i .before .index .ensures) (i .index2 .ensures))
 
 loop-less-2 : tie.Need-loop-less-2 Inv-loop μ-loop
 unfolding isEnd
 loop-less-2 c = let r = link-of (c .before .before .before .before .before .before) in falls (there (w-link r) .loop .inv) (is-link r) refl
 
 loop-again-2 : tie.Need-loop-again-2 Inv-loop μ-loop
-unfolding linkOf opposite
+unfolding linkOf opposite isEnd
 loop-again-2 c =
     let first = c .before .before .before in
     let i = first .before .before .before in
-    let r = link-of i in
-    past-link (there (w-link r) .loop .inv) (is-link r) (i .before .index .ensures) (i .index2 .ensures) (first .mark .ensures) (c .mark2 .ensures)
+    let w = there (w-link (link-of i)) .loop .inv in
+    let r = is-link (link-of i) in
+    onward w r refl
+    (past-link (w .filled) _ (r .none) (i .before .index .ensures) (i .index2 .ensures) (fits w r) (first .mark .ensures) (c .mark2 .ensures))
 
--- a half: with its opposite, if that is listed, it makes a link
+-- a half
 module _ (c : tie.After-record3 Inv-loop μ-loop) where
   abbrev w-half : tie.Else1 Inv-loop μ-loop
   w-half = c .before .before
@@ -145,39 +149,26 @@ module _ (c : tie.After-record3 Inv-loop μ-loop) where
   is-half : Passed (there w-half .loop .inv) (record-of.Half (c .record3 .given .0 .0)) (took (w-half .before) .at)
   is-half = passed w-half _ (c .record3 .given .1)
 
-module _ (c : tie.After-index4 Inv-loop μ-loop) where
-  abbrev half-of : tie.After-record3 Inv-loop μ-loop
-  half-of = c .before .before .before .before .before
+abbrev half-of : tie.After-leaving4 Inv-loop μ-loop → tie.After-record3 Inv-loop μ-loop
+half-of c = c .before .before .before
 
-  abbrev w-there : tie.At-loop Inv-loop μ-loop
-  w-there = there (w-half half-of)
-
-  ends-in : (c .before .index3 .result < 64) × (c .index4 .result < 64)
-  ends-in = places (w-there .loop .inv) (is-half half-of) (c .before .index3 .ensures) (c .index4 .ensures)
-
-link-room : (c : tie.Then2 Inv-loop μ-loop) → w-there (c .before) .loop .t .links < 256
-link-room c =
-    let i = c .before in
-    room-half (w-there i .loop .inv) (is-half (half-of i)) (i .before .index3 .ensures) (i .index4 .ensures) (c .if2 .taken)
-
-mark-requires-3 : tie.Need-mark-requires-3 Inv-loop μ-loop
-mark-requires-3 c κs =
-    let i = c .before .before .before in
-    roomy (w-there i .loop .inv) (is-half (half-of i)) (i .before .index3 .ensures) (i .index4 .ensures)
+half-taken-requires : tie.Need-half-taken-requires Inv-loop μ-loop
+half-taken-requires c κs =
+    let i = half-of c in
+    let w = there (w-half i) .loop .inv .filled in
+    (roomy w _ (is-half i .none), room-half w _ (is-half i .none))
 
 loop-less-3 : tie.Need-loop-less-3 Inv-loop μ-loop
 unfolding isEnd
-loop-less-3 c = let i = c .before .before .before .before in falls (w-there i .loop .inv) (is-half (half-of i)) refl
+loop-less-3 c = let i = half-of (c .before) in falls (there (w-half i) .loop .inv) (is-half i) refl
 
 loop-again-3 : tie.Need-loop-again-3 Inv-loop μ-loop
+unfolding isEnd
 loop-again-3 c =
-    let j = c .before .before .before in
-    let i = j .before in
-    let w = w-there i .loop .inv in
-    let r = is-half (half-of i) in
-    let u = i .before .index3 .ensures in
-    let v = i .index4 .ensures in
-    past-half w r u v (⊎-elim (λ x. x .1 ∙ joined w r u v (x .0 .taken)) (λ x. x .1 ∙ alone w r u v (x .0 .left)) (j .if2 .came)) (c .mark3 .ensures)
+    let i = half-of (c .before) in
+    let w = there (w-half i) .loop .inv in
+    let r = is-half i in
+    onward w r refl (past-half (w .filled) _ (r .none) (fits w r) (c .half-taken .ensures))
 
 -- a limit, and what stands in a record's place with no number
 loop-less-4 : tie.Need-loop-less-4 Inv-loop μ-loop
@@ -185,26 +176,33 @@ unfolding isEnd
 loop-less-4 c = let w = c .before .before .before in falls (there w .loop .inv) (passed w _ (c .before .record4 .given .1)) refl
 
 loop-again-4 : tie.Need-loop-again-4 Inv-loop μ-loop
-loop-again-4 c = let w = c .before .before .before in past-limit (there w .loop .inv) (passed w _ (c .before .record4 .given .1))
+unfolding isEnd
+loop-again-4 c =
+    let w = c .before .before .before in
+    let r = passed w _ (c .before .record4 .given .1) in
+    onward (there w .loop .inv) r refl (past-limit (there w .loop .inv .filled) _ (r .none))
 
 loop-less-5 : tie.Need-loop-less-5 Inv-loop μ-loop
 unfolding isEnd
 loop-less-5 c = let w = c .before .before in falls (there w .loop .inv) (passed w _ (c .enum-told2 .given .1)) refl
 
 loop-again-5 : tie.Need-loop-again-5 Inv-loop μ-loop
-loop-again-5 c = let w = c .before .before in past-nothing (there w .loop .inv) (passed w _ (c .enum-told2 .given .1))
+unfolding isEnd added
+loop-again-5 c =
+    let w = c .before .before in
+    onward (there w .loop .inv) (passed w _ (c .enum-told2 .given .1)) refl (there w .loop .inv .filled)
 
 -- the end, with its record and without
 ended-requires : tie.Need-ended-requires Inv-loop μ-loop
 ended-requires c κs =
     let f = c .before .before .before in
-    (listed (turn f .loop .inv), f .before .before .before .before .before .before .loop-test .taken)
+    (listed (turn f .loop .inv .filled), f .before .before .before .before .before .before .loop-test .taken)
 
 returns-2 : tie.Need-returns-2 Inv-loop μ-loop
 returns-2 c =
     let f = c .before .before .before .before in
     let w = turn f .loop .inv in
-    c .ended .ensures ∙ ap (ended _ (turn f .loop .at)) (contents-are w) ∙ sym (turn-end _ _ _ (w .turn) (sym (is-found f) ∙ c .before .enum-told .given .1))
+    c .ended .ensures ∙ ap (ended _ (turn f .loop .at)) (contents-are (w .filled)) ∙ sym (turn-end _ _ _ (w .turn) (sym (is-found f) ∙ c .before .enum-told .given .1))
 
 returns-3 : tie.Need-returns-3 Inv-loop μ-loop
 returns-3 c = c .refused2 .ensures ∙ sym (turn-past _ _ _ (c .before .before .loop .inv .turn) (c .before .loop-test .left))
@@ -233,19 +231,10 @@ read-spec =
     (λ c. omega (arith, link-fits (link-of c)))
     mark-requires
     mark-requires-2
-    (λ c. let i = c .before .before .before .before .before .before in omega (arith, few (there (w-link (link-of i)) .loop .inv)))
+    (λ c. let i = c .before .before .before .before .before .before in omega (arith, few (there (w-link (link-of i)) .loop .inv .filled)))
     (λ c. search needs)
-    (λ c κs. search needs)
-    (λ c κs. search needs)
-    (λ c. omega (arith, ends-in c))
-    (λ c. omega (arith, ends-in c))
-    (λ c. omega (arith, ends-in c))
-    (λ c. omega (arith, ends-in c))
-    (λ c. omega (arith, link-room c))
-    (λ c. link-room c)
-    (λ c. omega (arith, link-room c))
-    mark-requires-3
-    (λ c. let i = c .before .before .before .before in omega (arith, few (w-there i .loop .inv)))
+    half-taken-requires
+    (λ c. omega (arith, few (there (w-half (half-of (c .before))) .loop .inv .filled)))
     (λ c. search needs)
     (λ c. search needs)
     ended-requires

@@ -1,4 +1,4 @@
--- `topology::taking::width_of` meets its contract, record by record.
+-- `stream::taking::width_of` meets its contract, record by record.
 -- Assumes nothing.
 use borrow.Author.Needs.{needs}
 use Rattle.stream.specs.Reading.{width}

@@ -1,9 +1,9 @@
--- `topology::taking::blank` meets its contract: all slots are unused, so that what it holds is computed.
+-- `stream::unchecked::blank` meets its contract: all slots are unused, so that what it holds is computed.
 -- Assumes nothing.
 use mathlib.Core.Path.{refl}
 use Rattle.stations.specs.Topology.{noLink, padded, held}
-use Rattle.stream.proofs.taking.blank.Statement.{statement}
-use Rattle.stream.proofs.taking.blank.Tie as tie
+use Rattle.stream.proofs.unchecked.blank.Statement.{statement}
+use Rattle.stream.proofs.unchecked.blank.Tie as tie
 
 returns : tie.Need-returns
 unfolding noLink padded held

@@ -1,4 +1,4 @@
--- `topology::taking::ended` meets its contract: its tests are those of `ended`, and the lowest place that is apart tells whether all are joined.
+-- `stream::unchecked::ended` meets its contract: its tests are those of `ended`, and the lowest place that is apart tells whether all are joined.
 -- Assumes nothing.
 use Prim.Native.Nat.{_+_}
 use mathlib.Core.Path.{_≡_, ap}
@@ -12,8 +12,8 @@ use Rattle.stream.specs.Reading as said
 use Rattle.stream.specs.Theorems.{success}
 use Rattle.stream.proofs.Faults.{joined-not, joined-all}
 use Rattle.stream.proofs.Held.{routers-held}
-use Rattle.stream.proofs.taking.ended.Statement.{statement}
-use Rattle.stream.proofs.taking.ended.Tie as tie
+use Rattle.stream.proofs.unchecked.ended.Statement.{statement}
+use Rattle.stream.proofs.unchecked.ended.Tie as tie
 
 returns : tie.Need-returns
 unfolding said.ended

@@ -1,4 +1,4 @@
--- `stream::taking::halves_fault` meets its contract: where a test fails, those that are left are the rest of the chain, and the tables say what they ask.
+-- `stream::unchecked::halves_fault` meets its contract: where a test fails, those that are left are the rest of the chain, and the tables say what they ask.
 -- Assumes nothing.
 use Prim.Native.Nat.{ℕ, _+_, _*_}
 use mathlib.Core.Bool.{Bool, true, false, cond, not, _&&_, _||_, or-false, and-false, false≢true}
@@ -17,8 +17,8 @@ use Rattle.stream.specs.Halves.{Listing, opposite}
 use Rattle.stream.specs.Reading.{repeated, crowded, halvesFault}
 use Rattle.stream.specs.Inner.{Indexed}
 use Rattle.stream.proofs.Faults.{repeated-by, crowded-by, from-6, from-7, from-8, from-9, from-10}
-use Rattle.stream.proofs.taking.halves_fault.Statement.{statement}
-use Rattle.stream.proofs.taking.halves_fault.Tie as tie
+use Rattle.stream.proofs.unchecked.halves_fault.Statement.{statement}
+use Rattle.stream.proofs.unchecked.halves_fault.Tie as tie
 
 -- the halves that are listed: both, or the first
 abbrev new : Half → Bool → List Half

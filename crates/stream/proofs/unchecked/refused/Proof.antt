@@ -1,10 +1,10 @@
--- `topology::taking::refused` meets its contract: it returns the topology of all zeros.
+-- `stream::unchecked::refused` meets its contract: it returns the topology of all zeros.
 -- Assumes nothing.
 use borrow.Author.Needs.{needs}
 use Rattle.stations.specs.Topology.{zeros}
 use Rattle.stream.specs.Reading.{refusal}
-use Rattle.stream.proofs.taking.refused.Statement.{statement}
-use Rattle.stream.proofs.taking.refused.Tie as tie
+use Rattle.stream.proofs.unchecked.refused.Statement.{statement}
+use Rattle.stream.proofs.unchecked.refused.Tie as tie
 
 returns : tie.Need-returns
 unfolding zeros refusal

@@ -1,4 +1,4 @@
--- `stream::taking::router_fault` meets its contract: its tests are those of `routerFault`, in the same order.
+-- `stream::unchecked::router_fault` meets its contract: its tests are those of `routerFault`, in the same order.
 -- Assumes nothing.
 use mathlib.Core.Bool.{cond}
 use mathlib.Core.Path.{_≡_}
@@ -11,8 +11,8 @@ use lib.Seq.{length-take-le}
 use Rattle.stations.specs.Limits.{mostRouters}
 use Rattle.stations.specs.Topology.{Contents}
 use Rattle.stream.specs.Reading.{routerFault}
-use Rattle.stream.proofs.taking.router_fault.Statement.{statement}
-use Rattle.stream.proofs.taking.router_fault.Tie as tie
+use Rattle.stream.proofs.unchecked.router_fault.Statement.{statement}
+use Rattle.stream.proofs.unchecked.router_fault.Tie as tie
 
 returns : tie.Need-returns
 unfolding routerFault
