@@ -5,7 +5,7 @@ use mathlib.Core.Bool.{Bool}
 use mathlib.Core.List.{List, [], _∷_, _++_}
 use lib.Dec.{T}
 use Rattle.network.specs.Lists.{every, sameNumbers}
-use Rattle.stream.specs.Table.{routers, T-stream}
+use Rattle.records.specs.Table.{routers, T-stream}
 use Rattle.coverage.specs.Output.{output}
 
 -- a stream, and what is printed for it

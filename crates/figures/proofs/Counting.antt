@@ -22,7 +22,7 @@ use Rattle.stations.specs.declared.Topology.{Topology}
 use Rattle.stations.specs.Topology.{padded, networkOf}
 use Rattle.soundness.specs.Sound.{sound}
 use Rattle.soundness.proofs.Sound.{sound-exact, sound-networks}
-use Rattle.stream.proofs.Held.{store-padded}
+use Rattle.records.proofs.Held.{store-padded}
 use Rattle.topology.specs.Written.{joinedOver}
 use Rattle.arcs.proofs.Slots.{below-more}
 use Rattle.order.proofs.Counts.{keep-append, count-most}

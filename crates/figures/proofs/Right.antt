@@ -18,7 +18,7 @@ use Rattle.stations.specs.declared.Topology.{Topology}
 use Rattle.stations.specs.Topology.{padded, networkOf}
 use Rattle.soundness.specs.Sound.{sound}
 use Rattle.soundness.proofs.Sound.{sound-exact, sound-networks}
-use Rattle.stream.proofs.Held.{padded-length}
+use Rattle.records.proofs.Held.{padded-length}
 use Rattle.topology.specs.Written.{joinedOver}
 use Rattle.order.proofs.Keeping.{kept-most}
 use Rattle.table.proofs.Lists.{places-are}

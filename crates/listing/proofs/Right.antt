@@ -1,6 +1,6 @@
 -- The output is the program's by the reading's number; a reading with number 0 has a sound topology, of which the lines are right.
 -- Assumes nothing.
-use Rattle.stream.proofs.Returned.{reads-sound}
+use Rattle.records.proofs.Returned.{reads-sound}
 use Rattle.wording.specs.Listing.{allLines}
 use Rattle.wording.proofs.Right.{all-right}
 use Rattle.programs.proofs.Right.{all-print}

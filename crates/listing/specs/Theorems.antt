@@ -4,8 +4,8 @@ use Prim.Native.Nat.{ℕ}
 use mathlib.Core.List.{List, [], _∷_, _++_}
 use mathlib.Core.Logic.{_≢_}
 use mathlib.Core.Path.{_≡_}
-use Rattle.stream.specs.Reading.{reading}
-use Rattle.stream.specs.Theorems.{Bytes}
+use Rattle.records.specs.Reading.{reading}
+use Rattle.records.specs.Theorems.{Bytes}
 use Rattle.text.specs.Numbers.{numberText}
 use Rattle.wording.specs.Listing.{allLines}
 use Rattle.wording.specs.Theorems.{ListsAll}

@@ -1,7 +1,7 @@
 -- The prover computes every fact from the definitions.
 -- Assumes nothing.
 use Rattle.network.specs.Lists.{keep, every, any, leastBy, member, sameNumbers}
-use Rattle.stream.specs.Stream.{bigEndianOn, bigEndian}
+use Rattle.records.specs.Stream.{bigEndianOn, bigEndian}
 use Rattle.ospf.specs.Lsa.{lsType, advertisingRouter, checksum, lengthField, linkCount, linkIn, linkLength, wholeLink, withLink, linksIn, some?, links}
 use Rattle.ospf.specs.Lsa.{malformed, c0, c1, wrongSum, lsasFrom, lsas, firstAt, firstMalformed, firstWrongSum}
 use Rattle.ospf.specs.Neighbours.{allOf, pointToPoint, lowestTo, once, neighboursOf, placeOf, halfTo, halvesOf}

@@ -6,8 +6,8 @@ use mathlib.Core.Path.{_≡_, refl}
 use native.Mathlib.Nat.{add-assoc}
 use native.Mathlib.Omega.{arith}
 use lib.ListN.{length, getD, take, drop}
-use Rattle.stream.specs.Stream.{bigEndianOn, bigEndian}
-use Rattle.stream.proofs.Stream.{two-bytes}
+use Rattle.records.specs.Stream.{bigEndianOn, bigEndian}
+use Rattle.records.proofs.Stream.{two-bytes}
 use Rattle.ospf.specs.Lsa.{lsType, advertisingRouter, checksum, lengthField, linkCount, linkIn}
 use Rattle.ospf.specs.Theorems.{two, four, FieldsEach}
 

@@ -12,7 +12,7 @@ use borrow.Author.Tests.{eq-eqb, ne-eqb}
 use lib.Dec.{T, eqb}
 use lib.ListN.{length, getD, take, drop}
 use lib.Seq.{getD-drop, drop-drop}
-use Rattle.stream.specs.Stream.{bigEndian}
+use Rattle.records.specs.Stream.{bigEndian}
 use Rattle.network.specs.Lists.{keep, leastBy}
 use Rattle.network.proofs.Least.{least-start}
 use Rattle.ospf.specs.Lsa.{RouterLink, linkIn, linkLength, wholeLink, withLink, linksIn, some?}

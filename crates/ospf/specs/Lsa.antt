@@ -6,7 +6,7 @@ use mathlib.Core.List.{List, [], _∷_}
 use mathlib.Core.Option.{Option, none, some}
 use lib.Dec.{eqb, leb, ltb}
 use lib.ListN.{length, getD, take, drop}
-use Rattle.stream.specs.Stream.{bigEndian}
+use Rattle.records.specs.Stream.{bigEndian}
 
 -- A.4.1, the header's 20 bytes: LS age (2), options (1), LS type (1), Link State ID (4), Advertising Router (4), LS sequence number (4),
 -- LS checksum (2), length (2). Each definition takes the bytes from the LSA's first byte on; other fields are untested (02, #106).

@@ -10,10 +10,10 @@ use lib.Dec.{T}
 use lib.ListN.{length, getD}
 use Rattle.stations.specs.declared.Answer.{Answer}
 use Rattle.soundness.specs.Sound.{sound}
-use Rattle.stream.specs.declared.Reading.{Reading}
-use Rattle.stream.specs.Reading.{reading}
-use Rattle.stream.specs.Theorems.{Bytes}
-use Rattle.stream.proofs.Returned.{reads-sound}
+use Rattle.records.specs.declared.Reading.{Reading}
+use Rattle.records.specs.Reading.{reading}
+use Rattle.records.specs.Theorems.{Bytes}
+use Rattle.records.proofs.Returned.{reads-sound}
 use Rattle.text.specs.Lines.{refusedWord, answerText, answerLine, wordLine}
 use Rattle.text.proofs.Texts.{word-line-length}
 use Rattle.programs.specs.Output.{refusedLine, printed, outputBy}

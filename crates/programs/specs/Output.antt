@@ -6,8 +6,8 @@ use mathlib.Core.List.{List}
 use lib.Dec.{eqb}
 use Rattle.stations.specs.declared.Answer.{Answer}
 use Rattle.stations.specs.declared.Topology.{Topology}
-use Rattle.stream.specs.declared.Reading.{Reading}
-use Rattle.stream.specs.Reading.{reading}
+use Rattle.records.specs.declared.Reading.{Reading}
+use Rattle.records.specs.Reading.{reading}
 use Rattle.text.specs.Lines.{wordLine, refusedWord}
 
 -- a refused stream prints one line: `refused`, number, at

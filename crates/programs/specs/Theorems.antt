@@ -6,7 +6,7 @@ use mathlib.Core.List.{List, [], _∷_, _++_}
 use mathlib.Core.Logic.{_≢_}
 use mathlib.Core.Path.{_≡_}
 use Rattle.stations.specs.declared.Topology.{Topology}
-use Rattle.stream.specs.Reading.{reading}
+use Rattle.records.specs.Reading.{reading}
 use Rattle.text.specs.Numbers.{numberText}
 use Rattle.programs.specs.Output.{outputBy}
 

@@ -5,9 +5,9 @@ use mathlib.Core.Bool.{cond}
 use mathlib.Core.List.{List, [], _∷_}
 use Rattle.network.specs.Lists.{sameNumbers}
 use Rattle.network.specs.Forwarding.{Packet, Hop, delivered, moved, dropped}
-use Rattle.stream.specs.declared.Reading.{Reading}
+use Rattle.records.specs.declared.Reading.{Reading}
 use Rattle.stations.specs.declared.Topology.{Topology}
-use Rattle.stream.specs.Reading.{reading}
+use Rattle.records.specs.Reading.{reading}
 use Rattle.stations.specs.declared.Answer.{Answer}
 use Rattle.order.specs.declared.Mode.the-variants as mode
 use Rattle.packet.specs.Calls as said

@@ -1,7 +1,7 @@
 -- The output is the program's by the reading's number; a reading with number 0 has a sound topology, of which the lines are right.
 -- Assumes nothing.
 use mathlib.Core.Path.{_∙_}
-use Rattle.stream.proofs.Returned.{reads-sound}
+use Rattle.records.proofs.Returned.{reads-sound}
 use Rattle.programs.proofs.Right.{all-print}
 use Rattle.tracing.specs.Lines.{allPaths}
 use Rattle.tracing.proofs.Right.{lines-right, all-in-turn}

@@ -12,15 +12,15 @@ use borrow.Author.Tests.{lt-ltb, le-ltb}
 use lib.Dec.{ltb}
 use lib.ListN.{length, getD, drop, length-drop, drop-of-length-le}
 use lib.Seq.{drop-drop}
-use Rattle.stream.specs.declared.Record.{Record}
-use Rattle.stream.specs.declared.Record.the-variants as record-of
-use Rattle.stream.specs.declared.Reading.{Reading}
-use Rattle.stream.specs.Halves.{Listing}
-use Rattle.stream.specs.Stream.{recordIn, records}
-use Rattle.stream.specs.Reading.{refusal, fault, added, width, isEnd, ended, unless, inTurn, nothingListed, reading}
-use Rattle.stream.specs.Theorems.{Bytes}
-use Rattle.stream.proofs.Stream.{WholeRecord, whole-record, some-records}
-use Rattle.stream.proofs.Faults.{unless-fault}
+use Rattle.records.specs.declared.Record.{Record}
+use Rattle.records.specs.declared.Record.the-variants as record-of
+use Rattle.records.specs.declared.Reading.{Reading}
+use Rattle.records.specs.Halves.{Listing}
+use Rattle.records.specs.Stream.{recordIn, records}
+use Rattle.records.specs.Reading.{refusal, fault, added, width, isEnd, ended, unless, inTurn, nothingListed, reading}
+use Rattle.records.specs.Theorems.{Bytes}
+use Rattle.records.proofs.Stream.{WholeRecord, whole-record, some-records}
+use Rattle.records.proofs.Faults.{unless-fault}
 
 pub record Turn (s : List ℕ) (p : Listing) (at : ℕ) : Type 0 where
   pub inside : at ≤ length s

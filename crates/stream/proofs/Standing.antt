@@ -8,12 +8,12 @@ use native.Mathlib.Omega.{arith}
 use lib.ListN.{length, take, drop, replicate, take-append-drop}
 use Rattle.stations.specs.declared.Topology.{Topology}
 use Rattle.stations.specs.Topology.{held}
-use Rattle.stream.specs.declared.Record.{Record}
-use Rattle.stream.specs.Halves.{Listing}
-use Rattle.stream.specs.Stream.{recordIn}
-use Rattle.stream.specs.Reading.{fault, added, width, isEnd, nothingListed}
-use Rattle.stream.specs.Theorems.{Bytes}
-use Rattle.stream.proofs.Fitting.{Fitting, record-fits}
+use Rattle.records.specs.declared.Record.{Record}
+use Rattle.records.specs.Halves.{Listing}
+use Rattle.records.specs.Stream.{recordIn}
+use Rattle.records.specs.Reading.{fault, added, width, isEnd, nothingListed}
+use Rattle.records.specs.Theorems.{Bytes}
+use Rattle.records.proofs.Fitting.{Fitting, record-fits}
 use Rattle.stream.proofs.AtTurn.{Turn, turn-first, turn-taken}
 use Rattle.stream.proofs.Filled.{Filled, filled-first}
 

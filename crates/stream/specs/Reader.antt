@@ -4,11 +4,11 @@ use Prim.Native.Nat.{ℕ, _+_}
 use mathlib.Core.List.{List}
 use denote.Ref.{now}
 use lib.ListN.{drop}
-use Rattle.stream.specs.declared.Record.{Record}
+use Rattle.records.specs.declared.Record.{Record}
+use Rattle.records.specs.Stream.{recordIn}
+use Rattle.records.specs.Reading.{width}
 use Rattle.stream.specs.declared.reader.Reader.{Reader}
-use Rattle.stream.specs.declared.records.Taken.{Taken}
-use Rattle.stream.specs.Stream.{recordIn}
-use Rattle.stream.specs.Reading.{width}
+use Rattle.stream.specs.declared.bytes.Taken.{Taken}
 
 -- the record that begins at an offset of a stream, and the offset past it. A refusal stands in a record's place and takes no byte
 unfoldable pub taken : List ℕ → ℕ → Taken

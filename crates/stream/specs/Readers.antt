@@ -7,11 +7,11 @@ use mathlib.Core.Logic.{_≢_}
 use mathlib.Core.Path.{_≡_}
 use denote.Ref.{now}
 use lib.ListN.{length, drop}
-use Rattle.stream.specs.declared.Record.{Record}
-use Rattle.stream.specs.declared.Record.the-variants as record-of
+use Rattle.records.specs.declared.Record.{Record}
+use Rattle.records.specs.declared.Record.the-variants as record-of
+use Rattle.records.specs.Theorems.{fourBytes, twoBytes, halfOf}
 use Rattle.stream.specs.declared.reader.Reader.{Reader}
 use Rattle.stream.specs.Reader.{Next, next}
-use Rattle.stream.specs.Theorems.{fourBytes, twoBytes, halfOf}
 
 -- the record is given, and the reader goes so many bytes on over the same stream
 abbrev pub moves : Reader → Record → ℕ → Next

@@ -1,34 +1,16 @@
 // Reading a topology stream (01, Topology stream).
+mod bytes;
 mod reader;
-mod records;
 mod taking;
 pub mod unchecked;
 
-use stations::Answer;
+pub use records::Reading;
+pub use records::Record;
 use stations::DEFAULT_NEXT_HOPS;
-use stations::Half;
 use stations::Link;
 use stations::ROUTERS;
-use stations::Topology;
 ghost use mathlib.Core.Path.{_≡_};
-ghost use Rattle.stream.specs.Reading.{reading};
-
-// What reading returns: a refused one has the topology of all zeros.
-pub struct Reading {
-    pub answer: Answer,
-    pub topology: Topology,
-}
-
-// One record of the stream, or the number of the refusal that stands in its place. A link's record, kind 2, counts as both its halves, the second the
-// opposite of the one it has here (02, #105).
-pub enum Record {
-    Router(u32),
-    Link(Half),
-    Half(Half),
-    Limit(u8),
-    End,
-    Refused(u8),
-}
+ghost use Rattle.records.specs.Reading.{reading};
 
 // Reads a topology stream: refusals 1 to 13 and 16. Beside what is listed stand two tables for the halves to come: what the half from u to v costs, at
 // u * ROUTERS + v, 0 if it is not listed, and how many halves leave each router. A half whose opposite is listed makes a link with it; lone ones stand in

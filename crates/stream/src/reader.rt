@@ -1,8 +1,8 @@
 // The record reader: it carries the lent stream and the offset it has reached (01, Topology stream; Forms by place). A function over it is proved by a
 // walk by hand, so there are two: `next_record` leaves the work to `taken_at`, and callers go through `next_from`, whose parameters are plain.
 use super::Record;
-use super::records;
-use super::records::Taken;
+use super::bytes;
+use super::bytes::Taken;
 ghost use mathlib.Core.Path.{_≡_};
 ghost use Rattle.stream.specs.Reader.{taken, next};
 
@@ -15,7 +15,7 @@ pub(crate) struct Reader<'a> {
 fn next_record<'s, 'a>(reader: &'s mut Reader<'a>) -> Record
     ensures { λ found. ⌜ record { found = found; reader = now (reader .exit) } ≡ next (now (reader .entry)) ⌝ }
 {
-    let taken = records::taken_at(reader.stream, reader.at);
+    let taken = bytes::taken_at(reader.stream, reader.at);
     reader.at = taken.at;
     taken.found
 }

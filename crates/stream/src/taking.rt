@@ -12,9 +12,10 @@ ghost use Prim.Native.Nat.{_+_, _*_, _≤_};
 ghost use lib.ListN.{length, take, getD, set};
 ghost use Rattle.stations.specs.Limits.{mostRouters, mostHalves, mostNextHops};
 ghost use Rattle.soundness.specs.Sound.{within};
-ghost use Rattle.stream.specs.Halves.{Listing};
-ghost use Rattle.stream.specs.Reading.{fault, width};
-ghost use Rattle.stream.specs.Inner.{Indexed, Roomy};
+ghost use Rattle.records.specs.Halves.{Listing};
+ghost use Rattle.records.specs.Reading.{fault, width};
+ghost use Rattle.records.specs.Inner.{Indexed};
+ghost use Rattle.stream.specs.Inner.{Roomy};
 
 pub(crate) fn taken(t: Topology) -> Reading
     ensures { λ r. ⌜ r ≡ record { answer = record { number = 0; at = 0 }; topology = t } ⌝ }

@@ -20,10 +20,11 @@ ghost use lib.Dec.{ltb};
 ghost use lib.ListN.{length, take, getD, set};
 ghost use Rattle.stations.specs.Limits.{mostRouters, mostHalves, mostLinks};
 ghost use Rattle.stations.specs.Topology.{Contents, contents, held};
-ghost use Rattle.stream.specs.Halves.{Listing, opposite};
-ghost use Rattle.stream.specs.Reading.{refusal, routerFault, halvesFault};
-ghost use Rattle.stream.specs.Reading as said;
-ghost use Rattle.stream.specs.Inner.{Listed, Indexed, Roomy, oppositeCost, paired};
+ghost use Rattle.records.specs.Halves.{Listing, opposite};
+ghost use Rattle.records.specs.Reading.{refusal, routerFault, halvesFault};
+ghost use Rattle.records.specs.Reading as said;
+ghost use Rattle.records.specs.Inner.{Listed, Indexed};
+ghost use Rattle.stream.specs.Inner.{Roomy, oppositeCost, paired};
 
 // All zeros but for the next-hop limit.
 pub fn blank(limit: u8) -> Topology

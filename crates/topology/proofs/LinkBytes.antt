@@ -8,8 +8,8 @@ use borrow.Author.Tests.{eq-eqb, ne-eqb}
 use lib.Dec.{eqb}
 use lib.ListN.{length}
 use Rattle.stations.specs.declared.Link.{Link}
-use Rattle.stream.specs.Stream.{inBytes}
-use Rattle.stream.specs.Halves.{firstHalf, secondHalf}
+use Rattle.records.specs.Stream.{inBytes}
+use Rattle.records.specs.Halves.{firstHalf, secondHalf}
 use Rattle.topology.specs.Written.{halfBody, halfBytes, linkBytes}
 
 module _ (l : Link) where

@@ -21,14 +21,14 @@ use Rattle.stations.specs.declared.Link.{Link}
 use Rattle.stations.specs.Topology.{seen}
 use Rattle.stations.proofs.Arcs.{ending, arcs-more, arcs-stay, ends-at}
 use Rattle.soundness.specs.Apart.{apart}
-use Rattle.stream.specs.declared.Reading.{Reading}
-use Rattle.stream.specs.declared.Record.{Record}
-use Rattle.stream.specs.declared.Record.the-variants as record-of
-use Rattle.stream.specs.Halves.{Listing, firstHalf, secondHalf, sameHalf, opposite, linkOf}
-use Rattle.stream.specs.Reading.{fault, withLink, arrived, added, width, isEnd, inTurn}
-use Rattle.stream.specs.Theorems.{HalfListed}
-use Rattle.stream.proofs.Verdicts.{faults-each}
-use Rattle.stream.proofs.InTurn.{goes-on}
+use Rattle.records.specs.declared.Reading.{Reading}
+use Rattle.records.specs.declared.Record.{Record}
+use Rattle.records.specs.declared.Record.the-variants as record-of
+use Rattle.records.specs.Halves.{Listing, firstHalf, secondHalf, sameHalf, opposite, linkOf}
+use Rattle.records.specs.Reading.{fault, withLink, arrived, added, width, isEnd, inTurn}
+use Rattle.records.specs.Theorems.{HalfListed}
+use Rattle.records.proofs.Verdicts.{faults-each}
+use Rattle.records.proofs.InTurn.{goes-on}
 use Rattle.topology.proofs.Rewritten.{linkRecords}
 
 -- the reading goes on so, from somewhere

@@ -18,16 +18,16 @@ use Rattle.stations.specs.Outcome.{answer, turnedAway, given}
 use Rattle.stations.specs.Topology.{Contents, noLink, padded, held, zeros, networkIn}
 use Rattle.soundness.specs.Apart.{apart}
 use Rattle.soundness.specs.Sound.{within}
-use Rattle.stream.specs.declared.Reading.{Reading}
-use Rattle.stream.specs.declared.Record.{Record}
-use Rattle.stream.specs.declared.Record.the-variants as record-of
-use Rattle.stream.specs.Stream.{bodyLength, decoded, recordIn, records}
-use Rattle.stream.specs.Halves.{Listing, halves}
-use Rattle.stream.specs.Reading.{refusal, accepted, routerFault, repeated, crowded, halvesFault, fault, withRouter, withLink, withLimit, arrived, added}
-use Rattle.stream.specs.Reading.{width, isEnd, joined, ended, unless, some?, inTurn, nothingListed, reading}
-use Rattle.stream.specs.Theorems.{success, refused}
-use Rattle.stream.proofs.InTurn.{next-router, next-link, next-half, next-limit, next-unknown, next-end, next-cut, goes-on}
-use Rattle.stream.proofs.Stream.{records-drop, no-bytes}
+use Rattle.records.specs.declared.Reading.{Reading}
+use Rattle.records.specs.declared.Record.{Record}
+use Rattle.records.specs.declared.Record.the-variants as record-of
+use Rattle.records.specs.Stream.{bodyLength, decoded, recordIn, records}
+use Rattle.records.specs.Halves.{Listing, halves}
+use Rattle.records.specs.Reading.{refusal, accepted, routerFault, repeated, crowded, halvesFault, fault, withRouter, withLink, withLimit, arrived, added}
+use Rattle.records.specs.Reading.{width, isEnd, joined, ended, unless, some?, inTurn, nothingListed, reading}
+use Rattle.records.specs.Theorems.{success, refused}
+use Rattle.records.proofs.InTurn.{next-router, next-link, next-half, next-limit, next-unknown, next-end, next-cut, goes-on}
+use Rattle.records.proofs.Stream.{records-drop, no-bytes}
 use Rattle.topology.specs.Inner.{over}
 use Rattle.topology.specs.OldLimit.{withOldLimit}
 use Rattle.topology.specs.OldStreams.{HelpExact, Cut, sixteen, readBefore, OldStreamsRead}

@@ -13,13 +13,13 @@ use Rattle.stations.specs.declared.Half.{Half}
 use Rattle.stations.specs.declared.Link.{Link}
 use Rattle.stations.specs.declared.Topology.{Topology}
 use Rattle.stations.specs.Topology.{Contents, contents}
-use Rattle.stream.specs.declared.Record.{Record}
-use Rattle.stream.specs.declared.Record.the-variants as record-of
-use Rattle.stream.specs.Stream.{bodyLength, decoded, halfIn, records}
-use Rattle.stream.specs.Halves.{firstHalf, secondHalf}
-use Rattle.stream.proofs.Digits.{digits, length-bytes}
-use Rattle.stream.proofs.InTurn.{next-limit, next-end}
-use Rattle.stream.proofs.Stream.{whole, records-drop, no-bytes}
+use Rattle.records.specs.declared.Record.{Record}
+use Rattle.records.specs.declared.Record.the-variants as record-of
+use Rattle.records.specs.Stream.{bodyLength, decoded, halfIn, records}
+use Rattle.records.specs.Halves.{firstHalf, secondHalf}
+use Rattle.records.proofs.Digits.{digits, length-bytes}
+use Rattle.records.proofs.InTurn.{next-limit, next-end}
+use Rattle.records.proofs.Stream.{whole, records-drop, no-bytes}
 use Rattle.topology.specs.Written.{joinedOver, routerBytes, halfBody, halfBytes, linkBytes, limitBytes, written}
 
 -- a kind and a whole body

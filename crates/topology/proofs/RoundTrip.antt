@@ -22,13 +22,13 @@ use Rattle.soundness.specs.Apart.{apart}
 use Rattle.soundness.specs.Sound.{connected, sound}
 use Rattle.soundness.specs.Theorems.{Sound}
 use Rattle.soundness.proofs.Sound.{tested, none-fact, within-fact, routers-listed, links-listed, sound-exact}
-use Rattle.stream.specs.declared.Reading.{Reading}
-use Rattle.stream.specs.Stream.{inBytes}
-use Rattle.stream.specs.Halves.{firstHalf, secondHalf}
-use Rattle.stream.specs.Reading.{accepted, reading}
-use Rattle.stream.specs.Theorems.{Bytes, success}
-use Rattle.stream.proofs.Digits.{byte-below}
-use Rattle.stream.proofs.Returned.{reads-sound}
+use Rattle.records.specs.declared.Reading.{Reading}
+use Rattle.records.specs.Stream.{inBytes}
+use Rattle.records.specs.Halves.{firstHalf, secondHalf}
+use Rattle.records.specs.Reading.{accepted, reading}
+use Rattle.records.specs.Theorems.{Bytes, success}
+use Rattle.records.proofs.Digits.{byte-below}
+use Rattle.records.proofs.Returned.{reads-sound}
 use Rattle.topology.specs.Written.{joinedOver, routerBytes, halfBody, halfBytes, linkBytes, limitBytes, written}
 use Rattle.topology.specs.Theorems.{WrittenRead, SoundIsRead, WrittenLong}
 use Rattle.topology.proofs.Joined.{joined-same}

@@ -7,11 +7,11 @@ use Rattle.network.specs.Order.{reached}
 use Rattle.stations.specs.Topology.{noLink, padded, contents, held, zeros, seen, networkIn}
 use Rattle.soundness.specs.Apart.{apart}
 use Rattle.soundness.specs.Sound.{within}
-use Rattle.stream.specs.Stream.{bigEndianOn, bigEndian, inBytes, bodyLength, halfIn, decoded, recordIn, records}
-use Rattle.stream.specs.Halves.{firstHalf, secondHalf, linkHalves, halves, sameHalf, leaves, opposite, linkOf}
-use Rattle.stream.specs.Reading.{refusal, accepted, routerFault, repeated, crowded, halvesFault, fault, withRouter, withLink, withLimit, arrived, added}
-use Rattle.stream.specs.Reading.{width, isEnd, joined, ended, unless, some?, inTurn, nothingListed, reading}
-use Rattle.stream.specs.Table.{one, two, three, T-stream}
+use Rattle.records.specs.Stream.{bigEndianOn, bigEndian, inBytes, bodyLength, halfIn, decoded, recordIn, records}
+use Rattle.records.specs.Halves.{firstHalf, secondHalf, linkHalves, halves, sameHalf, leaves, opposite, linkOf}
+use Rattle.records.specs.Reading.{refusal, accepted, routerFault, repeated, crowded, halvesFault, fault, withRouter, withLink, withLimit, arrived, added}
+use Rattle.records.specs.Reading.{width, isEnd, joined, ended, unless, some?, inTurn, nothingListed, reading}
+use Rattle.records.specs.Table.{one, two, three, T-stream}
 use Rattle.topology.specs.Written.{joinedOver, routerBytes, halfBody, halfBytes, linkBytes, limitBytes, written}
 use Rattle.topology.specs.Table.{holds, writes, facts, FactsHold}
 

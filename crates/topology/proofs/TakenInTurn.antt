@@ -16,12 +16,12 @@ use Rattle.stations.specs.declared.Link.{Link}
 use Rattle.stations.specs.Topology.{Contents}
 use Rattle.soundness.specs.Apart.{apart}
 use Rattle.soundness.specs.Sound.{within}
-use Rattle.stream.specs.declared.Record.{Record}
-use Rattle.stream.specs.declared.Record.the-variants as record-of
-use Rattle.stream.specs.Halves.{Listing}
-use Rattle.stream.specs.Reading.{accepted, fault, withRouter, withLimit, added, width, isEnd, joined, ended, unless, some?, inTurn, nothingListed}
-use Rattle.stream.proofs.NoFault.{NewRouter, router-passes}
-use Rattle.stream.proofs.InTurn.{goes-on}
+use Rattle.records.specs.declared.Record.{Record}
+use Rattle.records.specs.declared.Record.the-variants as record-of
+use Rattle.records.specs.Halves.{Listing}
+use Rattle.records.specs.Reading.{accepted, fault, withRouter, withLimit, added, width, isEnd, joined, ended, unless, some?, inTurn, nothingListed}
+use Rattle.records.proofs.NoFault.{NewRouter, router-passes}
+use Rattle.records.proofs.InTurn.{goes-on}
 use Rattle.topology.specs.Written.{joinedOver}
 use Rattle.topology.proofs.LinkTaken.{Goes, first, followed, GoodLinks, linked, link-taken}
 use Rattle.topology.proofs.Rewritten.{routerRecords, linkRecords, recordsOf}

@@ -8,11 +8,11 @@ use mathlib.Core.Path.{_≡_}
 use lib.ListN.{length, take, drop}
 use Rattle.stations.specs.declared.Topology.{Topology}
 use Rattle.stations.specs.Outcome.{answer}
-use Rattle.stream.specs.declared.Reading.{Reading}
-use Rattle.stream.specs.declared.Record.the-variants as record-of
-use Rattle.stream.specs.Stream.{records}
-use Rattle.stream.specs.Reading.{inTurn, reading}
-use Rattle.stream.specs.Theorems.{success, refused, fourBytes, twoBytes, halfOf}
+use Rattle.records.specs.declared.Reading.{Reading}
+use Rattle.records.specs.declared.Record.the-variants as record-of
+use Rattle.records.specs.Stream.{records}
+use Rattle.records.specs.Reading.{inTurn, reading}
+use Rattle.records.specs.Theorems.{success, refused, fourBytes, twoBytes, halfOf}
 use Rattle.topology.specs.OldLimit.{withOldLimit}
 
 -- Where there is no room for the stream and two bytes more, 24 at that length, and the buffer stays; else 8 and 16, then the stream, then what stood

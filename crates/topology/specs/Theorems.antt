@@ -11,8 +11,8 @@ use Rattle.network.specs.Lists.{keep}
 use Rattle.stations.specs.declared.Topology.{Topology}
 use Rattle.stations.specs.Outcome.{turnedAway, given}
 use Rattle.soundness.specs.Sound.{sound}
-use Rattle.stream.specs.Reading.{reading}
-use Rattle.stream.specs.Theorems.{Bytes, success}
+use Rattle.records.specs.Reading.{reading}
+use Rattle.records.specs.Theorems.{Bytes, success}
 use Rattle.topology.specs.Written.{joinedOver, written, writing}
 
 -- 01, Topology stream: reading what was written returns the same topology.

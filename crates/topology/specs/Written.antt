@@ -10,8 +10,8 @@ use Rattle.stations.specs.declared.Topology.{Topology}
 use Rattle.stations.specs.Topology.{contents}
 use Rattle.stations.specs.Outcome.{Outcome, turnedAway, given}
 use Rattle.soundness.specs.Sound.{sound}
-use Rattle.stream.specs.Stream.{inBytes}
-use Rattle.stream.specs.Halves.{firstHalf, secondHalf}
+use Rattle.records.specs.Stream.{inBytes}
+use Rattle.records.specs.Halves.{firstHalf, secondHalf}
 
 -- what f gives over the list, one after the other
 unfoldable pub joinedOver : {A B : Type 0} → (A → List B) → List A → List B

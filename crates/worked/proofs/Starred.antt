@@ -19,11 +19,11 @@ use Rattle.stations.specs.Outcome.{turnedAway, given}
 use Rattle.stations.specs.Topology.{noLink, padded, contents, held, zeros, seen, networkIn, networkOf}
 use Rattle.soundness.specs.Apart.{apart}
 use Rattle.soundness.specs.Sound.{within, inLimits, wellLinked, uncrowded, none?, connected, isNoLink, unusedZero, slotted, sound}
-use Rattle.stream.specs.Stream.{bigEndianOn, bigEndian, bodyLength, halfIn, decoded, recordIn, records}
-use Rattle.stream.specs.Halves.{firstHalf, secondHalf, linkHalves, halves, sameHalf, leaves, opposite, linkOf}
-use Rattle.stream.specs.Reading.{refusal, accepted, routerFault, repeated, crowded, halvesFault, fault, withRouter, withLink, withLimit, arrived, added}
-use Rattle.stream.specs.Reading.{width, isEnd, joined, ended, unless, some?, inTurn, nothingListed, reading}
-use Rattle.stream.specs.Table.{T-stream}
+use Rattle.records.specs.Stream.{bigEndianOn, bigEndian, bodyLength, halfIn, decoded, recordIn, records}
+use Rattle.records.specs.Halves.{firstHalf, secondHalf, linkHalves, halves, sameHalf, leaves, opposite, linkOf}
+use Rattle.records.specs.Reading.{refusal, accepted, routerFault, repeated, crowded, halvesFault, fault, withRouter, withLink, withLimit, arrived, added}
+use Rattle.records.specs.Reading.{width, isEnd, joined, ended, unless, some?, inTurn, nothingListed, reading}
+use Rattle.records.specs.Table.{T-stream}
 use Rattle.topology.specs.Written.{joinedOver}
 use Rattle.order.specs.Calls.{modeOf, building, wrongRanks, unreadyRanks, atFirst, judging, checking}
 use Rattle.order.specs.Table.{answers}

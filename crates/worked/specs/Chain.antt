@@ -8,8 +8,8 @@ use Rattle.network.specs.Lists.{sameNumbers}
 use Rattle.network.specs.Forwarding.{Walk, delivered-at, dropped-at, unfinished-at}
 use Rattle.stations.specs.Outcome.{Outcome}
 use Rattle.stations.specs.declared.Topology.{Topology}
-use Rattle.stream.specs.declared.Reading.{Reading}
-use Rattle.stream.specs.Reading.{reading}
+use Rattle.records.specs.declared.Reading.{Reading}
+use Rattle.records.specs.Reading.{reading}
 use Rattle.order.specs.declared.Mode.{Mode}
 use Rattle.order.specs.Calls.{building}
 use Rattle.order.specs.Table.{answers}

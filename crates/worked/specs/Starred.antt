@@ -9,8 +9,8 @@ use Rattle.network.specs.Lists.{every}
 use Rattle.network.specs.Network.{Network, Link, WellFormed, linked}
 use Rattle.network.specs.Order.{Mode, shortest-path, free}
 use Rattle.stations.specs.Topology.{networkOf}
-use Rattle.stream.specs.Reading.{reading}
-use Rattle.stream.specs.Table.{T-stream}
+use Rattle.records.specs.Reading.{reading}
+use Rattle.records.specs.Table.{T-stream}
 use Rattle.topology.specs.Written.{joinedOver}
 use Rattle.order.specs.declared.Mode as call
 use Rattle.order.specs.declared.Mode.the-variants.{ShortestPath, Free}

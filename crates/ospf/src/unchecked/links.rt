@@ -3,7 +3,7 @@ ghost use mathlib.Core.Path.{_≡_};
 ghost use mathlib.Core.Bool.{cond};
 ghost use Prim.Native.Nat.{_+_, _*_, _≤_};
 ghost use lib.ListN.{length, getD, take, drop};
-ghost use Rattle.stream.specs.Stream.{bigEndian};
+ghost use Rattle.records.specs.Stream.{bigEndian};
 ghost use Rattle.ospf.specs.Lsa.{linksIn, some?, malformed, lengthField};
 
 // The number in the two bytes from at, big-endian.

@@ -7,12 +7,12 @@ use mathlib.Core.Path.{_≡_, refl, sym, ap, _∙_}
 use native.Mathlib.Omega.{arith}
 use borrow.Author.Needs.{needs}
 use lib.ListN.{length, drop}
-use Rattle.stream.specs.Halves.{opposite, linkOf}
-use Rattle.stream.specs.declared.Record.{Record}
-use Rattle.stream.specs.declared.Record.the-variants as record-of
-use Rattle.stream.specs.declared.records.Taken.{Taken}
-use Rattle.stream.specs.Stream.{recordIn}
-use Rattle.stream.specs.Reading.{refusal, fault, added, width, isEnd, ended, nothingListed}
+use Rattle.records.specs.Halves.{opposite, linkOf}
+use Rattle.records.specs.declared.Record.{Record}
+use Rattle.records.specs.declared.Record.the-variants as record-of
+use Rattle.records.specs.Stream.{recordIn}
+use Rattle.records.specs.Reading.{refusal, fault, added, width, isEnd, ended, nothingListed}
+use Rattle.stream.specs.declared.bytes.Taken.{Taken}
 use Rattle.stream.specs.Reader.{taken}
 use Rattle.stream.proofs.AtTurn.{turn-past, turn-end, turn-refused, each-byte}
 use Rattle.stream.proofs.Filled.{contents-are, listed, few, id-slots, ids-are, indexed, room-router, past-router, past-limit}

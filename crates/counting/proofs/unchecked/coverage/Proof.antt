@@ -10,7 +10,7 @@ use Rattle.network.specs.Lists.{numbersFrom, below, keep}
 use Rattle.network.proofs.Below.{length-map-below}
 use Rattle.stations.specs.Topology.{padded}
 use Rattle.soundness.proofs.Sound.{sound-exact}
-use Rattle.stream.proofs.Held.{padded-length}
+use Rattle.records.proofs.Held.{padded-length}
 use Rattle.topology.specs.Written.{joinedOver}
 use Rattle.figures.specs.Coverage.{pairsTo, pairsOf, coveredAmong, listedFor, counted}
 use Rattle.figures.proofs.Counting.{covered-few, covered-more, listed-more}

@@ -49,16 +49,16 @@ use denote.Triple.Table.{entered, cited}
 use denote.Triple.Walked.{says, Stays, stay-none, stay-none-slice, walkOf, goes-none, goes-none-slice, Walks, ends-at, walked, walk-meets}
 use denote.Exit.{yes}
 use denote.Triple.Clauses.{ensured, lasts}
+use Rattle.records.specs.declared.Record.{Record}
+use Rattle.records.proofs.Record as S
+use Rattle.records.proofs.Record.Laws as S′
 use Rattle.stream.specs.Reader.{Next, taken, next}
-use Rattle.stream.specs.declared.Record.{Record}
 use Rattle.stream.specs.declared.reader.Reader.{Reader}
-use Rattle.stream.specs.declared.records.Taken.{Taken}
-use Rattle.stream.proofs.Record as S
-use Rattle.stream.proofs.Record.Laws as S′
+use Rattle.stream.specs.declared.bytes.Taken.{Taken}
 use Rattle.stream.proofs.reader.Reader as T
 use Rattle.stream.proofs.reader.Reader.Laws as T′
-use Rattle.stream.proofs.records.Taken as K
-use Rattle.stream.proofs.records.Taken.Laws as K′
+use Rattle.stream.proofs.bytes.Taken as K
+use Rattle.stream.proofs.bytes.Taken.Laws as K′
 use Rattle.stream.proofs.reader.next_record as next-record
 use Rattle.stream.proofs.reader.next_record.Symbol as next-record-def
 use Rattle.stream.proofs.reader.next_record.Symbol.{name as #next-record}

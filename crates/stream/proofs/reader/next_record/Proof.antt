@@ -46,19 +46,19 @@ use denote.Triple.Spec.{Meets, tripleOf}
 use denote.Triple.Table.{entered, cited}
 use denote.Triple.Walked.{says, Stays, stay-ref, walkOf, goes-ref, Walks, ends-at, walked, walk-meets}
 use denote.Triple.Clauses.{ensured, lasts}
+use Rattle.records.proofs.Record as S
+use Rattle.records.proofs.Record.Laws as S′
 use Rattle.stream.specs.Reader.{Next, taken, next}
 use Rattle.stream.specs.declared.reader.Reader.{Reader}
-use Rattle.stream.specs.declared.records.Taken.{Taken}
-use Rattle.stream.proofs.Record as S
-use Rattle.stream.proofs.Record.Laws as S′
+use Rattle.stream.specs.declared.bytes.Taken.{Taken}
 use Rattle.stream.proofs.reader.Reader as T
 use Rattle.stream.proofs.reader.Reader.Laws as T′
-use Rattle.stream.proofs.records.Taken as K
-use Rattle.stream.proofs.records.Taken.Laws as K′
-use Rattle.stream.proofs.records.taken_at as taken-at
-use Rattle.stream.proofs.records.taken_at.Symbol as taken-at-def
-use Rattle.stream.proofs.records.taken_at.Symbol.{name as #taken-at}
-use Rattle.stream.proofs.records.taken_at.Met as taken-at-thm
+use Rattle.stream.proofs.bytes.Taken as K
+use Rattle.stream.proofs.bytes.Taken.Laws as K′
+use Rattle.stream.proofs.bytes.taken_at as taken-at
+use Rattle.stream.proofs.bytes.taken_at.Symbol as taken-at-def
+use Rattle.stream.proofs.bytes.taken_at.Symbol.{name as #taken-at}
+use Rattle.stream.proofs.bytes.taken_at.Met as taken-at-thm
 use Rattle.stream.proofs.reader.next_record.Key.{name as #next-record}
 use Rattle.stream.proofs.reader.next_record as next-record
 use Rattle.stream.proofs.reader.next_record.Statement as stated
@@ -238,5 +238,5 @@ next-record-spec 𝓤 H 𝓜 𝓖 𝓡 =
     entered 𝓤 H (tripleOf 𝓤 H (𝓖 .A) next-record.signature (next-record.spec 𝓤 H (𝓖 .A) (𝓜 .mem) (𝓡 .run)))
     (tables 𝓤 H 𝓜 𝓡 code.env .C) (tables 𝓤 H 𝓜 𝓡 code.env .Λ) #next-record code.function (code.unfolded 𝓤 H 𝓜 𝓡)
     (next-record-meets 𝓤 H (𝓖 .A) (givenOf 𝓤 H 𝓜 𝓖) (𝓜 .mem) (𝓡 .run) (tablesOf 𝓤 H 𝓜 (tables 𝓤 H 𝓜 𝓡 code.env))
-    (cited 𝓤 H (TakenAt 𝓤 H (𝓖 .A) (𝓜 .mem) (𝓡 .run)) 𝓜 𝓡 code.env #taken-at taken-at-def.routine code.calls-stream·records·taken-at
+    (cited 𝓤 H (TakenAt 𝓤 H (𝓖 .A) (𝓜 .mem) (𝓡 .run)) 𝓜 𝓡 code.env #taken-at taken-at-def.routine code.calls-stream·bytes·taken-at
     (taken-at-thm.met 𝓤 H 𝓜 𝓖 𝓡)))

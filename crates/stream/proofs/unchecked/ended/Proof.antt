@@ -7,11 +7,11 @@ use borrow.Author.Tests.{lt-ltb, le-ltb, eq-eqb, ne-eqb}
 use lib.Dec.{ltb}
 use Rattle.stations.specs.Topology.{contents}
 use Rattle.soundness.specs.Apart.{apart}
-use Rattle.stream.specs.Reading.{accepted, joined}
-use Rattle.stream.specs.Reading as said
-use Rattle.stream.specs.Theorems.{success}
-use Rattle.stream.proofs.Faults.{joined-not, joined-all}
-use Rattle.stream.proofs.Held.{routers-held}
+use Rattle.records.specs.Reading.{accepted, joined}
+use Rattle.records.specs.Reading as said
+use Rattle.records.specs.Theorems.{success}
+use Rattle.records.proofs.Faults.{joined-not, joined-all}
+use Rattle.records.proofs.Held.{routers-held}
 use Rattle.stream.proofs.unchecked.ended.Statement.{statement}
 use Rattle.stream.proofs.unchecked.ended.Tie as tie
 

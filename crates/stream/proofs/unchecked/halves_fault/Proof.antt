@@ -13,10 +13,10 @@ use lib.ListN.{length, getD}
 use Rattle.network.specs.Lists.{any}
 use Rattle.stations.specs.declared.Half.{Half}
 use Rattle.stations.specs.Limits.{mostRouters, mostHalves, mostNeighbours}
-use Rattle.stream.specs.Halves.{Listing, opposite}
-use Rattle.stream.specs.Reading.{repeated, crowded, halvesFault}
-use Rattle.stream.specs.Inner.{Indexed}
-use Rattle.stream.proofs.Faults.{repeated-by, crowded-by, from-6, from-7, from-8, from-9, from-10}
+use Rattle.records.specs.Halves.{Listing, opposite}
+use Rattle.records.specs.Reading.{repeated, crowded, halvesFault}
+use Rattle.records.specs.Inner.{Indexed}
+use Rattle.records.proofs.Faults.{repeated-by, crowded-by, from-6, from-7, from-8, from-9, from-10}
 use Rattle.stream.proofs.unchecked.halves_fault.Statement.{statement}
 use Rattle.stream.proofs.unchecked.halves_fault.Tie as tie
 

@@ -2,7 +2,7 @@
 -- Assumes nothing.
 use borrow.Author.Needs.{needs}
 use Rattle.stations.specs.Topology.{zeros}
-use Rattle.stream.specs.Reading.{refusal}
+use Rattle.records.specs.Reading.{refusal}
 use Rattle.stream.proofs.unchecked.refused.Statement.{statement}
 use Rattle.stream.proofs.unchecked.refused.Tie as tie
 

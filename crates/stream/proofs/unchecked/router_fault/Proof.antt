@@ -10,7 +10,7 @@ use lib.ListN.{take}
 use lib.Seq.{length-take-le}
 use Rattle.stations.specs.Limits.{mostRouters}
 use Rattle.stations.specs.Topology.{Contents}
-use Rattle.stream.specs.Reading.{routerFault}
+use Rattle.records.specs.Reading.{routerFault}
 use Rattle.stream.proofs.unchecked.router_fault.Statement.{statement}
 use Rattle.stream.proofs.unchecked.router_fault.Tie as tie
 

@@ -5,7 +5,7 @@ use Rattle.text.specs.declared.unchecked.fields.Value.the-variants.{Is}
 use Rattle.text.specs.Fields.{field}
 use lib.Seq.{length-take-le}
 use Rattle.text.specs.Hex.{byteCount}
-use Rattle.stream.specs.Reading.{reading}
+use Rattle.records.specs.Reading.{reading}
 use Rattle.requests.specs.Requests.{readIn, readBy, readAnswer}
 use Rattle.requests.specs.Replies.{heldIn}
 use Rattle.requests.proofs.Replying.{answer-reply, error-step}
