@@ -1,4 +1,4 @@
-"""The listing, written from the words of the rules alone: slow and short, to check programs by."""
+"""The programs, written from the words of the rules and of RFC 2328 alone: slow and short, to check them by."""
 
 import itertools
 from math import inf
@@ -39,6 +39,22 @@ def apart(ids, links):
     return [u for u in range(len(ids)) if u not in reached]
 
 
+def arrive(halves, links, new, cost):
+    """A half more, with its cost; with its opposite it makes a link."""
+    halves[new] = cost
+    if new[::-1] in halves:
+        links.append(new[::-1])
+
+
+def ended(ids, halves, links, limit, at):
+    """What is listed at the end, if there are routers, all with a path to place 0; lone halves are dropped."""
+    if not ids:
+        raise Refused(12, at)
+    if apart(ids, links):
+        raise Refused(13, apart(ids, links)[0])
+    return ids, [(a, b, halves[a, b], halves[b, a]) for a, b in links], limit
+
+
 def read(stream):
     """IDs by place, links by number, each with its places and the cost that either sends at, and K."""
     ids, halves, links, limit, at = [], {}, [], 3, 0
@@ -58,25 +74,100 @@ def read(stream):
             a, b, cost = body[0], body[1], int.from_bytes(body[2:], "big")
             new = [(a, b), (b, a)] if kind == 2 else [(a, b)]
             fault = fault_of_halves(ids, halves, new, cost)
-            for sender, receiver in new:
-                halves[sender, receiver] = cost
-                if (receiver, sender) in halves:
-                    links.append((receiver, sender))
+            for places in new:
+                arrive(halves, links, places, cost)
         elif kind == 8:
             limit = body[0]
             fault = 0 if 1 <= limit <= 16 else 16
         elif after < len(stream):
             raise Refused(11, after)
-        elif not ids:
-            raise Refused(12, at)
-        elif apart(ids, links):
-            raise Refused(13, apart(ids, links)[0])
         else:
-            return ids, [(a, b, halves[a, b], halves[b, a]) for a, b in links], limit
+            return ended(ids, halves, links, limit, at)
         if fault:
             raise Refused(fault, at)
         at = after
     raise Refused(1, len(stream))
+
+
+def number(octets):
+    return int.from_bytes(octets, "big")
+
+
+def router_lsa(file, at):
+    """The LSA at an offset of the file and its links, each its type, Link ID and metric (RFC 2328, A.4.1 and A.4.2)."""
+    end = at + number(file[at + 18 : at + 20])
+    if not at + 24 <= end <= len(file) or file[at + 3] != 1:
+        raise Refused(26, at)
+    links, link = [], at + 24
+    for _ in range(number(file[at + 22 : at + 24])):
+        if link + 12 > end or link + 12 + 4 * file[link + 9] > end or file[link + 8] not in (1, 2, 3, 4):
+            raise Refused(26, at)
+        links.append((file[link + 8], number(file[link : link + 4]), number(file[link + 10 : link + 12])))
+        link += 12 + 4 * file[link + 9]
+    if link != end:
+        raise Refused(26, at)
+    return file[at:end], links
+
+
+def is_right(lsa):
+    """Of the checksum and both Fletcher sums, without the LS age (RFC 2328, 12.1.7)."""
+    c0 = c1 = 0
+    for octet in lsa[2:]:
+        c0 += octet
+        c1 += c0
+    return number(lsa[16:18]) != 0 and c0 % 255 == 0 and c1 % 255 == 0
+
+
+def imported(file):
+    """What a file of router-LSAs lists, as `read` has it."""
+    found, at = [], 0
+    while at < len(file):
+        lsa, listed = router_lsa(file, at)
+        found.append((at, lsa, listed))
+        at += len(lsa)
+    for at, lsa, _ in found:
+        if not is_right(lsa):
+            raise Refused(27, at)
+    ids, halves, links = [], {}, []
+    for at, lsa, _ in found:
+        new = number(lsa[8:12])
+        fault = fault_of_router(ids, new)
+        if fault:
+            raise Refused(fault, at)
+        ids.append(new)
+    for place, (at, _, listed) in enumerate(found):
+        lowest = {}
+        for kind, neighbour, metric in listed:
+            if kind == 1 and neighbour in ids:
+                lowest[neighbour] = min(metric, lowest.get(neighbour, metric))
+        for neighbour, cost in lowest.items():  # in the order first listed
+            new = (place, ids.index(neighbour))
+            fault = fault_of_halves(ids, halves, [new], cost)
+            if fault:
+                raise Refused(fault, at)
+            arrive(halves, links, new, cost)
+    return ended(ids, halves, links, 3, 0)
+
+
+def written(ids, links, limit):
+    """The stream of a topology."""
+    records = [bytes([8, limit])] + [b"\1" + id.to_bytes(4, "big") for id in ids]
+    for a, b, there, back in links:
+        if there == back:
+            records.append(bytes([2, a, b]) + there.to_bytes(2, "big"))
+        else:
+            records += [bytes([4, a, b]) + there.to_bytes(2, "big"), bytes([4, b, a]) + back.to_bytes(2, "big")]
+    return b"".join(records) + b"\3"
+
+
+def conversion(file):
+    """What the program `import` writes for this input, to standard output and to standard error."""
+    if len(file) > 262144:
+        return b"", b"too long\n"
+    try:
+        return written(*imported(file)), b""
+    except Refused as refused:
+        return b"", b"refused %d %d\n" % refused.args
 
 
 def distances(cost, d):

@@ -8,7 +8,7 @@ use lib.Dec.{leb}
 use lib.ListN.{length, take}
 use Rattle.text.specs.Fields.{asks}
 use Rattle.text.specs.Lines.{Put}
-use Rattle.requests.specs.Requests.{Held, Answered, unchanged, refused, setWord, readIn, loadIn, loadPacketIn, setIn, hopIn}
+use Rattle.requests.specs.Requests.{Held, Answered, unchanged, refused, setWord, readIn, importIn, loadIn, loadPacketIn, setIn, hopIn}
 use Rattle.replies.specs.Calls.{writeIn, orderIn, checkOrderIn, fillIn, checkTable, countIn, walkIn, listIn, oldStreamIn, coverageOf, pathsIn}
 use Rattle.requests.specs.Replies.{heldIn}
 use Rattle.console.specs.declared.answers.Turn.{Turn}
@@ -75,6 +75,10 @@ coverageWord = 99 ∷ 111 ∷ 118 ∷ 101 ∷ 114 ∷ 97 ∷ 103 ∷ 101 ∷ []
 unfoldable pub pathsWord : List ℕ
 pathsWord = 112 ∷ 97 ∷ 116 ∷ 104 ∷ 115 ∷ []
 
+-- `import`
+unfoldable pub importWord : List ℕ
+importWord = 105 ∷ 109 ∷ 112 ∷ 111 ∷ 114 ∷ 116 ∷ []
+
 -- A request's first word, and the number of fields after it.
 pub record Form : Type 0 where
   pub word : List ℕ
@@ -98,7 +102,8 @@ forms =
     record { word = listingWord; fields = 2; request = request.Listing } ∷
     record { word = oldStreamWord; fields = 2; request = request.OldStream } ∷
     record { word = coverageWord; fields = 0; request = request.Coverage } ∷
-    record { word = pathsWord; fields = 2; request = request.Paths } ∷ []
+    record { word = pathsWord; fields = 2; request = request.Paths } ∷
+    record { word = importWord; fields = 1; request = request.Import } ∷ []
 
 -- the request of the first form that a line has
 unfoldable pub formed : List Form → List ℕ → Request
@@ -127,6 +132,7 @@ answerTo request.Listing h line = unchanged h (listIn (h .topology) line)
 answerTo request.OldStream h line = unchanged h (oldStreamIn line)
 answerTo request.Coverage h line = unchanged h (coverageOf (h .topology))
 answerTo request.Paths h line = unchanged h (pathsIn h line)
+answerTo request.Import h line = importIn h line
 answerTo request.Unknown h line = refused h
 
 -- what a line answers

@@ -33,6 +33,7 @@ pub enum Request {
     OldStream,
     Coverage,
     Paths,
+    Import,
     Unknown,
 }
 
@@ -46,7 +47,7 @@ pub struct Turn {
 struct Shape(usize, Request);
 
 // In the order of the words in `request_in`.
-const SHAPES: [Shape; 16] = [
+const SHAPES: [Shape; 17] = [
     Shape(1, Request::Topology),
     Shape(1, Request::Write),
     Shape(3, Request::Order),
@@ -63,13 +64,14 @@ const SHAPES: [Shape; 16] = [
     Shape(2, Request::OldStream),
     Shape(0, Request::Coverage),
     Shape(2, Request::Paths),
+    Shape(1, Request::Import),
 ];
 
 fn request_in(line: &[u8]) -> Request
     ensures { λ r. ⌜ r ≡ requestIn (now (line .entry)) ⌝ }
 {
     let words =
-        b"topology write order check-order fill load-table check-table greatest load-packet set hop walk listing old-stream coverage paths";
+        b"topology write order check-order fill load-table check-table greatest load-packet set hop walk listing old-stream coverage paths import";
     let shapes = SHAPES;
     let mut k: usize = 0;
     while k < shapes.len() {
@@ -91,6 +93,7 @@ fn step(h: Holding, table: &mut [u8], line: &[u8], buffer: &mut [u8]) -> Step
     let request = request_in(line);
     match request {
         Request::Topology => holding::read(h, line),
+        Request::Import => holding::import(h, line),
         Request::LoadTable => holding::load_table(h, table, line),
         Request::LoadPacket => packets::load(h, line),
         Request::Set => packets::set(h, line),

@@ -3,6 +3,7 @@
 // packet, at first all zeros, no bytes and (0, 0).
 //
 //     topology STREAM             NUMBER AT; what reading returned is held from then on
+//     import FILE                 NUMBER AT; what was imported is held from then on
 //     write ROOM                  NUMBER AT BUFFER
 //     order D MODE ROOM           NUMBER AT BUFFER
 //     check-order D MODE ORDER    NUMBER AT

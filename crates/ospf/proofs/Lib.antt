@@ -10,3 +10,14 @@ pub mod Neighbours
 pub mod Halves
 pub mod Lowest
 pub mod Named
+pub mod Given
+pub mod Turns
+pub mod Plain
+pub mod Listed
+pub mod Verdict
+pub mod AsStream
+pub mod Numbers
+pub mod Routed
+pub mod Halving
+pub mod Steps
+pub mod Placed

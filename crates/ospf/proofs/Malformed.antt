@@ -21,7 +21,7 @@ neither false b e = (refl, e)
 neither true b e = absurd (let z : _≡_ {A = ℕ} 0 1 = cc in omega arith)
 
 -- where the 24 bytes are there, the links by the bytes that say how many and how long
-links-by : (s : List ℕ) → 24 ≤ length s → links s ≡ linksIn (two s 22) (drop 24 (take (two s 18) s))
+pub links-by : (s : List ℕ) → 24 ≤ length s → links s ≡ linksIn (two s 22) (drop 24 (take (two s 18) s))
 unfolding links
 links-by s h = rw (fields-each s h .ls-length, fields-each s h .link-count)
 
@@ -136,7 +136,7 @@ cut s e =
 pub refuses : (s : List ℕ) → malformed s ≡ true → 0 ≡ cond (malformed s) 0 (lengthField s)
 refuses s e = rw e
 
-drop-take : (m n : ℕ) (l : List ℕ) → drop m (take n l) ≡ take (n - m) (drop m l)
+pub drop-take : (m n : ℕ) (l : List ℕ) → drop m (take n l) ≡ take (n - m) (drop m l)
 drop-take zero n l = rw (sub-zero n)
 drop-take (suc m) zero l = rw (zero-sub (suc m))
 drop-take (suc m) (suc n) [] = sym (take-nil (suc n - suc m))

@@ -66,3 +66,7 @@ module _ (id : ℕ) (ls : List RouterLink) (two-bytes : (l : RouterLink) → Lis
 pub is-neighbour : (n : ℕ) (s : List ℕ) (id : ℕ) → ((i : ℕ) → getD s i 0 < 256) →
     ltb (lowestTo id (pointToPoint (allOf (linksIn n s)))) 65536 ≡ member id (neighboursOf (allOf (linksIn n s)))
 is-neighbour n s id bytes = by-lowest id (allOf (linksIn n s)) (all-fit n s bytes)
+
+pub neighbour-fits : (n : ℕ) (s : List ℕ) (id : ℕ) → ((i : ℕ) → getD s i 0 < 256) → List·Memᴰ id (neighboursOf (allOf (linksIn n s))) →
+    lowestTo id (pointToPoint (allOf (linksIn n s))) < 65536
+neighbour-fits n s id bytes = lower id (allOf (linksIn n s)) (all-fit n s bytes)

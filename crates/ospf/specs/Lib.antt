@@ -1,4 +1,7 @@
 pub mod Lsa
 pub mod Neighbours
+pub mod Import
 pub mod Theorems
+pub mod Imported
+pub mod Inner
 pub mod Facts

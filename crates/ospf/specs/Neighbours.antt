@@ -18,7 +18,7 @@ allOf (some ls) = ls
 unfoldable pub pointToPoint : List RouterLink → List RouterLink
 pointToPoint ls = keep (λ l. eqb (l .kind) 1) ls
 
--- 02, #106: of parallel links, those of type 1 with one Link ID, the lowest metric; 65,536, more than two bytes hold, if no link of the list has that ID
+-- 02, #106: of parallel links, those of a list with one Link ID, the lowest metric; 65,536, more than two bytes hold, if no link of the list has that ID
 unfoldable pub lowestTo : ℕ → List RouterLink → ℕ
 lowestTo id ls = leastBy (λ l. l .metric) 65536 (keep (λ l. eqb (l .id) id) ls)
 

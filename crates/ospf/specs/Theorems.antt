@@ -70,7 +70,7 @@ pub record Sums : Type 0 where
   pub c0-next : (octets : List ℕ) (octet : ℕ) → c0 (octets ++ (octet ∷ [])) ≡ c0 octets + octet
   pub c1-next : (octets : List ℕ) (octet : ℕ) → c1 (octets ++ (octet ∷ [])) ≡ c1 octets + c0 (octets ++ (octet ∷ []))
 
--- 02, #106, 27: a sum is right if and only if the checksum, bytes 16 and 17, is not zero, and both sums are 0 modulo 255 without the first two bytes, the
+-- 02, #106, 27: the sums of an LSA are right if and only if the checksum, bytes 16 and 17, is not zero, and both sums are 0 modulo 255 without the first two bytes, the
 -- LS age
 abbrev pub RightSum : Type 0
 RightSum = (s : List ℕ) → 24 ≤ length s →
@@ -144,7 +144,7 @@ abbrev pub PlacesEach : Type 0
 PlacesEach = (id : ℕ) (ids : List ℕ) → Places id ids
 
 -- 02, #106: a half is given if and only if it leads from the LSA's place to that of a router of the file that a link of type 1 names, at the lowest metric
--- of such links; IDs differ (3), and a metric has two bytes
+-- of such links; where IDs differ, as 3 ensures, and metrics are below 65,536 (`Metrics`)
 pub record Given (ids : List ℕ) (place : ℕ) (ls : List RouterLink) (h : Half) : Type 0 where
   pub sender : h .from .0 ≡ place
   pub inside : h .to .0 < length ids

@@ -1,12 +1,19 @@
-// Refusals 26 and 27 (02, #106), each over the whole file: 26 comes first, and what 27 reads has passed it.
+// The steps of an import (02, #106): 26 and 27, each over the whole file, then the routers, then the halves. What is behind 26 reads LSAs that have passed it.
 mod links;
 mod neighbours;
 mod sums;
 
+use stations::Answer;
+use stations::DEFAULT_NEXT_HOPS;
+use stations::ROUTERS;
+use stations::Topology;
+use stream::Reading;
+use stream::unchecked;
 ghost use mathlib.Core.Path.{_≡_};
 ghost use Prim.Native.Nat.{_≤_};
 ghost use lib.ListN.{length};
 ghost use Rattle.ospf.specs.Lsa.{firstMalformed, firstWrongSum};
+ghost use Rattle.ospf.specs.Inner.{routersTaken, allTaken};
 
 // The offset of the first malformed LSA, the file's length if there is none.
 pub fn first_malformed(file: &[u8]) -> usize
@@ -37,4 +44,60 @@ pub fn first_wrong_sum(file: &[u8]) -> usize
         at = end;
     }
     at
+}
+
+// The routers, LSA by LSA: refusal 3 or 4, or a topology without links. No LSA is malformed.
+pub fn routers_of(file: &[u8]) -> Reading
+    requires { ⌜ length (now file) ≤ firstMalformed (now file) ⌝ }
+    ensures { λ r. ⌜ r ≡ routersTaken (now (file .entry)) ⌝ }
+{
+    let mut t = unchecked::blank(DEFAULT_NEXT_HOPS);
+    let mut at: usize = 0;
+    while at < file.len() {
+        let id = links::be32(file, at + 8);
+        let n = t.routers;
+        let number = unchecked::router_fault(&t.id, n, id);
+        if number != 0 {
+            return unchecked::refused(number, at);
+        }
+        t.id[n] = id;
+        t.routers = n + 1;
+        at += links::be16(file, at + 18) as usize;
+    }
+    Reading {
+        answer: Answer { number: 0, at: 0 },
+        topology: t,
+    }
+}
+
+// The halves, LSA by LSA, behind the routers, which t has: refusal 6, 7, 9, 10, 12 or 13, or what is imported. No LSA is malformed.
+pub fn with_halves(file: &[u8], t: Topology) -> Reading
+    requires { ⌜ (length (now file) ≤ firstMalformed (now file)) × (routersTaken (now file) ≡ record { answer = record { number = 0; at = 0 }; topology = t }) ⌝ }
+    ensures { λ r. ⌜ r ≡ allTaken (now (file .entry)) ⌝ }
+{
+    let mut held = t;
+    let mut costs = [0u16; ROUTERS * ROUTERS];
+    let mut leaving = [0usize; ROUTERS];
+    let mut halves: usize = 0;
+    let mut at: usize = 0;
+    let mut place: u8 = 0;
+    while at < file.len() {
+        let end = at + links::be16(file, at + 18) as usize;
+        let n = held.routers;
+        let given = neighbours::given(&file[at..end], place, &held.id, n);
+        let mut i: usize = 0;
+        while i < given.count {
+            let h = given.half[i];
+            let number = unchecked::halves_fault(&costs, &leaving, n, halves, h, false);
+            if number != 0 {
+                return unchecked::refused(number, at);
+            }
+            held = unchecked::half_taken(held, &mut costs, &mut leaving, h);
+            halves += 1;
+            i += 1;
+        }
+        at = end;
+        place += 1;
+    }
+    unchecked::ended(held, 0, 1)
 }

@@ -32,7 +32,7 @@ unfolding refusedLine refusedWord
 refused-length a = omega (arith, word-line-length refusedWord (a .number) (a .at))
 
 -- the elements of a slice are bytes
-bytes : (s : List ℕ) → ((i : ℕ) → getD s i 0 < 256) → Bytes s
+pub bytes : (s : List ℕ) → ((i : ℕ) → getD s i 0 < 256) → Bytes s
 bytes [] h b m = absurd (List·Memᴰ·not-nil m)
 bytes (x ∷ s) h b m = ⊎-elim (λ e. rw e (h 0)) (bytes s (λ i. h (suc i)) b) (List·Memᴰ·cases-cons m)
 

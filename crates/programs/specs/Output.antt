@@ -10,7 +10,7 @@ use Rattle.records.specs.declared.Reading.{Reading}
 use Rattle.records.specs.Reading.{reading}
 use Rattle.text.specs.Lines.{wordLine, refusedWord}
 
--- a refused stream prints one line: `refused`, number, at
+-- a refused stream, or file (02, #106), prints one line: `refused`, number, at
 unfoldable pub refusedLine : Answer → List ℕ
 refusedLine a = wordLine refusedWord (a .number) (a .at)
 

@@ -1,4 +1,4 @@
-// What the programs share that read a topology stream and print its text: standard input, and the line of a refused stream.
+// What the programs share that read a topology stream, or a file of LSAs: standard input, and the line of a refusal.
 use libc::STDIN_FILENO;
 ghost use mathlib.Core.Path.{_≡_};
 ghost use lib.ListN.{length};

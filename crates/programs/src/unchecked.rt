@@ -6,7 +6,7 @@ ghost use lib.ListN.{length};
 ghost use Rattle.text.specs.Lines.{Put};
 ghost use Rattle.programs.specs.Output.{refusedLine};
 
-// The line of a refused stream, at the start of the slice; answers how many bytes it has.
+// The line of a refusal, at the start of the slice; answers how many bytes it has.
 pub fn put_refused(out: &mut [u8], answer: Answer) -> usize
     requires { ⌜ 50 ≤ length (now out) ⌝ }
     ensures { λ r. ⌜ Put (now (out .entry)) 0 (refusedLine answer) r (now (out .exit)) ⌝ }

@@ -8,6 +8,7 @@ use Rattle.network.specs.Forwarding.{Packet, Hop, delivered, moved, dropped}
 use Rattle.records.specs.declared.Reading.{Reading}
 use Rattle.stations.specs.declared.Topology.{Topology}
 use Rattle.records.specs.Reading.{reading}
+use Rattle.ospf.specs.Import.{importing}
 use Rattle.stations.specs.declared.Answer.{Answer}
 use Rattle.order.specs.declared.Mode.the-variants as mode
 use Rattle.packet.specs.Calls as said
@@ -101,14 +102,14 @@ setAnswer h l = record { held = carrying h (l .packet); text = setText (l .answe
 unfoldable pub hopAnswer : Held → Left (Hop ℕ) → Answered
 hopAnswer h l = record { held = carrying h (l .packet); text = hopText (l .answer) (l .packet) }
 
--- what reading returned is held from then on, beside the table and the packet
-unfoldable pub readAnswer : Held → Reading → Answered
-readAnswer h r = record { held = record { topology = r .topology; table = h .table; packet = h .packet }; text = answerOf (r .answer) }
+-- what a call returned is held from then on, beside the table and the packet
+unfoldable pub takenAnswer : Held → Reading → Answered
+takenAnswer h r = record { held = record { topology = r .topology; table = h .table; packet = h .packet }; text = answerOf (r .answer) }
 
--- `topology STREAM`, where the field is of this count, and its bytes
-unfoldable pub readBy : Held → Value → List ℕ → Answered
-readBy h (Is n) stream = readAnswer h (reading stream)
-readBy h Wrong stream = refused h
+-- a call that takes a topology from bytes, where the field is of this count, and its bytes
+unfoldable pub takenBy : (List ℕ → Reading) → Held → Value → List ℕ → Answered
+takenBy call h (Is n) given = takenAnswer h (call given)
+takenBy call h Wrong given = refused h
 
 -- `load-table TABLE`, where the field is of this count, and its bytes: they are held from then on, beside the topology and the packet
 unfoldable pub loadBy : Held → Value → List ℕ → Answered
@@ -146,9 +147,17 @@ unfoldable pub hopBy : Held → Value → List ℕ → Answered
 hopBy h (Is n) states = hopAnswer h (hoppingPacket (h .topology) (h .table) states (h .packet))
 hopBy h Wrong states = refused h
 
--- each request, by the fields of its line
+-- such a call, by the field of its line
+unfoldable pub takenIn : (List ℕ → Reading) → Held → List ℕ → Answered
+takenIn call h line = takenBy call h (byteCount (field 1 line)) (bytes (field 1 line))
+
+-- each request, by the fields of its line: `topology STREAM`
 unfoldable pub readIn : Held → List ℕ → Answered
-readIn h line = readBy h (byteCount (field 1 line)) (bytes (field 1 line))
+readIn h line = takenIn reading h line
+
+-- `import FILE` (02, #106)
+unfoldable pub importIn : Held → List ℕ → Answered
+importIn h line = takenIn importing h line
 
 unfoldable pub loadIn : Held → List ℕ → Answered
 loadIn h line = loadBy h (byteCount (field 1 line)) (bytes (field 1 line))

@@ -43,6 +43,10 @@ body-half : (h : Half) → h .cost < 2 ^ 16 → halfIn (halfBody h) ≡ h
 unfolding halfIn halfBody
 body-half h fits = rw (digits 2 (h .cost) fits)
 
+pub half-bytes : (h : Half) (rest : List ℕ) → h .cost < 2 ^ 16 → records 0 (halfBytes h ++ rest) ≡ record-of.Half h ∷ records 0 rest
+unfolding halfBytes bodyLength decoded
+half-bytes h rest fits = rw (half-record 4 h rest refl fits, body-half h fits)
+
 -- 02, #105: the records of a link: record 2 where its costs agree, else both halves
 unfoldable pub linkRecords : Link → List Record
 linkRecords l =

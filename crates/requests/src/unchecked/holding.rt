@@ -1,6 +1,7 @@
-// What is held, what a request leaves, and the requests that read a topology or load a table. Bytes that a field holds stand at the start of a buffer.
+// What is held, what a request leaves, and the requests that read or import a topology or load a table. Bytes that a field holds stand at the start of a buffer.
 use super::asked;
 use forwarding::Packet;
+use stream::Reading;
 use text::unchecked::fields::Value;
 use topology::Answer;
 use topology::Topology;
@@ -8,7 +9,7 @@ ghost use mathlib.Core.List.{List};
 ghost use mathlib.Core.Path.{_≡_};
 ghost use Prim.Native.Nat.{ℕ, _≤_};
 ghost use lib.ListN.{length};
-ghost use Rattle.requests.specs.Requests.{mostLine, readIn, loadIn};
+ghost use Rattle.requests.specs.Requests.{mostLine, takenAnswer, readIn, importIn, loadIn};
 ghost use Rattle.requests.specs.Replies.{Ready, Stepped, heldIn};
 
 // What is held, but for the table's bytes, which stand at the start of a buffer: the topology, how many bytes the table has, and the packet.
@@ -38,6 +39,24 @@ pub struct Step {
     pub reply: Reply,
 }
 
+// What a call returned is held beside the table and the packet.
+fn hold(h: Holding, reading: Reading) -> Step
+    ensures { λ r. ⌜ ((table buffer : List ℕ) → h .size ≤ length table → Stepped (takenAnswer (heldIn h table) reading) r table buffer) ⌝ }
+{
+    let answer = reading.answer;
+    let t = reading.topology;
+    let packet = h.packet;
+    let next = Holding {
+        topology: t,
+        size: h.size,
+        packet: packet,
+    };
+    Step {
+        held: next,
+        reply: Reply::Says(answer),
+    }
+}
+
 // `topology STREAM`
 pub fn read(h: Holding, line: &[u8]) -> Step
     requires { ⌜ length (now line) ≤ mostLine ⌝ }
@@ -51,18 +70,23 @@ pub fn read(h: Holding, line: &[u8]) -> Step
         };
     };
     let reading = topology::read(&bytes[..n]);
-    let answer = reading.answer;
-    let t = reading.topology;
-    let packet = h.packet;
-    let next = Holding {
-        topology: t,
-        size: h.size,
-        packet: packet,
+    hold(h, reading)
+}
+
+// `import FILE`
+pub fn import(h: Holding, line: &[u8]) -> Step
+    requires { ⌜ length (now line) ≤ mostLine ⌝ }
+    ensures { λ r. ⌜ ((table buffer : List ℕ) → h .size ≤ length table → Stepped (importIn (heldIn h table) (now (line .entry))) r table buffer) ⌝ }
+{
+    let mut bytes = asked::room_for_bytes();
+    let Value::Is(n) = asked::bytes_in(line, 1, &mut bytes) else {
+        return Step {
+            held: h,
+            reply: Reply::Error,
+        };
     };
-    Step {
-        held: next,
-        reply: Reply::Says(answer),
-    }
+    let reading = ospf::import(&bytes[..n]);
+    hold(h, reading)
 }
 
 // `load-table TABLE`

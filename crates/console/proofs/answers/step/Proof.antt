@@ -19,67 +19,71 @@ returns c = rw (asked (c .before .before .before) (c .before .enum-told .given .
 
 returns-2 : tie.Need-returns-2
 unfolding answer answerTo
-returns-2 c = rw (asked (c .before .before .before .before .before .before) (c .before .before .before .before .enum-told2 .given .1)) (c .before .before .load-table .ensures _)
+returns-2 c = rw (asked (c .before .before .before) (c .before .enum-told2 .given .1)) (c .import .ensures _ _ (c .before .before .before .before .before .before .before .before .pre .0 .size))
 
 returns-3 : tie.Need-returns-3
 unfolding answer answerTo
-returns-3 c = rw (asked (c .before .before .before) (c .before .enum-told3 .given .1)) (c .load .ensures _ _ (c .before .before .before .before .before .before .before .before .pre .0 .size))
+returns-3 c = rw (asked (c .before .before .before .before .before .before) (c .before .before .before .before .enum-told3 .given .1)) (c .before .before .load-table .ensures _)
 
 returns-4 : tie.Need-returns-4
 unfolding answer answerTo
-returns-4 c = rw (asked (c .before .before .before) (c .before .enum-told4 .given .1)) (c .set .ensures _ _ (c .before .before .before .before .before .before .before .before .pre .0 .size))
+returns-4 c = rw (asked (c .before .before .before) (c .before .enum-told4 .given .1)) (c .load .ensures _ _ (c .before .before .before .before .before .before .before .before .pre .0 .size))
 
 returns-5 : tie.Need-returns-5
 unfolding answer answerTo
-returns-5 c = rw (asked (c .before .before .before .before) (c .before .before .enum-told5 .given .1)) (c .hop .ensures _)
+returns-5 c = rw (asked (c .before .before .before) (c .before .enum-told5 .given .1)) (c .set .ensures _ _ (c .before .before .before .before .before .before .before .before .pre .0 .size))
 
 returns-6 : tie.Need-returns-6
-unfolding answer answerTo heldIn
-returns-6 c = rw (asked (c .before .before .before .before .before .before) (c .before .before .before .before .enum-told6 .given .1)) (kept-step (c .before .before .before .before .before .before .before .before .before .before .before .pre .0 .size) (c .before .before .write .ensures))
+unfolding answer answerTo
+returns-6 c = rw (asked (c .before .before .before .before) (c .before .before .enum-told6 .given .1)) (c .hop .ensures _)
 
 returns-7 : tie.Need-returns-7
 unfolding answer answerTo heldIn
-returns-7 c = rw (asked (c .before .before .before .before .before .before) (c .before .before .before .before .enum-told7 .given .1)) (kept-step (c .before .before .before .before .before .before .before .before .before .before .before .pre .0 .size) (c .before .before .build-order .ensures))
+returns-7 c = rw (asked (c .before .before .before .before .before .before) (c .before .before .before .before .enum-told7 .given .1)) (kept-step (c .before .before .before .before .before .before .before .before .before .before .before .pre .0 .size) (c .before .before .write .ensures))
 
 returns-8 : tie.Need-returns-8
 unfolding answer answerTo heldIn
-returns-8 c = rw (asked (c .before .before .before) (c .before .enum-told8 .given .1)) (kept-step (c .before .before .before .before .before .before .before .before .pre .0 .size) (c .check-order .ensures _))
+returns-8 c = rw (asked (c .before .before .before .before .before .before) (c .before .before .before .before .enum-told8 .given .1)) (kept-step (c .before .before .before .before .before .before .before .before .before .before .before .pre .0 .size) (c .before .before .build-order .ensures))
 
 returns-9 : tie.Need-returns-9
 unfolding answer answerTo heldIn
-returns-9 c = rw (asked (c .before .before .before .before .before .before) (c .before .before .before .before .enum-told9 .given .1)) (kept-step (c .before .before .before .before .before .before .before .before .before .before .before .pre .0 .size) (c .before .before .fill .ensures))
+returns-9 c = rw (asked (c .before .before .before) (c .before .enum-told9 .given .1)) (kept-step (c .before .before .before .before .before .before .before .before .pre .0 .size) (c .check-order .ensures _))
 
 returns-10 : tie.Need-returns-10
 unfolding answer answerTo heldIn
-returns-10 c = rw (asked (c .before .before .before .before) (c .before .before .enum-told10 .given .1)) (kept-step (c .before .before .before .before .before .before .before .before .before .pre .0 .size) (c .check-table .ensures _))
+returns-10 c = rw (asked (c .before .before .before .before .before .before) (c .before .before .before .before .enum-told10 .given .1)) (kept-step (c .before .before .before .before .before .before .before .before .before .before .before .pre .0 .size) (c .before .before .fill .ensures))
 
 returns-11 : tie.Need-returns-11
 unfolding answer answerTo heldIn
-returns-11 c = rw (asked (c .before .before .before .before .before .before .before) (c .before .before .before .before .before .enum-told11 .given .1)) (kept-step (c .before .before .before .before .before .before .before .before .before .before .before .before .pre .0 .size) (c .before .before .count-hops .ensures))
+returns-11 c = rw (asked (c .before .before .before .before) (c .before .before .enum-told11 .given .1)) (kept-step (c .before .before .before .before .before .before .before .before .before .pre .0 .size) (c .check-table .ensures _))
 
 returns-12 : tie.Need-returns-12
 unfolding answer answerTo heldIn
-returns-12 c = rw (asked (c .before .before .before .before) (c .before .before .enum-told12 .given .1)) (kept-step (c .before .before .before .before .before .before .before .before .before .pre .0 .size) (c .walk .ensures _))
+returns-12 c = rw (asked (c .before .before .before .before .before .before .before) (c .before .before .before .before .before .enum-told12 .given .1)) (kept-step (c .before .before .before .before .before .before .before .before .before .before .before .before .pre .0 .size) (c .before .before .count-hops .ensures))
 
 returns-13 : tie.Need-returns-13
 unfolding answer answerTo heldIn
-returns-13 c = rw (asked (c .before .before .before .before .before .before) (c .before .before .before .before .enum-told13 .given .1)) (kept-step (c .before .before .before .before .before .before .before .before .before .before .before .pre .0 .size) (c .before .before .list .ensures))
+returns-13 c = rw (asked (c .before .before .before .before) (c .before .before .enum-told13 .given .1)) (kept-step (c .before .before .before .before .before .before .before .before .before .pre .0 .size) (c .walk .ensures _))
 
 returns-14 : tie.Need-returns-14
 unfolding answer answerTo heldIn
-returns-14 c = rw (asked (c .before .before .before .before .before .before) (c .before .before .before .before .enum-told14 .given .1)) (kept-step (c .before .before .before .before .before .before .before .before .before .before .before .pre .0 .size) (c .before .before .prefix-limit .ensures))
+returns-14 c = rw (asked (c .before .before .before .before .before .before) (c .before .before .before .before .enum-told14 .given .1)) (kept-step (c .before .before .before .before .before .before .before .before .before .before .before .pre .0 .size) (c .before .before .list .ensures))
 
 returns-15 : tie.Need-returns-15
 unfolding answer answerTo heldIn
-returns-15 c = rw (asked (c .before .before .before .before .before .before) (c .before .before .before .before .enum-told15 .given .1)) (kept-step (c .before .before .before .before .before .before .before .before .before .before .before .pre .0 .size) (c .before .before .cover .ensures))
+returns-15 c = rw (asked (c .before .before .before .before .before .before) (c .before .before .before .before .enum-told15 .given .1)) (kept-step (c .before .before .before .before .before .before .before .before .before .before .before .pre .0 .size) (c .before .before .prefix-limit .ensures))
 
 returns-16 : tie.Need-returns-16
 unfolding answer answerTo heldIn
-returns-16 c = rw (asked (c .before .before .before .before .before .before .before) (c .before .before .before .before .before .enum-told16 .given .1)) (kept-step (c .before .before .before .before .before .before .before .before .before .before .before .before .pre .0 .size) (c .before .before .write-paths .ensures))
+returns-16 c = rw (asked (c .before .before .before .before .before .before) (c .before .before .before .before .enum-told16 .given .1)) (kept-step (c .before .before .before .before .before .before .before .before .before .before .before .pre .0 .size) (c .before .before .cover .ensures))
 
 returns-17 : tie.Need-returns-17
+unfolding answer answerTo heldIn
+returns-17 c = rw (asked (c .before .before .before .before .before .before .before) (c .before .before .before .before .before .enum-told17 .given .1)) (kept-step (c .before .before .before .before .before .before .before .before .before .before .before .before .pre .0 .size) (c .before .before .write-paths .ensures))
+
+returns-18 : tie.Need-returns-18
 unfolding answer answerTo
-returns-17 c = rw (asked (c .before .before) (c .enum-told17 .given .1)) (error-step (c .before .before .before .before .before .before .before .pre .0 .size))
+returns-18 c = rw (asked (c .before .before) (c .enum-told18 .given .1)) (error-step (c .before .before .before .before .before .before .before .pre .0 .size))
 
 pub step-spec : {M : Type 1} → statement M
 step-spec =
@@ -119,25 +123,26 @@ step-spec =
     (λ c. search needs)
     (λ c κs. search needs)
     (λ c. search needs)
-    returns
+    (λ c κs. search needs)
     (λ c. search needs)
+    returns
     returns-2
+    (λ c. search needs)
     returns-3
     returns-4
-    (λ c. search needs)
     returns-5
     (λ c. search needs)
     returns-6
     (λ c. search needs)
     returns-7
-    returns-8
     (λ c. search needs)
+    returns-8
     returns-9
     (λ c. search needs)
     returns-10
     (λ c. search needs)
-    (λ c. search needs)
     returns-11
+    (λ c. search needs)
     (λ c. search needs)
     returns-12
     (λ c. search needs)
@@ -147,6 +152,8 @@ step-spec =
     (λ c. search needs)
     returns-15
     (λ c. search needs)
-    (λ c. search needs)
     returns-16
-    returns-17)
+    (λ c. search needs)
+    (λ c. search needs)
+    returns-17
+    returns-18)

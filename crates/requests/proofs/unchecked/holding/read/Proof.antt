@@ -1,14 +1,13 @@
 -- The field's bytes stand at the start of the buffer, and are read from there; the table stays.
 -- Assumes nothing.
-use mathlib.Core.Path.{_≡_, refl, ap, sym, _∙_}
+use mathlib.Core.Path.{_≡_, sym, _∙_}
+use lib.Seq.{length-take-le}
 use Rattle.text.specs.declared.unchecked.fields.Value.the-variants.{Is}
 use Rattle.text.specs.Fields.{field}
-use lib.Seq.{length-take-le}
 use Rattle.text.specs.Hex.{byteCount}
 use Rattle.records.specs.Reading.{reading}
-use Rattle.requests.specs.Requests.{readIn, readBy, readAnswer}
-use Rattle.requests.specs.Replies.{heldIn}
-use Rattle.requests.proofs.Replying.{answer-reply, error-step}
+use Rattle.requests.specs.Requests.{readIn}
+use Rattle.requests.proofs.Replying.{none-taken, taken-from}
 use borrow.Author.Needs.{needs}
 use Rattle.requests.proofs.unchecked.holding.read.Statement.{statement}
 use Rattle.requests.proofs.unchecked.holding.read.Tie as tie
@@ -18,18 +17,18 @@ held : (c : tie.After-known-told) → byteCount (field 1 (c .before .before .bef
 held c = sym (c .before .before .before .before .bytes-in .ensures .counted) ∙ c .before .n .given .1
 
 returns : tie.Need-returns
-unfolding readIn readBy
-returns c table buffer h = rw (← c .before .before .before .bytes-in .ensures .counted, c .enum-told .given .1) (error-step h)
+unfolding readIn
+returns c table buffer h = none-taken reading _ (sym (c .before .before .before .bytes-in .ensures .counted) ∙ c .enum-told .given .1) h
 
 array-share-prefix-bytes : tie.Need-array-share-prefix-bytes
 array-share-prefix-bytes c = c .before .before .before .before .bytes-in .ensures .start _ (held c) .1
 
 returns-2 : tie.Need-returns-2
-unfolding readIn readBy readAnswer heldIn
+unfolding readIn
 returns-2 c table buffer h =
-    let known = c .before .before .before .before .before in
-    let q = c .before .before .before .read .ensures ∙ ap reading (known .before .before .before .before .bytes-in .ensures .start _ (held known) .0) in
-    rw (held known, ← q) (record { held = refl; size = h; replies = answer-reply refl })
+    let known = c .before .before .before in
+    let start = known .before .before .before .before .bytes-in .ensures .start _ (held known) .0 in
+    rw (taken-from reading _ _ (held known) start (c .before .read .ensures)) (c .hold .ensures table buffer h)
 
 pub read-spec : {M : Type 1} → statement M
 read-spec =
@@ -43,5 +42,6 @@ read-spec =
     returns
     array-share-prefix-bytes
     (λ c. sym (length-take-le _ _ (array-share-prefix-bytes (c .before))))
+    (λ c κs. search needs)
     (λ c κs. search needs)
     returns-2)

@@ -1,0 +1,48 @@
+-- What is taken of a file, in turn: the router of each LSA, and then the halves that each gives at its place.
+-- Assumes nothing.
+use Prim.Native.Nat.{ℕ, _+_}
+use mathlib.Core.Bool.{false}
+use mathlib.Core.List.{List, [], _∷_, _++_, map, List·Memᴰ, List·Memᴰ·head, List·Memᴰ·tail}
+use mathlib.Core.Path.{_≡_, refl, ap, ap₂, subst}
+use native.Mathlib.Omega.{arith}
+use Rattle.records.specs.declared.Record.the-variants as record-of
+use Rattle.ospf.specs.Lsa.{malformed, Lsa, lsas}
+use Rattle.ospf.specs.Theorems.{four}
+use Rattle.ospf.specs.Import.{Placed, idOf, routerIn, halfIn, halvesAt, halvesIn, placedIn}
+use Rattle.ospf.specs.Imported.{HalvesInTurn, no-lsa, next-lsa, PlacedInTurn}
+use Rattle.ospf.proofs.Fields.{fields-each}
+use Rattle.ospf.proofs.Malformed.{cut}
+
+-- the Advertising Router by its bytes
+id-is : (l : Lsa) → malformed (l .bytes) ≡ false → idOf l ≡ four (l .bytes) 8
+unfolding idOf
+id-is l e = let c = cut (l .bytes) e in fields-each (l .bytes) (omega (arith, c .begun, c .fits)) .advertising-router
+
+ids-are : (ls : List Lsa) → ((l : Lsa) → List·Memᴰ l ls → malformed (l .bytes) ≡ false) → map idOf ls ≡ map (λ l. four (l .bytes) 8) ls
+ids-are [] whole = refl
+ids-are (l ∷ ls) whole =
+    ap₂ (λ (i : ℕ) (is : List ℕ). i ∷ is) (id-is l (whole l (List·Memᴰ·head refl))) (ids-are ls (λ k m. whole k (List·Memᴰ·tail m)))
+
+routers-are : (ls : List Lsa) → ((l : Lsa) → List·Memᴰ l ls → malformed (l .bytes) ≡ false) →
+    map routerIn ls ≡ map (λ l. record { at = l .at; found = record-of.Router (four (l .bytes) 8) }) ls
+unfolding routerIn
+routers-are [] whole = refl
+routers-are (l ∷ ls) whole =
+    ap₂ (λ (i : ℕ) (rs : List Placed). record { at = l .at; found = record-of.Router i } ∷ rs) (id-is l (whole l (List·Memᴰ·head refl)))
+    (routers-are ls (λ k m. whole k (List·Memᴰ·tail m)))
+
+halves-in-turn : (ids : List ℕ) (place : ℕ) (ls : List Lsa) → HalvesInTurn ids place ls (halvesIn ids place ls)
+unfolding halvesIn halfIn halvesAt
+halves-in-turn ids place [] = no-lsa
+halves-in-turn ids place (l ∷ ls) = next-lsa l (halves-in-turn ids (place + 1) ls)
+
+pub placed-in-turn : PlacedInTurn
+unfolding placedIn
+placed-in-turn file whole =
+    record {
+      halves = halvesIn (map idOf (lsas file)) 0 (lsas file);
+      routers-first = ap (λ (rs : List Placed). rs ++ halvesIn (map idOf (lsas file)) 0 (lsas file)) (routers-are (lsas file) whole);
+      then-halves =
+          subst (λ (is : List ℕ). HalvesInTurn is 0 (lsas file) (halvesIn (map idOf (lsas file)) 0 (lsas file))) (ids-are (lsas file) whole)
+          (halves-in-turn (map idOf (lsas file)) 0 (lsas file));
+    }
