@@ -11,16 +11,21 @@ use std::io::{Read, Write};
 
 /// The bytes of input that are read at most.
 const INPUT: u64 = 65536;
-/// Room for every listing: no line is longer than 60 bytes, 16 entries and four other numbers, and a number is written ahead by a byte.
+/// Room for every listing: no line is longer than 62 bytes, 16 entries and four other numbers, of which the rank and the count may have three digits, and a
+/// number is written ahead by a byte.
 const LISTING: usize = 64 * ROUTERS * ROUTERS;
 
-/// Numbers below 100 as text, a space behind each; the last byte says how many bytes they are.
-const TEXT: [[u8; 4]; 256] = {
-    let mut text = [[0; 4]; 256];
+/// Bytes as text, a space behind each; the last byte says how many bytes they are.
+const TEXT: [[u8; 8]; 256] = {
+    let mut text = [[0; 8]; 256];
     let mut n = 0;
-    while n < 100 {
-        let (tens, ones) = (b'0' + n as u8 / 10, b'0' + n as u8 % 10);
-        text[n] = if n < 10 { [ones, b' ', 0, 2] } else { [tens, ones, b' ', 3] };
+    while n < 256 {
+        let (hundreds, tens, ones) = (b'0' + (n / 100) as u8, b'0' + (n / 10 % 10) as u8, b'0' + (n % 10) as u8);
+        text[n] = match n {
+            0..=9 => [ones, b' ', 0, 0, 0, 0, 0, 2],
+            10..=99 => [tens, ones, b' ', 0, 0, 0, 0, 3],
+            _ => [hundreds, tens, ones, b' ', 0, 0, 0, 4],
+        };
         n += 1;
     }
     text
@@ -36,8 +41,8 @@ impl Page<'_> {
     #[inline(always)]
     fn put(&mut self, number: u8) {
         let text = TEXT[number as usize];
-        self.bytes[self.at..self.at + 4].copy_from_slice(&text);
-        self.at += text[3] as usize;
+        self.bytes[self.at..self.at + 4].copy_from_slice(&text[..4]);
+        self.at += text[7] as usize;
     }
 
     /// Numbers, then the row or a dash, and a newline for the last space.
@@ -62,10 +67,10 @@ fn put_destination(t: &Topology, a: &Arcs, d: u8, table: &mut [u8; TABLE], page:
     let n = t.routers;
     let ds = plain::distances(a, n, d as usize);
     let mut order = [0; ROUTERS];
-    plain::place_all(t, a, &ds, d, Mode::ShortestPath, &mut order);
-    plain::fill(t, a, &ds, d, t.limit, &order[..n], table);
-    let mut greatest = [0; ROUTERS];
-    for &u in &order[..n] {
+    let reached = plain::place_all(t, a, &ds, d, Mode::ShortestPath, &mut order);
+    plain::fill(t, a, &ds, d, t.limit, &order[..reached], table);
+    let mut greatest = [255; ROUTERS];
+    for &u in &order[..reached] {
         let row = plain::entries(table, u as usize);
         greatest[u as usize] = row.iter().map(|&v| greatest[v as usize] + 1).max().unwrap_or(0);
     }

@@ -62,23 +62,6 @@ impl Halves {
     }
 }
 
-/// The lowest place that has no path to place 0.
-fn lowest_apart(t: &Topology) -> Option<usize> {
-    let mut linked = [0u64; ROUTERS];
-    for l in &t.link[..t.links] {
-        linked[l.first as usize] |= 1 << l.second;
-        linked[l.second as usize] |= 1 << l.first;
-    }
-    let (mut reached, mut done) = (1u64, 0u64);
-    while reached != done {
-        let u = (reached & !done).trailing_zeros() as usize;
-        done |= 1 << u;
-        reached |= linked[u];
-    }
-    let lowest = reached.trailing_ones() as usize;
-    (lowest < t.routers).then_some(lowest)
-}
-
 /// The topology of a stream, or the number of a refusal and where it points.
 pub fn read(stream: &[u8]) -> Result<Topology, (u8, usize)> {
     let mut t = empty();
@@ -111,12 +94,7 @@ pub fn read(stream: &[u8]) -> Result<Topology, (u8, usize)> {
                 4
             }
             (3, []) if t.routers == 0 => return Err((12, at)),
-            (3, []) => {
-                return match lowest_apart(&t) {
-                    Some(place) => Err((13, place)),
-                    None => Ok(t),
-                }
-            }
+            (3, []) => return Ok(t),
             (3, _) => return Err((11, at + 1)),
             (8, &[limit, ..]) => {
                 if limit < 1 || limit > 16 {

@@ -30,8 +30,13 @@ pub struct Lines {
 }
 
 impl Lines {
+    /// Every router as one that has no path.
     pub fn blank() -> Lines {
-        Lines { rank: [0; ROUTERS], greatest: [0; ROUTERS], count: [0; ROUTERS], row: [[0; NEIGHBOURS]; ROUTERS] }
+        Lines { rank: [255; ROUTERS], greatest: [255; ROUTERS], count: [0; ROUTERS], row: [[0; NEIGHBOURS]; ROUTERS] }
+    }
+
+    fn clear(&mut self) {
+        (self.rank, self.greatest, self.count) = ([255; ROUTERS], [255; ROUTERS], [0; ROUTERS]);
     }
 }
 
@@ -63,8 +68,9 @@ fn distances(a: &Arcs, d: usize) -> ([u32; ROUTERS], [u8; ROUTERS]) {
     (ds, left)
 }
 
-/// Fills in the lines of a destination.
+/// Fills in the lines of a destination. Where no router is ready, all that have a path are placed.
 pub fn fill(t: &Topology, a: &Arcs, d: usize, lines: &mut Lines) {
+    lines.clear();
     let (ds, mut left) = distances(a, d);
     let mut weight: [u64; ROUTERS] = std::array::from_fn(|u| t.id[u] as u64);
     let mut keys = [0; NEIGHBOURS];
@@ -97,6 +103,9 @@ pub fn fill(t: &Topology, a: &Arcs, d: usize, lines: &mut Lines) {
         (lines.rank[u], lines.greatest[u], lines.count[u]) = (rank as u8, greatest, n as u8);
         placed |= 1 << u;
         ready &= !(1 << u);
+        if ready == 0 {
+            break;
+        }
         let mut most = 0;
         for v in places(ready) {
             if weight[v] >= most {

@@ -8,7 +8,7 @@ use std::time::Instant;
 #[inline(never)]
 fn added(n: usize, links: usize, bytes: usize) -> bool {
     if links == 0 {
-        return bytes == 0 && n <= 1;
+        return bytes == 0;
     }
     let mut at = 0;
     let mut rows = 0;
@@ -25,7 +25,7 @@ fn added(n: usize, links: usize, bytes: usize) -> bool {
 #[inline(never)]
 fn divided(n: usize, links: usize, bytes: usize) -> bool {
     if links == 0 {
-        return bytes == 0 && n <= 1;
+        return bytes == 0;
     }
     bytes % links == 0 && n - 1 <= bytes / links
 }

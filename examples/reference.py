@@ -31,14 +31,6 @@ def fault_of_halves(ids, halves, new, cost):
     return 10 if any(senders.count(sender) == 16 for sender, _ in new) else 0
 
 
-def apart(ids, links):
-    """The places without a path to place 0."""
-    reached = {0}
-    for _ in ids:
-        reached |= {v for link in links for v in link if reached & set(link)}
-    return [u for u in range(len(ids)) if u not in reached]
-
-
 def arrive(halves, links, new, cost):
     """A half more, with its cost; with its opposite it makes a link."""
     halves[new] = cost
@@ -47,11 +39,9 @@ def arrive(halves, links, new, cost):
 
 
 def ended(ids, halves, links, limit, at):
-    """What is listed at the end, if there are routers, all with a path to place 0; lone halves are dropped."""
+    """What is listed at the end, if there are routers; lone halves are dropped."""
     if not ids:
         raise Refused(12, at)
-    if apart(ids, links):
-        raise Refused(13, apart(ids, links)[0])
     return ids, [(a, b, halves[a, b], halves[b, a]) for a, b in links], limit
 
 
@@ -180,20 +170,20 @@ def distances(cost, d):
 
 
 def order(ids, cost, dist, d):
-    """The order in shortest-path mode."""
-    placed = [d]
-    while len(placed) < len(ids):
+    """The reached routers, in the order of shortest-path mode."""
+    placed, reached = [d], [u for u, far in enumerate(dist) if far < inf]
+    while len(placed) < len(reached):
         candidates = [
             u
-            for u, arcs in enumerate(cost)
-            if u not in placed and all(v in placed for v, c in arcs.items() if c + dist[v] == dist[u])
+            for u in reached
+            if u not in placed and all(v in placed for v, c in cost[u].items() if c + dist[v] == dist[u])
         ]
         placed.append(max(candidates, key=lambda u: (sum(v in placed for v in cost[u]), ids[u])))
     return placed
 
 
 def lines(ids, cost, limit, d):
-    """The lines of one destination."""
+    """The lines of one destination. A router without a path to it has rank and greatest count 255 and an empty row."""
     dist = distances(cost, d)
     ranked = order(ids, cost, dist, d)
     rank = {u: r for r, u in enumerate(ranked)}
@@ -202,7 +192,8 @@ def lines(ids, cost, limit, d):
         full = sorted((c + dist[v], -ids[v], v) for v, c in cost[u].items() if rank[v] < rank[u])
         row[u] = [v for _, _, v in full[:limit]]
         greatest[u] = max((1 + greatest[v] for v in row[u]), default=0)
-    return [f"{d} {u} {rank[u]} {greatest[u]} {' '.join(map(str, row[u])) or '-'}\n" for u in range(len(ids))]
+    places = range(len(ids))
+    return [f"{d} {u} {rank.get(u, 255)} {greatest.get(u, 255)} {' '.join(map(str, row.get(u, []))) or '-'}\n" for u in places]
 
 
 def listing(stream):
@@ -231,7 +222,7 @@ def coverage(stream):
 
 
 def routes(stream):
-    """What the program for routes prints for this input, along the rows that the listing prints."""
+    """What the program for routes prints for this input, along the rows that the listing prints. Without a path there is no line."""
     text = listing(stream)
     if text.startswith("refused"):
         return text

@@ -6,12 +6,11 @@ use Rattle.network.specs.Distance.{absent, distanceIn, through, atFirst, round,
 use Rattle.network.specs.Order.{reached, shortestNextHops, leadsInto, ready, candidate, placedNeighbours, preferred, select, continued, placing, build}
 use Rattle.network.specs.Row.{rank, sortsBefore, rankedBefore, fullRow, row}
 use Rattle.stations.specs.Topology.{noLink, padded, contents, held, zeros, seen, networkIn, networkOf}
-use Rattle.soundness.specs.Apart.{apart}
-use Rattle.soundness.specs.Sound.{within, inLimits, wellLinked, uncrowded, none?, connected, isNoLink, unusedZero, slotted, sound}
+use Rattle.soundness.specs.Sound.{within, inLimits, wellLinked, uncrowded, isNoLink, unusedZero, slotted, sound}
 use Rattle.records.specs.Stream.{bigEndianOn, bigEndian, bodyLength, halfIn, decoded, recordIn, records}
 use Rattle.records.specs.Halves.{firstHalf, secondHalf, linkHalves, halves, sameHalf, leaves, opposite, linkOf}
 use Rattle.records.specs.Reading.{refusal, accepted, routerFault, repeated, crowded, halvesFault, fault, withRouter, withLink, withLimit, arrived, added}
-use Rattle.records.specs.Reading.{width, isEnd, joined, ended, unless, some?, inTurn, nothingListed, reading}
+use Rattle.records.specs.Reading.{width, isEnd, ended, unless, some?, inTurn, nothingListed, reading}
 use Rattle.records.specs.Table.{T-stream, inSequence, routers}
 use Rattle.topology.specs.Written.{joinedOver}
 use Rattle.text.specs.Lines.{refusedWord, answerText, answerLine, wordLine}
@@ -29,12 +28,12 @@ unfolding numbersFrom below keep every any leastBy greatestBy ahead foremost ins
     absent distanceIn through atFirst round rounds distances
     reached shortestNextHops leadsInto ready candidate placedNeighbours preferred select continued placing build
     rank sortsBefore rankedBefore fullRow row
-    noLink padded contents held zeros seen networkIn networkOf apart
-    within inLimits wellLinked uncrowded none? connected isNoLink unusedZero slotted sound
+    noLink padded contents held zeros seen networkIn networkOf
+    within inLimits wellLinked uncrowded isNoLink unusedZero slotted sound
     bigEndianOn bigEndian bodyLength halfIn decoded recordIn records
     linkHalves firstHalf secondHalf halves sameHalf leaves opposite linkOf
     refusal accepted routerFault repeated crowded halvesFault fault withRouter withLink withLimit arrived added
-    width isEnd joined ended unless some? inTurn nothingListed reading
+    width isEnd ended unless some? inTurn nothingListed reading
     T-stream inSequence routers joinedOver refusedWord answerText answerLine wordLine lastDigits numberText spaced
     rowFor pairsTo pairsOf hasTwo coveredAmong listedFor counted coverage overLinks fractions fractionText fractionsText coverageText
     refusedLine printed outputBy figuresText output holds refused facts

@@ -1,6 +1,7 @@
 // The coverage program (02, #102): reads a topology stream on standard input as the listing does, and prints, from the listing's tables, two numbers a line,
-// unreduced: how many pairs of a router and another destination have two or more next hops, over N(N - 1); then for each destination, by place, how many
-// next hops its rows list, over the number of links. A refused stream prints the listing's line: `refused`, number, at.
+// unreduced: how many pairs of a router and another destination have two or more next hops, over N(N - 1), a pair without a path having none (#107); then
+// for each destination, by place, how many next hops its rows list, over the number of links. A refused stream prints the listing's line: `refused`, number,
+// at.
 use libc::STDOUT_FILENO;
 ghost use mathlib.Core.Path.{_≡_};
 ghost use Prim.Native.Nat.{_≤_};

@@ -12,9 +12,6 @@ ghost use Rattle.stations.specs.Limits.{mostRouters};
 ghost use Rattle.distances.specs.Slots.{Slots};
 ghost use Rattle.distances.specs.Inner.{Searched, Nearest, Relaxed};
 
-// One more than the greatest cost: n times this is more than any path costs that visits no router of n twice.
-const STEP: u32 = 65536;
-
 // The mark of a settled router: more than any distance with a place behind it.
 pub(crate) const SETTLED: u32 = 536870912;
 
@@ -36,7 +33,7 @@ pub(crate) fn first(n: usize, d: usize) -> [u32; ROUTERS]
     requires { ⌜ (n ≤ mostRouters) × (d < mostRouters) ⌝ }
     ensures { λ r. ⌜ r ≡ set (replicate mostRouters (n * 65536)) d 0 ⌝ }
 {
-    let absent = n as u32 * STEP;
+    let absent = n as u32 * unchecked::STEP;
     let mut ds = [absent; ROUTERS];
     ds[d] = 0;
     ds

@@ -10,7 +10,10 @@ ghost use Rattle.stations.specs.declared.Topology.{Topology};
 ghost use Rattle.stations.specs.Topology.{networkOf};
 ghost use Rattle.distances.specs.Settled.{LaidIn, Settled};
 
-// The distances to the destination, by place. In a sound topology none is absent. Routers are settled from the destination on, against the direction of
+// One more than the greatest cost: n times this is more than any path costs that visits no router of n twice, and stands for an absent distance.
+pub const STEP: u32 = 65536;
+
+// The distances to the destination, by place; absent where there is no path (02, #107). Routers are settled from the destination on, against the direction of
 // travel, so what is read is what the way back over each arc costs.
 pub fn to<'a>(
     counts: &'a [u8; ROUTERS],

@@ -21,7 +21,7 @@ use Rattle.soundness.proofs.Sound.{sound-exact, sound-networks}
 use Rattle.records.proofs.Held.{padded-length}
 use Rattle.topology.specs.Written.{joinedOver}
 use Rattle.order.proofs.Keeping.{kept-most}
-use Rattle.table.proofs.Lists.{places-are}
+use Rattle.table.proofs.Lists.{places-are, no-path-row}
 use Rattle.wording.specs.Listing.{spaced}
 use Rattle.wording.proofs.Tables.{given}
 use Rattle.figures.specs.Coverage.{rowFor, pairsOf, hasTwo, coveredAmong, listedFor, counted, nothingCounted, coverage}
@@ -98,6 +98,8 @@ figures-right t good =
       in-table = λ d u h k.
           let g = given t good d h in
           places-are (networkOf t) (s .well-formed) d (t .limit) (g .limit-most) _ _ (g .bytes) u (omega (arith, s .routers));
+      unreached = λ d u h out.
+          no-path-row (networkOf t) (s .well-formed) d (omega (arith, s .routers)) (given t good d h .in-free) (t .limit) u out;
       success = rw (is-counted t good);
       covered = covered-pairs t good;
       pairs = every-pair t good;

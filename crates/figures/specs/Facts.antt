@@ -8,7 +8,7 @@ use lib.ListN.{length, getD}
 use Rattle.network.specs.Lists.{every, sameNumbers}
 use Rattle.stations.specs.declared.Topology.{Topology}
 use Rattle.stations.specs.Topology.{zeros}
-use Rattle.order.specs.Table.{answers, T-topology}
+use Rattle.order.specs.Table.{answers, T-topology, cutOff, twoParts, pair}
 use Rattle.table.specs.Facts.{lone, F-topology}
 use Rattle.figures.specs.Coverage.{pairsTo, coveredAmong, coverage}
 use Rattle.figures.specs.Printed.{fractionText, numbers, coverageText}
@@ -32,7 +32,8 @@ holds (prints t text) = sameNumbers (coverageText (coverage t)) text
 holds (spells part whole text) = sameNumbers (fractionText 10 (record { part = part; whole = whole })) text
 
 -- 02, #102: F for d = 0, 3 of 5 pairs and 8 over 8, and all its figures; one router; T's whole output, by its listing; F with K = 2, which cuts a row for d = 1 and for
--- d = 2, and with K = 1, where no pair has two; four digits, not reduced; 14
+-- d = 2, and with K = 1, where no pair has two; parts apart (#107): the pairs of T and a router without a link, which are not covered with it or from it, two
+-- pairs of routers, and two routers without a link; four digits, not reduced; 14
 unfoldable pub facts : List Fact
 facts =
     toOne (F-topology 3) 0 3 5 8 8
@@ -43,6 +44,11 @@ facts =
     ∷ counts T-topology 0 0 (3 ∷ 6 ∷ 3 ∷ 3 ∷ 3 ∷ 3 ∷ 3 ∷ 3 ∷ [])
     ∷ counts (F-topology 2) 0 0 (16 ∷ 30 ∷ 8 ∷ 8 ∷ 7 ∷ 8 ∷ 7 ∷ 8 ∷ 8 ∷ 8 ∷ 8 ∷ 8 ∷ 8 ∷ 8 ∷ [])
     ∷ counts (F-topology 1) 0 0 (0 ∷ 30 ∷ 5 ∷ 8 ∷ 5 ∷ 8 ∷ 5 ∷ 8 ∷ 5 ∷ 8 ∷ 5 ∷ 8 ∷ 5 ∷ 8 ∷ [])
+    ∷ toOne cutOff 0 1 3 3 3
+    ∷ toOne cutOff 3 0 3 0 3
+    ∷ counts cutOff 0 0 (3 ∷ 12 ∷ 3 ∷ 3 ∷ 3 ∷ 3 ∷ 3 ∷ 3 ∷ 0 ∷ 3 ∷ [])
+    ∷ counts twoParts 0 0 (0 ∷ 12 ∷ 1 ∷ 2 ∷ 1 ∷ 2 ∷ 1 ∷ 2 ∷ 1 ∷ 2 ∷ [])
+    ∷ prints pair (48 ∷ 32 ∷ 50 ∷ 10 ∷ 48 ∷ 32 ∷ 48 ∷ 10 ∷ 48 ∷ 32 ∷ 48 ∷ 10 ∷ [])
     ∷ spells 2016 4032 (50 ∷ 48 ∷ 49 ∷ 54 ∷ 32 ∷ 52 ∷ 48 ∷ 51 ∷ 50 ∷ 10 ∷ [])
     ∷ counts zeros 14 0 (0 ∷ 0 ∷ [])
     ∷ []

@@ -9,7 +9,7 @@ use lib.Dec.{T}
 use lib.ListN.{length, getD, replicate}
 use Rattle.network.specs.Lists.{below, Distinct}
 use Rattle.network.specs.Network.{Arc}
-use Rattle.network.specs.Distance.{distances}
+use Rattle.network.specs.Distance.{PathTo, distances}
 use Rattle.network.specs.Order.{shortest-path}
 use Rattle.network.specs.Row.{row}
 use Rattle.network.specs.Theorems.Order.{ByRule}
@@ -43,14 +43,15 @@ total f zero = 0
 total f (suc n) = total f n + f n
 
 -- 02, #102: the rows are those of the listing's tables, under the order by 01's rule in shortest-path mode and with the topology's K. A pair of a router
--- and another destination is counted exactly if its row has two entries or more; there are N(N - 1) pairs. For each destination the lengths of its rows
--- are added up, and the sum is at most the number of links.
+-- and another destination is counted exactly if its row has two entries or more, so one without a path is not (02, #107: `unreached`); there are N(N - 1)
+-- pairs, these among them. For each destination the lengths of its rows are added up, and the sum is at most the number of links.
 pub record Figures (t : Topology) : Type 0 where
   pub order : ℕ → List ℕ
   pub by-rule : (d : ℕ) → d < t .routers → ByRule (networkOf t) d shortest-path (order d)
   pub entries : ℕ → ℕ → List Arc
   pub row-is : (d u : ℕ) → entries d u ≡ row (networkOf t) (distances (networkOf t) d) (t .limit) (order d) u
   pub in-table : (d u : ℕ) → d < t .routers → u < t .routers → placesIn (tableFor t d) u ≡ map (λ (a : Arc). a .to) (entries d u)
+  pub unreached : (d u : ℕ) → d < t .routers → (PathTo (networkOf t) d u → ⊥) → entries d u ≡ []
   pub success : coverage t .answer ≡ answer 0 0
   pub covered : HowMany (λ p. PairOf t p × (2 ≤ length (entries (p .destination) (p .router)))) (coverage t .covered)
   pub pairs : HowMany (PairOf t) (coverage t .pairs)

@@ -21,7 +21,7 @@ pub use packet::Walked;
 ghost use mathlib.Core.Path.{_≡_};
 ghost use Rattle.packet.specs.Calls.{packetIn, settingSays, hopSays, walkSays, countingHops, settingAt, hopping, walking};
 
-// The greatest hop count of every place, N bytes: refusals 14, 21 and 24.
+// The greatest hop count of every place, N bytes, 255 where a router has no path to the destination (02, #107): refusals 14, 21 and 24.
 pub fn greatest_hops(t: Topology, table: &[u8], out: &mut [u8]) -> Answer
     ensures { λ r. ⌜ record { answer = r; buffer = now (out .exit) } ≡ countingHops t (now (table .entry)) (now (out .entry)) ⌝ }
 {

@@ -22,9 +22,8 @@ use Rattle.stations.specs.Topology.{networkOf}
 use Rattle.arcs.specs.declared.Arcs.{Arcs}
 use Rattle.arcs.specs.Arcs.{slotArc}
 use Rattle.distances.proofs.Slots.{Held, sound-held, count-is, slot-sound}
-use Rattle.table.specs.Listed.{destinationIn, placesIn, entriesIn, listed}
+use Rattle.table.specs.Listed.{destinationIn, placesIn, entriesIn, listed, orderIn}
 use Rattle.packet.specs.Calls.{by}
-use Rattle.packet.specs.Theorems.{rankByte}
 use Rattle.packet.proofs.Listed.{Over, over}
 use Rattle.hops.specs.declared.unchecked.moving.Next.{Next}
 use Rattle.hops.specs.declared.unchecked.moving.Next.the-variants as next
@@ -37,7 +36,7 @@ use Rattle.hops.proofs.Next.{placeOf, first-up}
 pub record Goes (t : Topology) (table states : List ℕ) (u hops v : ℕ) : Type 0 where
   pub hop-is : hop (by t table) states (record { station = u; hops = hops }) ≡ moved (record { station = v; hops = hops + 1 })
   pub inside : v < t .routers
-  pub lower : rankByte table v < rankByte table u
+  pub lower : rank (orderIn (t .routers) table) v < rank (orderIn (t .routers) table) u
 
 module _ {t : Topology} {a : Arcs} {table : List ℕ} (checked : Checked t a table) where
   held : Held (networkOf t) a (t .routers)
@@ -105,5 +104,5 @@ module _ {t : Topology} {a : Arcs} {table : List ℕ} (checked : Checked t a tab
           record {
             hop-is = rw (ne-eqb u (getD table 1 0) off, chosen, to, add-one);
             inside = v-in;
-            lower = omega (arith, accepted .rank-is u u-in, accepted .rank-is (v .0) v-in);
+            lower = rw (accepted .lists .ordered) lower;
           }

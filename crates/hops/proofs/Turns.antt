@@ -18,10 +18,9 @@ use Rattle.network.proofs.Below.{getD-below, length-map-below}
 use Rattle.network.proofs.Rank.{rank-zero}
 use Rattle.stations.specs.declared.Topology.{Topology}
 use Rattle.arcs.specs.declared.Arcs.{Arcs}
-use Rattle.table.specs.Listed.{destinationIn, listed}
+use Rattle.table.specs.Listed.{destinationIn, listed, orderIn}
 use Rattle.packet.specs.Schedule.{rowIn, rowsIn}
 use Rattle.packet.specs.Calls.{by}
-use Rattle.packet.specs.Theorems.{rankByte}
 use Rattle.packet.proofs.Schedules.{Rows, sound-length, rows-of, row-fits, row-long}
 use Rattle.hops.specs.Inner.{Checked, Scheduled}
 use Rattle.hops.proofs.Steps.{Goes, accepted, arrives}
@@ -30,9 +29,9 @@ use Rattle.hops.proofs.Steps.{Goes, accepted, arrives}
 pub record Reached (t : Topology) (table schedule : List ℕ) (s u hops at : ℕ) : Type 0 where
   pub inside : u < t .routers
   pub offset : at ≡ hops * t .links
-  pub ranked : hops + rankByte table u < t .routers
-  pub rest : walk (by t table) (rowsIn (t .links) schedule) (start s)
-      ≡ walk (by t table) (drop hops (rowsIn (t .links) schedule)) (record { station = u; hops = hops })
+  pub ranked : hops + rank (orderIn (t .routers) table) u < t .routers
+  pub rest : walk (by t table) (rowsIn (t .routers) (t .links) schedule) (start s)
+      ≡ walk (by t table) (drop hops (rowsIn (t .routers) (t .links) schedule)) (record { station = u; hops = hops })
 
 -- at d a walk is delivered
 module _ {t : Topology} {a : Arcs} {table : List ℕ} (checked : Checked t a table) where
@@ -43,9 +42,7 @@ module _ {t : Topology} {a : Arcs} {table : List ℕ} (checked : Checked t a tab
 
 module _ {t : Topology} {a : Arcs} {table : List ℕ} (checked : Checked t a table) {schedule : List ℕ} (scheduled : Scheduled t schedule) where
   rows : Rows t schedule
-  rows =
-      rows-of t (checked .on-sound) schedule
-      (sound-length t (checked .on-sound) schedule .0 (subst T (sym (scheduled .whole)) tt))
+  rows = rows-of t schedule (sound-length t schedule .0 (subst T (sym (scheduled .whole)) tt))
 
   pub begins : (s : ℕ) → s < t .routers → Reached t table schedule s s 0 0
   unfolding start
@@ -53,15 +50,15 @@ module _ {t : Topology} {a : Arcs} {table : List ℕ} (checked : Checked t a tab
       record {
         inside = h;
         offset = sym (zero-mul (t .links));
-        ranked = omega (arith, accepted checked .rank-is s h, accepted checked .rank-below s h);
+        ranked = rw (accepted checked .lists .ordered) (omega (arith, accepted checked .rank-below s h));
         rest = refl;
       }
 
   module _ {s u hops at : ℕ} (reached : Reached t table schedule s u hops at) where
     -- at d the walk is delivered
     pub ends : u ≡ getD table 1 0 →
-        walk (by t table) (rowsIn (t .links) schedule) (start s) ≡ delivered-at (record { station = u; hops = hops })
-    ends home = reached .rest ∙ at-home checked (drop hops (rowsIn (t .links) schedule)) (record { station = u; hops = hops }) home
+        walk (by t table) (rowsIn (t .routers) (t .links) schedule) (start s) ≡ delivered-at (record { station = u; hops = hops })
+    ends home = reached .rest ∙ at-home checked (drop hops (rowsIn (t .routers) (t .links) schedule)) (record { station = u; hops = hops }) home
 
     module _ (off : u ≡ getD table 1 0 → ⊥) where
       -- off d a row is left
@@ -69,7 +66,7 @@ module _ {t : Topology} {a : Arcs} {table : List ℕ} (checked : Checked t a tab
       left =
           let ranked : rank (accepted checked .order) u ≡ 0 → ⊥ =
           λ z. off (rank-zero (accepted checked .given .in-free) u z ∙ sym (accepted checked .destination-is)) in
-          omega (arith, reached .ranked, accepted checked .rank-is u (reached .inside), rows .enough)
+          omega (arith, rw (accepted checked .lists .ordered) at (reached .ranked), rows .enough)
 
       pub fits : at + t .links ≤ length schedule
       fits = omega (arith, reached .offset, row-fits (t .links) schedule (rows .count) (rows .whole) hops left)
@@ -84,8 +81,8 @@ module _ {t : Topology} {a : Arcs} {table : List ℕ} (checked : Checked t a tab
       pub part-long : length (take (at + t .links - at) (drop at schedule)) ≡ t .links
       part-long = ap length part-is ∙ row-long (t .links) schedule (rows .count) (rows .whole) hops left
 
-      next-row : drop hops (rowsIn (t .links) schedule)
-          ≡ take (at + t .links - at) (drop at schedule) ∷ drop (hops + 1) (rowsIn (t .links) schedule)
+      next-row : drop hops (rowsIn (t .routers) (t .links) schedule)
+          ≡ take (at + t .links - at) (drop at schedule) ∷ drop (hops + 1) (rowsIn (t .routers) (t .links) schedule)
       next-row =
           let all = map (rowIn (t .links) schedule) (below (rows .count)) in
           rw (rows .are, part-is, add-one)
@@ -93,7 +90,7 @@ module _ {t : Topology} {a : Arcs} {table : List ℕ} (checked : Checked t a tab
           ∙ ap (λ (row : List ℕ). row ∷ drop (suc hops) all) (getD-below (rowIn (t .links) schedule) (rows .count) hops [] left))
 
       pub halts : hop (by t table) (take (at + t .links - at) (drop at schedule)) (record { station = u; hops = hops }) ≡ dropped →
-          walk (by t table) (rowsIn (t .links) schedule) (start s) ≡ dropped-at (record { station = u; hops = hops })
+          walk (by t table) (rowsIn (t .routers) (t .links) schedule) (start s) ≡ dropped-at (record { station = u; hops = hops })
       unfolding walk walkOn
       halts e = reached .rest ∙ rw (next-row, e)
 

@@ -23,7 +23,7 @@ use Rattle.rows.specs.Bytes.{rowStart}
 use Rattle.table.specs.Listed.{placesIn}
 use Rattle.table.specs.Calls.{tableChecking}
 use Rattle.packet.specs.Schedule.{soundLength, wrongStates}
-use Rattle.packet.specs.Calls.{figure}
+use Rattle.packet.specs.Calls.{figureByte}
 use Rattle.hops.specs.declared.unchecked.moving.Next.{Next}
 use Rattle.hops.specs.declared.unchecked.moving.Next.the-variants as next
 use Rattle.hops.specs.declared.unchecked.counting.Bounds.{Bounds}
@@ -61,10 +61,10 @@ pub record RowOf (table : List ℕ) (u : ℕ) : Type 0 where
 unfoldable pub boundOf : List Rank → ℕ → ℕ
 boundOf by v = getD by v (record { 0 = 0 }) .0
 
--- no bound is past the routers
-pub record Bounded (by : List Rank) : Type 0 where
+-- no bound of a place that the row of u lists is past the routers
+pub record Bounded (table : List ℕ) (u : ℕ) (by : List Rank) : Type 0 where
   pub long : length by ≡ mostRouters
-  pub few : (v : ℕ) → v < mostRouters → boundOf by v < mostRouters
+  pub few : (v : ℕ) → List·Memᴰ v (placesIn table u) → boundOf by v < mostRouters
 
 -- the table was checked on a sound topology, whose arcs are laid out
 pub record Checked (t : Topology) (a : Arcs) (table : List ℕ) : Type 0 where
@@ -72,10 +72,10 @@ pub record Checked (t : Topology) (a : Arcs) (table : List ℕ) : Type 0 where
   pub holds : Laid t a
   pub passes : tableChecking t table ≡ answer 0 0
 
--- the greatest hop count of every place
+-- the greatest hop count of every place, 255 where it has no rank (02, #107)
 pub record Figures (t : Topology) (table : List ℕ) (r : Bounds) : Type 0 where
   pub long : length (r .by) ≡ mostRouters
-  pub each : (u : ℕ) → u < t .routers → boundOf (r .by) u ≡ figure t table u
+  pub each : (u : ℕ) → u < t .routers → boundOf (r .by) u ≡ figureByte t table u
 
 -- a schedule that was tested
 pub record Scheduled (t : Topology) (schedule : List ℕ) : Type 0 where

@@ -1,15 +1,11 @@
 -- The prover computes every fact from the definitions.
 -- Assumes nothing.
-use Rattle.network.specs.Lists.{numbersFrom, below, keep, every, any, leastBy, member, sameNumbers}
-use Rattle.network.specs.Network.{size, arcsOf, greatestCost, arcsAmong, linked}
-use Rattle.network.specs.Distance.{absent, distanceIn, through, atFirst, round, rounds, distances}
-use Rattle.network.specs.Order.{reached}
-use Rattle.stations.specs.Topology.{noLink, padded, contents, held, zeros, seen, networkIn}
-use Rattle.soundness.specs.Apart.{apart}
+use Rattle.network.specs.Lists.{keep, every, any, leastBy, member, sameNumbers}
+use Rattle.stations.specs.Topology.{noLink, padded, contents, held, zeros}
 use Rattle.records.specs.Stream.{bigEndianOn, bigEndian, inBytes}
 use Rattle.records.specs.Halves.{firstHalf, secondHalf, linkHalves, halves, sameHalf, leaves, opposite, linkOf}
 use Rattle.records.specs.Reading.{refusal, accepted, routerFault, repeated, crowded, halvesFault, fault, withRouter, withLink, arrived, added}
-use Rattle.records.specs.Reading.{joined, ended, unless, nothingListed}
+use Rattle.records.specs.Reading.{ended, unless, nothingListed}
 use Rattle.topology.specs.Written.{joinedOver, routerBytes, halfBody, halfBytes, linkBytes, limitBytes, written}
 use Rattle.text.specs.Lines.{refusedWord, answerText, answerLine, wordLine}
 use Rattle.text.specs.Numbers.{lastDigits, numberText}
@@ -23,10 +19,9 @@ use Rattle.import.specs.Output.{streamOf, lineOf, output, complaint}
 use Rattle.import.specs.Facts.{holds, refused, facts, FactsHold}
 
 pub facts-hold : FactsHold
-unfolding numbersFrom below keep every any leastBy member sameNumbers size arcsOf greatestCost arcsAmong linked
-    absent distanceIn through atFirst round rounds distances reached noLink padded contents held zeros seen networkIn apart
+unfolding keep every any leastBy member sameNumbers noLink padded contents held zeros
     bigEndianOn bigEndian inBytes firstHalf secondHalf linkHalves halves sameHalf leaves opposite linkOf
-    refusal accepted routerFault repeated crowded halvesFault fault withRouter withLink arrived added joined ended unless nothingListed
+    refusal accepted routerFault repeated crowded halvesFault fault withRouter withLink arrived added ended unless nothingListed
     joinedOver routerBytes halfBody halfBytes linkBytes limitBytes written refusedWord answerText answerLine wordLine lastDigits numberText
     lsType advertisingRouter checksum lengthField linkCount linkIn linkLength wholeLink withNext linksIn some? links
     malformed c0 c1 wrongSum lsasFrom lsas firstAt firstMalformed firstWrongSum

@@ -1,15 +1,11 @@
 -- The prover computes every fact from the definitions.
 -- Assumes nothing.
-use Rattle.network.specs.Lists.{numbersFrom, below, keep, every, any, leastBy, member, sameNumbers}
-use Rattle.network.specs.Network.{size, arcsOf, greatestCost, arcsAmong, linked}
-use Rattle.network.specs.Distance.{absent, distanceIn, through, atFirst, round, rounds, distances}
-use Rattle.network.specs.Order.{reached}
-use Rattle.stations.specs.Topology.{noLink, padded, contents, held, zeros, seen, networkIn}
-use Rattle.soundness.specs.Apart.{apart}
+use Rattle.network.specs.Lists.{keep, every, any, leastBy, member, sameNumbers}
+use Rattle.stations.specs.Topology.{noLink, padded, contents, held, zeros}
 use Rattle.records.specs.Stream.{bigEndianOn, bigEndian}
 use Rattle.records.specs.Halves.{firstHalf, secondHalf, linkHalves, halves, sameHalf, leaves, opposite, linkOf}
 use Rattle.records.specs.Reading.{refusal, accepted, routerFault, repeated, crowded, halvesFault, fault, withRouter, withLink, arrived, added}
-use Rattle.records.specs.Reading.{joined, ended, unless, nothingListed}
+use Rattle.records.specs.Reading.{ended, unless, nothingListed}
 use Rattle.ospf.specs.Lsa.{lsType, advertisingRouter, checksum, lengthField, linkCount, linkIn, linkLength, wholeLink, withLink as linkBefore, linksIn}
 use Rattle.ospf.specs.Lsa.{some?, links, malformed, c0, c1, wrongSum, lsasFrom, lsas, firstAt, firstMalformed, firstWrongSum}
 use Rattle.ospf.specs.Neighbours.{allOf, pointToPoint, lowestTo, once, neighboursOf, placeOf, halfTo, halvesOf}
@@ -18,13 +14,10 @@ use Rattle.ospf.specs.Facts.{lsa-1, lsa-2, lsa-3, lsa-4, three}
 use Rattle.imported.specs.Facts.{flatLinks, answersSo, holdsSo, holds, sealed, links-to, made, counted, alone, ring, facts, FactsHold}
 
 pub facts-hold : FactsHold
-unfolding numbersFrom below keep every any leastBy member sameNumbers
-    size arcsOf greatestCost arcsAmong linked
-    absent distanceIn through atFirst round rounds distances reached
-    noLink padded contents held zeros seen networkIn apart
+unfolding keep every any leastBy member sameNumbers noLink padded contents held zeros
     bigEndianOn bigEndian firstHalf secondHalf linkHalves halves sameHalf leaves opposite linkOf
     refusal accepted routerFault repeated crowded halvesFault fault withRouter withLink arrived added
-    joined ended unless nothingListed
+    ended unless nothingListed
     lsType advertisingRouter checksum lengthField linkCount linkIn linkLength wholeLink linkBefore linksIn some? links
     malformed c0 c1 wrongSum lsasFrom lsas firstAt firstMalformed firstWrongSum
     allOf pointToPoint lowestTo once neighboursOf placeOf halfTo halvesOf

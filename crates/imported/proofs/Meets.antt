@@ -13,7 +13,7 @@ use Rattle.table.proofs.Verdicts.{tables-exact}
 use Rattle.packet.proofs.Hops.{hops-by-rule}
 use Rattle.packet.proofs.Figures.{figures-reported, figures-exact}
 use Rattle.packet.proofs.CallLists.{calls-exact}
-use Rattle.packet.proofs.Walks.{shortest-walks, walks-end, walks-by-hops}
+use Rattle.packet.proofs.Walks.{cut-off-drops, shortest-walks, walks-end, walks-by-hops}
 use Rattle.ospf.specs.Import.{importing}
 use Rattle.ospf.proofs.Verdict.{import-sound}
 use Rattle.imported.specs.Theorems.{OrdersAndRows, ImportMeets}
@@ -38,5 +38,14 @@ import-meets file bytes z =
     record {
       is-sound = s;
       demand-2 = orders-and-rows t s;
-      demand-3 = λ table ok. record { reported = figures-reported t s table ok; by-walks = figures-exact t s table ok; by-hops = calls-exact t s table ok; each-hop = hops-by-rule t s table ok; ends = walks-end t s table ok; walks-too = walks-by-hops t s table ok };
+      demand-3 = λ table ok.
+          record {
+            reported = figures-reported t s table ok;
+            by-walks = figures-exact t s table ok;
+            cut-off = cut-off-drops t s table ok;
+            by-hops = calls-exact t s table ok;
+            each-hop = hops-by-rule t s table ok;
+            ends = walks-end t s table ok;
+            walks-too = walks-by-hops t s table ok;
+          };
     }

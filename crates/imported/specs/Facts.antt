@@ -67,7 +67,7 @@ unfoldable pub ring : ℕ → ℕ → ℕ → List ℕ
 ring n i zero = []
 ring n i (suc k) = made (i + 1) (map (λ j. j % n + 1) (counted (i + 1) 16)) ++ ring n (i + 1) k
 
--- by the rules of 01 and 02, #105 and #106, by hand
+-- by the rules of 01 and 02, #105 to #107, by hand
 unfoldable pub facts : List Fact
 facts =
     imports three (0x01010101 ∷ 0x02020202 ∷ 0x03030303 ∷ []) (0 ∷ 1 ∷ 10 ∷ 12 ∷ 1 ∷ 2 ∷ 500 ∷ 20 ∷ [])
@@ -88,7 +88,7 @@ facts =
     ∷ answers (lsa-4 ++ lsa-4) 3 120
     -- 65 routers; 64 are not too many, and have no links
     ∷ answers (alone 1 65) 4 1536
-    ∷ answers (alone 1 64) 13 1
+    ∷ imports (alone 1 64) (counted 1 64) []
     -- a half to itself; one that costs nothing, the sums right by the bytes 4 before and 4 after it
     ∷ answers (three ++ lsa-4) 6 160
     ∷ answers (set (set (set three 31 6) 35 0) 39 5) 7 0
@@ -99,14 +99,16 @@ facts =
     -- LSA by LSA: 4 of the 65th comes before 3 of the next; of one LSA 3 comes before 4
     ∷ answers (alone 1 65 ++ made 1 []) 4 1536
     ∷ answers (alone 1 64 ++ made 1 []) 3 1536
-    -- the 513th half; 512 are not too many, but most of them are lone
+    -- the 513th half; 512 are not too many, and all but 32 of them are lone
     ∷ answers (ring 33 0 33) 9 6912
-    ∷ answers (ring 32 0 32) 13 1
-    -- 17 neighbours of the second router; 16
+    ∷ answers (ring 32 0 32) 0 0
+    -- 17 neighbours of the second router; 16, of which none lists it
     ∷ answers (made 2 [] ++ made 1 (counted 2 17) ++ alone 3 16) 10 24
-    ∷ answers (made 2 [] ++ made 1 (counted 2 16) ++ alone 3 15) 13 1
+    ∷ imports (made 2 [] ++ made 1 (counted 2 16) ++ alone 3 15) (2 ∷ 1 ∷ counted 3 15) []
     ∷ answers [] 12 0
-    ∷ answers (lsa-1 ++ lsa-3) 13 1
+    -- two routers that no link joins; two parts of two routers each
+    ∷ imports (lsa-1 ++ lsa-3) (0x01010101 ∷ 0x03030303 ∷ []) []
+    ∷ imports (made 1 (3 ∷ []) ++ made 2 (4 ∷ []) ++ made 3 (1 ∷ []) ++ made 4 (2 ∷ [])) (1 ∷ 2 ∷ 3 ∷ 4 ∷ []) (0 ∷ 2 ∷ 19 ∷ 49 ∷ 1 ∷ 3 ∷ 36 ∷ 66 ∷ [])
     ∷ []
 
 abbrev pub FactsHold : Type 0

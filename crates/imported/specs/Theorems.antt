@@ -17,33 +17,37 @@ use Rattle.soundness.specs.Sound.{sound}
 use Rattle.soundness.specs.Theorems.{SoundNetwork}
 use Rattle.records.specs.Theorems.{Bytes}
 use Rattle.order.specs.Calls.{checking}
-use Rattle.order.specs.Theorems.{InBoth, BuiltWell}
+use Rattle.order.specs.Theorems.{InBoth, Holds, BuiltWell}
 use Rattle.table.specs.Listed.{orderIn}
 use Rattle.table.specs.Calls.{tableChecking}
 use Rattle.table.specs.Theorems.{FilledWell, SomeGive}
 use Rattle.packet.specs.Calls.{done, walking}
-use Rattle.packet.specs.Theorems.{destinationByte, SoundSchedule, Reports, FigureExact, CallsBounded, ShortestWalk, Standing, SoundStates, HopByRule, WalkEnds, ByHops}
+use Rattle.packet.specs.Theorems.{destinationByte, Reached, SoundSchedule, Reports, FigureExact, CutOff, CallsBounded, ShortestWalk, Standing, SoundStates, HopByRule, WalkEnds, ByHops}
 use Rattle.ospf.specs.Import.{importing}
 
--- demand 2: distances are exact, orders are built by 01's rule, checking answers 0 exactly for those that it accepts, tables are filled from accepted orders, checking a table
--- answers 0 exactly where filling could give it, and a walk over a table in shortest-path mode, with all links up, costs the distance
+-- demand 2: distances are exact, orders are built by 01's rule, checking answers 0 exactly for the bytes of those that it accepts, tables are filled from
+-- accepted orders, checking a table answers 0 exactly where filling could give it, and a walk over a table in shortest-path mode, with all links up, costs
+-- the distance of the station where it starts, if that is reached (02, #107)
 pub record OrdersAndRows (t : Topology) : Type 0 where
   pub seen : SoundNetwork t
   pub distances : (d : ℕ) → d < t .routers → (u : ℕ) → DistanceExact (networkOf t) d u
   pub built : (d : ℕ) → d < t .routers → InBoth (λ m meant. (buffer : List ℕ) → t .routers ≤ length buffer → BuiltWell t d m meant buffer)
-  pub checked : (d : ℕ) → d < t .routers → InBoth (λ m meant. (order : List ℕ) → (checking t d m order ≡ answer 0 0) ↔ Accepted (networkOf t) d meant order)
+  pub checked : (d : ℕ) → d < t .routers →
+      InBoth (λ m meant. (bytes : List ℕ) → (checking t d m bytes ≡ answer 0 0) ↔ ((order : List ℕ) × Holds t d meant bytes order))
   pub filled : (d : ℕ) → d < t .routers → (order : List ℕ) → Accepted (networkOf t) d free order → (buffer : List ℕ) → 4 + 19 * t .routers ≤ length buffer →
       FilledWell t d order buffer
   pub proposed : (table : List ℕ) → (tableChecking t table ≡ answer 0 0) ↔ SomeGive t table
   pub shortest : (table : List ℕ) → tableChecking t table ≡ answer 0 0 →
-      Accepted (networkOf t) (destinationByte table) shortest-path (orderIn (t .routers) table) → (u : ℕ) → u < t .routers → (schedule : List ℕ) →
-      SoundSchedule t schedule → ((b : ℕ) → List·Memᴰ b schedule → b ≡ 1) → ShortestWalk t table u schedule
+      Accepted (networkOf t) (destinationByte table) shortest-path (orderIn (t .routers) table) → (u : ℕ) → u < t .routers → Reached t table u →
+      (schedule : List ℕ) → SoundSchedule t schedule → ((b : ℕ) → List·Memᴰ b schedule → b ≡ 1) → ShortestWalk t table u schedule
 
--- demand 3, over every accepted table, whatever the links do: the figures reported are the greatest hop counts, by walks and hop by hop; a hop goes by 01's
--- rule, in a walk too, and a walk ends delivered, or dropped where no link to a listed next hop is up
+-- demand 3, over every accepted table, whatever the links do: the figures reported of reached stations are the greatest hop counts, by walks and hop by hop,
+-- and from one that is cut off every walk is dropped after 0 hops (02, #107); a hop goes by 01's rule, in a walk too, and a walk ends delivered, or dropped
+-- where no link to a listed next hop is up
 pub record HopCounts (t : Topology) (table : List ℕ) : Type 0 where
   pub reported : (buffer : List ℕ) → Reports t table buffer
-  pub by-walks : (u : ℕ) → u < t .routers → FigureExact t table u
+  pub by-walks : (u : ℕ) → u < t .routers → Reached t table u → FigureExact t table u
+  pub cut-off : (u : ℕ) → u < t .routers → (Reached t table u → ⊥) → CutOff t table u
   pub by-hops : CallsBounded t table
   pub each-hop : (states : List ℕ) (p : Packet ℕ) → Standing t p → SoundStates t states → HopByRule t table states p
   pub ends : (u : ℕ) → u < t .routers → (schedule : List ℕ) → SoundSchedule t schedule → WalkEnds t table u schedule

@@ -7,25 +7,24 @@ use Rattle.network.specs.Order.{reached, shortestNextHops, leadsInto, ready, ca
 use Rattle.network.specs.Row.{rank, sortsBefore, rankedBefore, fullRow, row}
 use Rattle.network.specs.Forwarding.{longest}
 use Rattle.stations.specs.Topology.{noLink, padded, contents, held, zeros, seen, networkIn, networkOf}
-use Rattle.soundness.specs.Apart.{apart}
 use Rattle.soundness.specs.Sound.{within}
 use Rattle.records.specs.Stream.{bigEndianOn, bigEndian, bodyLength, halfIn, decoded, recordIn, records}
 use Rattle.records.specs.Halves.{firstHalf, secondHalf, linkHalves, halves, sameHalf, leaves, opposite, linkOf}
 use Rattle.records.specs.Reading.{refusal, accepted, routerFault, repeated, crowded, halvesFault, fault, withRouter, withLink, withLimit, arrived, added}
-use Rattle.records.specs.Reading.{width, isEnd, joined, ended, unless, some?, inTurn, nothingListed, reading}
+use Rattle.records.specs.Reading.{width, isEnd, ended, unless, some?, inTurn, nothingListed, reading}
 use Rattle.records.specs.Table.{T-stream, inSequence, routers}
 use Rattle.topology.specs.Written.{joinedOver}
-use Rattle.rows.specs.Bytes.{rowBytes, headerBytes, rowOf, rowsBytes, tableBytes, rowStart}
+use Rattle.rows.specs.Bytes.{rankOrNone, rowBytes, headerBytes, rowOf, rowsBytes, tableBytes, rowStart}
 use Rattle.table.specs.Listed.{destinationIn, rankIn, placesIn, arcsTo, entriesIn, listed}
-use Rattle.packet.specs.Calls.{figure}
+use Rattle.packet.specs.Calls.{figure, figureByte}
 use Rattle.text.specs.Hex.{none}
 use Rattle.text.specs.Lines.{refusedWord, answerText, answerLine, wordLine}
 use Rattle.text.specs.Numbers.{lastDigits, numberText}
 use Rattle.wording.specs.Listing.{spaced, rowFields, lineText, tableFor, lineFor, linesFor, allLines}
-use Rattle.wording.specs.Facts.{T-0, T-1, T-2}
+use Rattle.wording.specs.Facts.{T-0, T-1, T-2, noPath, itself, cutOff-3, cutOff-all, pair-all}
 use Rattle.programs.specs.Output.{refusedLine, printed, outputBy}
 use Rattle.listing.specs.Output.{output}
-use Rattle.listing.specs.Facts.{holds, refused, facts, FactsHold}
+use Rattle.listing.specs.Facts.{holds, refused, cutOff-stream, facts, FactsHold}
 
 pub facts-hold : FactsHold
 unfolding numbersFrom below keep every any leastBy greatestBy ahead foremost insert sort member sameNumbers wins
@@ -33,13 +32,14 @@ unfolding numbersFrom below keep every any leastBy greatestBy ahead foremost ins
     absent distanceIn through atFirst round rounds distances
     reached shortestNextHops leadsInto ready candidate placedNeighbours preferred select continued placing build
     rank sortsBefore rankedBefore fullRow row longest
-    noLink padded contents held zeros seen networkIn networkOf apart within
+    noLink padded contents held zeros seen networkIn networkOf within
     bigEndianOn bigEndian bodyLength halfIn decoded recordIn records
     linkHalves firstHalf secondHalf halves sameHalf leaves opposite linkOf
     refusal accepted routerFault repeated crowded halvesFault fault withRouter withLink withLimit arrived added
-    width isEnd joined ended unless some? inTurn nothingListed reading
-    T-stream inSequence routers joinedOver rowBytes headerBytes rowOf rowsBytes tableBytes rowStart
-    destinationIn rankIn placesIn arcsTo entriesIn listed figure
+    width isEnd ended unless some? inTurn nothingListed reading
+    T-stream inSequence routers joinedOver rankOrNone rowBytes headerBytes rowOf rowsBytes tableBytes rowStart
+    destinationIn rankIn placesIn arcsTo entriesIn listed figure figureByte
     none refusedWord answerText answerLine wordLine lastDigits numberText
-    spaced rowFields lineText tableFor lineFor linesFor allLines T-0 T-1 T-2 refusedLine printed outputBy output holds refused facts
+    spaced rowFields lineText tableFor lineFor linesFor allLines
+    T-0 T-1 T-2 noPath itself cutOff-3 cutOff-all pair-all refusedLine printed outputBy output holds refused cutOff-stream facts
 facts-hold = tt

@@ -1,6 +1,7 @@
 // The listing program (01, Two networks by hand): reads a topology stream on standard input, at most 65,536 bytes, and prints, in shortest-path mode, a
-// line for each destination and within it each router, by place: destination, router, rank, greatest hop count and row, `-` if it is empty. A refused
-// stream prints one line: `refused`, number, at. The rest of a longer input is not read.
+// line for each destination and within it each router, by place: destination, router, rank, greatest hop count and row, `-` if it is empty; for
+// a router with no path to the destination 255, 255 and `-` (02, #107). A refused stream prints one line: `refused`, number, at. The rest of a longer
+// input is not read.
 use libc::STDOUT_FILENO;
 ghost use mathlib.Core.Path.{_≡_};
 ghost use Prim.Native.Nat.{_≤_};
@@ -8,20 +9,20 @@ ghost use lib.ListN.{length};
 ghost use Rattle.text.specs.Lines.{Put};
 ghost use Rattle.listing.specs.Output.{output};
 
-// Room for every output: 3,840 bytes for each of 64 destinations.
-const OUTPUT: usize = 245760;
+// Room for every output: 3,968 bytes for each of 64 destinations.
+const OUTPUT: usize = 253952;
 
 // An array that comes out of a function is known by what the function ensures.
 fn room() -> [u8; OUTPUT]
-    ensures { λ r. ⌜ 245760 ≡ length r ⌝ }
+    ensures { λ r. ⌜ 253952 ≡ length r ⌝ }
 {
     [0; OUTPUT]
 }
 
 // The whole output for a stream, at the start of the slice; answers how many bytes it has.
 fn put_output(stream: &[u8], out: &mut [u8]) -> usize
-    requires { ⌜ 245760 ≤ length (now out) ⌝ }
-    ensures { λ r. ⌜ (r ≤ 245760) × Put (now (out .entry)) 0 (output (now (stream .entry))) r (now (out .exit)) ⌝ }
+    requires { ⌜ 253952 ≤ length (now out) ⌝ }
+    ensures { λ r. ⌜ (r ≤ 253952) × Put (now (out .entry)) 0 (output (now (stream .entry))) r (now (out .exit)) ⌝ }
 {
     let reading = topology::read(stream);
     let answer = reading.answer;

@@ -67,7 +67,7 @@ unfoldable pub candidatesInTurn : Network → List ℕ → Mode → List ℕ →
 candidatesInTurn n ds mode placed [] = true
 candidatesInTurn n ds mode placed (u ∷ us) = candidate n ds mode placed u && candidatesInTurn n ds mode (placed ++ (u ∷ [])) us
 
--- 01, Order, on proposals: each router that has a distance stands in the order once, and nothing else does
+-- 01, Order, and 02, #107, on proposals: each router that has a distance stands in the order once, and nothing else does
 unfoldable pub holdsEachOnce : Network → List ℕ → List ℕ → Bool
 holdsEachOnce n ds order = distinct order && every (reached n ds) order && every (λ u. member u order) (keep (reached n ds) (below (size n)))
 
@@ -81,6 +81,7 @@ unfoldable pub othersInTurn : Network → List ℕ → Mode → List ℕ → Boo
 othersInTurn n ds mode [] = true
 othersInTurn n ds mode (u ∷ us) = candidatesInTurn n ds mode (u ∷ []) us
 
--- 01, Order: a proposed order is accepted if it holds each place once, d is first, and every other router, when placed, is a candidate in that mode
+-- 01, Order, and 02, #107: a proposed order is accepted if it holds each place that has a path to d once, d is first, and every other router, when placed,
+-- is a candidate in that mode
 unfoldable pub accepted : Network → ℕ → Mode → List ℕ → Bool
 accepted n d mode order = holdsEachOnce n (distances n d) order && firstIs d order && othersInTurn n (distances n d) mode order

@@ -40,11 +40,11 @@ routers n d limit order =
       choose = λ states u. firstLive states (row n (distances n d) limit order u);
     }
 
--- 01, Packet, hop and schedule: the greatest hop count of u, as it is computed
+-- 01, Packet, hop and schedule: the greatest hop count of u, as it is computed, 0 where u has no path to d
 unfoldable pub greatestHop : Network → ℕ → ℕ → List ℕ → ℕ → ℕ
 greatestHop n d limit order u = longest (routers n d limit order) (size n) u
 
--- 01, Packet, hop and schedule: for all places, the figures that we report
+-- 01, Packet, hop and schedule: for all places; these are the figures reported, except that 255 is reported where there is no path (02, #107)
 unfoldable pub greatestHops : Network → ℕ → ℕ → List ℕ → List ℕ
 greatestHops n d limit order = map (greatestHop n d limit order) (below (size n))
 

@@ -3,19 +3,19 @@
 use Prim.Native.Nat.{ℕ, _≤_, _<_}
 use mathlib.Core.Bool.{Bool, true, false, cond, not}
 use mathlib.Core.List.{List, [], _∷_}
-use mathlib.Core.Logic.{_≢_}
+use mathlib.Core.Logic.{_≢_, _⊎_, inl, inr}
 use mathlib.Core.Path.{_≡_, refl, ap, sym}
 use native.Mathlib.Omega.{arith}
 use lib.Dec.{T, eqb, ltb, eqb→eq, ltb→lt}
-use lib.ListN.{length, getD}
+use lib.ListN.{length, getD, take}
 use Rattle.stations.specs.declared.Answer.{Answer}
 use Rattle.stations.specs.declared.Topology.{Topology}
 use Rattle.stations.specs.Topology.{networkOf}
 use Rattle.stations.specs.Outcome.{answer}
 use Rattle.soundness.specs.Sound.{sound}
 use Rattle.order.specs.declared.Mode.{Mode}
-use Rattle.order.specs.Calls.{modeOf, wrongRanks, unreadyRanks, atFirst, judging, checking}
-use Rattle.order.specs.Proposed.{Proposed}
+use Rattle.order.specs.Calls.{modeOf, reachedCount, wrongRanks, ranksAfter, unreadyRanks, atFirst, judging, checking}
+use Rattle.order.proofs.Decided.{Proposed}
 
 -- the answer's number is another
 abbrev Apart : ℕ → Answer → Type 0
@@ -56,15 +56,25 @@ apart-first [] number k next apart on = on
 apart-first (x ∷ rest) number k next apart on = apart
 
 module _ (t : Topology) (d : ℕ) (m : Mode) (order : List ℕ) where
+  -- the reached ranks
+  abbrev part : List ℕ
+  part = take (reachedCount (networkOf t) d) order
+
+  abbrev later-ranks : List ℕ
+  later-ranks = ranksAfter (reachedCount (networkOf t) d) order
+
   -- the tests from one on
   abbrev from-20 : Answer
-  from-20 = atFirst 20 (unreadyRanks (networkOf t) d (modeOf m) order) (answer 0 0)
+  from-20 = atFirst 20 (unreadyRanks (networkOf t) d (modeOf m) part) (answer 0 0)
 
   abbrev from-19 : Answer
   from-19 = cond (not (eqb (getD order 0 0) d)) (answer 19 0) from-20
 
+  abbrev after-18 : Answer
+  after-18 = atFirst 18 later-ranks from-19
+
   abbrev from-18 : Answer
-  from-18 = atFirst 18 (wrongRanks (t .routers) order) from-19
+  from-18 = atFirst 18 (wrongRanks (t .routers) part) after-18
 
   abbrev from-17 : Answer
   from-17 = cond (not (eqb (length order) (t .routers))) (answer 17 (length order)) from-18
@@ -77,13 +87,15 @@ module _ (t : Topology) (d : ℕ) (m : Mode) (order : List ℕ) where
     apart-0 e = omega arith
 
     apart-20 : k < 20 → Apart k from-20
-    apart-20 h = apart-first (unreadyRanks (networkOf t) d (modeOf m) order) 20 k (answer 0 0) (λ e. omega arith) apart-0
+    apart-20 h = apart-first (unreadyRanks (networkOf t) d (modeOf m) part) 20 k (answer 0 0) (λ e. omega arith) apart-0
 
     apart-19 : k < 19 → Apart k from-19
     apart-19 h = apart-test (eqb (getD order 0 0) d) 19 0 k from-20 (λ e. omega arith) (apart-20 (omega arith))
 
     apart-18 : k < 18 → Apart k from-18
-    apart-18 h = apart-first (wrongRanks (t .routers) order) 18 k from-19 (λ e. omega arith) (apart-19 (omega arith))
+    apart-18 h =
+        apart-first (wrongRanks (t .routers) part) 18 k after-18 (λ e. omega arith)
+        (apart-first later-ranks 18 k from-19 (λ e. omega arith) (apart-19 (omega arith)))
 
     apart-17 : k < 17 → Apart k from-17
     apart-17 h = apart-test (eqb (length order) (t .routers)) 17 (length order) k from-18 (λ e. omega arith) (apart-18 (omega arith))
@@ -115,18 +127,20 @@ module _ (t : Topology) (d : ℕ) (m : Mode) (order : List ℕ) where
           (s, h, eqb→eq _ _ l, e₂)
 
       past-18 : 14 ≢ number → 15 ≢ number → 17 ≢ number → 18 ≢ number → checking t d m order ≡ answer number at →
-          T (sound t) × (d < t .routers) × (length order ≡ t .routers) × (wrongRanks (t .routers) order ≡ []) × (from-19 ≡ answer number at)
+          T (sound t) × (d < t .routers) × (length order ≡ t .routers) × (wrongRanks (t .routers) part ≡ []) × (later-ranks ≡ [])
+          × (from-19 ≡ answer number at)
       past-18 a b c f e =
           let (s, h, l, e₁) = past-17 a b c e in
-          let (once, e₂) = none-first (wrongRanks (t .routers) order) 18 number at from-19 f e₁ in
-          (s, h, l, once, e₂)
+          let (once, e₂) = none-first (wrongRanks (t .routers) part) 18 number at after-18 f e₁ in
+          let (after, e₃) = none-first later-ranks 18 number at from-19 f e₂ in
+          (s, h, l, once, after, e₃)
 
       past-19 : 14 ≢ number → 15 ≢ number → 17 ≢ number → 18 ≢ number → 19 ≢ number → checking t d m order ≡ answer number at →
           Proposed t d order × (from-20 ≡ answer number at)
       past-19 a b c f g e =
-          let (s, h, l, once, e₁) = past-18 a b c f e in
+          let (s, h, l, once, after, e₁) = past-18 a b c f e in
           let (first, e₂) = later (eqb (getD order 0 0) d) 19 number 0 at from-20 g e₁ in
-          (record { on-sound = s; place = h; long = l; once = once; first = eqb→eq _ _ first }, e₂)
+          (record { on-sound = s; place = h; long = l; once = once; none-after = after; first = eqb→eq _ _ first }, e₂)
 
     pub is-15 : checking t d m order ≡ answer 15 at → T (sound t) × (at ≡ d) × (T (ltb d (t .routers)) → ⊥)
     is-15 e =
@@ -140,28 +154,36 @@ module _ (t : Topology) (d : ℕ) (m : Mode) (order : List ℕ) where
         let (there, out) = fails-here (eqb (length order) (t .routers)) 17 (length order) at from-18 (apart-18 17 (omega arith) (omega arith)) e₁ in
         (s, h, there, out)
 
+    -- 18 comes from the reached ranks, or where these pass from those after them
     pub is-18 : checking t d m order ≡ answer 18 at →
-        T (sound t) × (d < t .routers) × (length order ≡ t .routers) × ((rest : List ℕ) × (wrongRanks (t .routers) order ≡ at ∷ rest))
+        T (sound t) × (d < t .routers) × (length order ≡ t .routers)
+        × (((rest : List ℕ) × (wrongRanks (t .routers) part ≡ at ∷ rest))
+        ⊎ ((wrongRanks (t .routers) part ≡ []) × ((rest : List ℕ) × (later-ranks ≡ at ∷ rest))))
     is-18 e =
         let (s, h, l, e₁) = past-17 18 (λ k. omega arith) (λ k. omega arith) (λ k. omega arith) e in
-        (s, h, l, first-here (wrongRanks (t .routers) order) 18 at from-19 (apart-19 18 (omega arith) (omega arith)) e₁)
+        (s, h, l, either (wrongRanks (t .routers) part) e₁)
+      where
+        either : (ranks : List ℕ) → atFirst 18 ranks after-18 ≡ answer 18 at →
+            ((rest : List ℕ) × (ranks ≡ at ∷ rest)) ⊎ ((ranks ≡ []) × ((rest : List ℕ) × (later-ranks ≡ at ∷ rest)))
+        either [] e = unfold atFirst in inr (refl, first-here later-ranks 18 at from-19 (apart-19 18 (omega arith) (omega arith)) e)
+        either (r ∷ rest) e = unfold atFirst in inl (rest, ap (λ (y : Answer). y .at ∷ rest) e)
 
     pub is-19 : checking t d m order ≡ answer 19 at →
-        T (sound t) × (d < t .routers) × (length order ≡ t .routers) × (wrongRanks (t .routers) order ≡ []) × (at ≡ 0)
+        T (sound t) × (d < t .routers) × (length order ≡ t .routers) × (wrongRanks (t .routers) part ≡ []) × (later-ranks ≡ []) × (at ≡ 0)
         × (T (eqb (getD order 0 0) d) → ⊥)
     is-19 e =
-        let (s, h, l, once, e₁) = past-18 19 (λ k. omega arith) (λ k. omega arith) (λ k. omega arith) (λ k. omega arith) e in
+        let (s, h, l, once, after, e₁) = past-18 19 (λ k. omega arith) (λ k. omega arith) (λ k. omega arith) (λ k. omega arith) e in
         let (there, out) = fails-here (eqb (getD order 0 0) d) 19 0 at from-20 (apart-20 19 (omega arith) (omega arith)) e₁ in
-        (s, h, l, once, there, out)
+        (s, h, l, once, after, there, out)
 
     pub is-20 : checking t d m order ≡ answer 20 at →
-        Proposed t d order × ((rest : List ℕ) × (unreadyRanks (networkOf t) d (modeOf m) order ≡ at ∷ rest))
+        Proposed t d order × ((rest : List ℕ) × (unreadyRanks (networkOf t) d (modeOf m) part ≡ at ∷ rest))
     is-20 e =
         let (p, e₁) = past-19 20 (λ k. omega arith) (λ k. omega arith) (λ k. omega arith) (λ k. omega arith) (λ k. omega arith) e in
-        (p, first-here (unreadyRanks (networkOf t) d (modeOf m) order) 20 at (answer 0 0) (apart-0 20 (omega arith)) e₁)
+        (p, first-here (unreadyRanks (networkOf t) d (modeOf m) part) 20 at (answer 0 0) (apart-0 20 (omega arith)) e₁)
 
-    pub is-0 : checking t d m order ≡ answer 0 at → (at ≡ 0) × Proposed t d order × (unreadyRanks (networkOf t) d (modeOf m) order ≡ [])
+    pub is-0 : checking t d m order ≡ answer 0 at → (at ≡ 0) × Proposed t d order × (unreadyRanks (networkOf t) d (modeOf m) part ≡ [])
     is-0 e =
         let (p, e₁) = past-19 0 (λ k. omega arith) (λ k. omega arith) (λ k. omega arith) (λ k. omega arith) (λ k. omega arith) e in
-        let (none, e₂) = none-first (unreadyRanks (networkOf t) d (modeOf m) order) 20 0 at (answer 0 0) (λ k. omega arith) e₁ in
+        let (none, e₂) = none-first (unreadyRanks (networkOf t) d (modeOf m) part) 20 0 at (answer 0 0) (λ k. omega arith) e₁ in
         (sym (ap (λ (x : Answer). x .at) e₂), p, none)

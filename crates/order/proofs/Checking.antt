@@ -2,7 +2,8 @@
 -- Assumes nothing.
 use Prim.Native.Nat.{ℕ, pred, _+_, _≤_, _<_}
 use mathlib.Core.Bool.{Bool, true, false, not}
-use mathlib.Core.List.{List, List·Memᴰ}
+use mathlib.Core.List.{List, [], _∷_, _++_, List·Memᴰ, List·Memᴰ·append-cases, List·Memᴰ·eq-of-singleton}
+use mathlib.Core.Logic.{⊎-elim}
 use mathlib.Core.Path.{_≡_, sym, _∙_, subst}
 use native.Mathlib.Decide.{ℕ-discrete}
 use native.Mathlib.Numerals.{add-one}
@@ -10,28 +11,31 @@ use native.Mathlib.Omega.{arith}
 use lib.Dec.{T, leb}
 use lib.ListN.{length, getD, set, take, replicate}
 use lib.Seq.{take-suc, length-take-le, getD-take}
-use Rattle.network.specs.Distance.{distances}
+use Rattle.network.specs.Distance.{PathTo, arrived, distances}
 use Rattle.network.specs.Order.{candidate}
+use Rattle.network.proofs.Pigeon.{at-most}
+use Rattle.network.proofs.Candidate.{candidate-fact}
 use Rattle.stations.specs.declared.Topology.{Topology}
 use Rattle.stations.specs.Topology.{networkOf}
 use Rattle.stations.specs.Inner.{firstOr}
 use Rattle.arcs.specs.declared.Arcs.{Arcs}
 use Rattle.order.specs.declared.Mode.{Mode}
 use Rattle.order.specs.Calls.{modeOf, unreadyRanks}
-use Rattle.order.specs.Proposed.{LaidOut, Proposed}
-use Rattle.order.specs.Inner.{waitsFor, Standing, Room, Stepped}
-use Rattle.order.proofs.Ranges.{getD-mem, keep-none, keep-first}
+use Rattle.order.specs.Proposed.{LaidOut}
+use Rattle.order.specs.Inner.{waitsFor, Standing, Room, Stepped, Begins}
+use Rattle.order.proofs.Ranges.{getD-mem, mem-getD, differ, keep-none, keep-first}
 use Rattle.order.proofs.Entries.{entry-right}
 use Rattle.order.proofs.Counting.{waiting}
 use Rattle.order.proofs.Kept.{Kept}
-use Rattle.order.proofs.Turn.{zeros-small, is-candidate, candidate-waits, room, placed-too, first-placed}
+use Rattle.order.proofs.Turn.{facts, zeros-small, is-candidate, candidate-waits, room, placed-too, first-placed}
 
 -- before a turn
 pub record Checking (t : Topology) (a : Arcs) (d : ℕ) (m : Mode) (ds order keys : List ℕ) (rank : ℕ) : Type 0 where
   pub given : LaidOut t a d m ds
-  pub proposed : Proposed t d order
+  pub proposed : Begins t d order
   pub least : 1 ≤ rank
-  pub most : rank ≤ t .routers
+  pub most : rank ≤ length order
+  pub paths : (u : ℕ) → List·Memᴰ u (take rank order) → PathTo (networkOf t) d u
   pub right : Kept (networkOf t) (distances (networkOf t) d) m (replicate 64 0) (take rank order) keys
   pub so-far : (r : ℕ) → 1 ≤ r → r < rank → candidate (networkOf t) (distances (networkOf t) d) (modeOf m) (take r order) (getD order r 0) ≡ true
 
@@ -40,16 +44,16 @@ module _ {t : Topology} {a : Arcs} {d : ℕ} {m : Mode} {ds order keys : List �
   unready? r = not (candidate (networkOf t) (distances (networkOf t) d) (modeOf m) (take r order) (getD order r 0))
 
   -- all were candidates
-  pub none-unready : t .routers ≤ rank → rank ≡ firstOr (t .routers) (unreadyRanks (networkOf t) d (modeOf m) order)
+  pub none-unready : length order ≤ rank → rank ≡ firstOr (length order) (unreadyRanks (networkOf t) d (modeOf m) order)
   unfolding unreadyRanks firstOr
   none-unready over =
-      let end : rank ≡ t .routers = omega (arith, w .most) in
-      let none = keep-none unready? 1 (pred (length order)) (λ r h k. rw (w .so-far r h (omega (arith, w .proposed .long, w .proposed .place)))) in
+      let end : rank ≡ length order = omega (arith, w .most) in
+      let none = keep-none unready? 1 (pred (length order)) (λ r h k. rw (w .so-far r h (omega (arith, w .proposed .some-rank)))) in
       rw none end
 
-  module _ (more : rank < t .routers) where
+  module _ (more : rank < length order) where
     here : (getD order rank 0 < t .routers) × (List·Memᴰ (getD order rank 0) (take rank order) → ⊥)
-    here = entry-right (t .routers) order (w .proposed .once) rank (omega (arith, w .proposed .long))
+    here = entry-right (t .routers) order (w .proposed .once) rank more
 
     pub place : getD order rank 0 < t .routers
     place = here .0
@@ -57,21 +61,21 @@ module _ {t : Topology} {a : Arcs} {d : ℕ} {m : Mode} {ds order keys : List �
     first-there : List·Memᴰ d (take rank order)
     first-there =
         subst (λ (u : ℕ). List·Memᴰ u (take rank order)) (getD-take rank order 0 0 (omega (arith, w .least)) ∙ w .proposed .first)
-        (getD-mem (take rank order) 0 0 (omega (arith, w .least, length-take-le rank order (omega (arith, w .proposed .long)))))
+        (getD-mem (take rank order) 0 0 (omega (arith, w .least, length-take-le rank order (omega arith))))
 
     candidate-is : leb 17472 (getD keys (getD order rank 0) 0)
         ≡ candidate (networkOf t) (distances (networkOf t) d) (modeOf m) (take rank order) (getD order rank 0)
-    candidate-is = is-candidate (w .given) (zeros-small (w .given)) (w .right) first-there place
+    candidate-is = is-candidate (w .given) (zeros-small (w .given)) (w .right) first-there (w .paths) place
 
     -- this one is not a candidate
-    pub unready : leb 17472 (getD keys (getD order rank 0) 0) ≡ false → rank ≡ firstOr (t .routers) (unreadyRanks (networkOf t) d (modeOf m) order)
+    pub unready : leb 17472 (getD keys (getD order rank 0) 0) ≡ false → rank ≡ firstOr (length order) (unreadyRanks (networkOf t) d (modeOf m) order)
     unfolding unreadyRanks
     unready e =
         sym
-        (keep-first unready? (t .routers) 1 _ rank
+        (keep-first unready? (length order) 1 _ rank
         (record {
           least = w .least;
-          within = omega (arith, w .proposed .long);
+          within = omega arith;
           passes = rw (← candidate-is, e);
           earlier = λ r h k. rw (w .so-far r h k);
         }))
@@ -84,16 +88,27 @@ module _ {t : Topology} {a : Arcs} {d : ℕ} {m : Mode} {ds order keys : List �
       pub has-room : Room (set keys (getD order rank 0) 0) (a .to) (a .back) ds m (getD order rank 0) (getD (a .count) (getD order rank 0) 0)
       has-room = room (w .given) (zeros-small (w .given)) (w .right) place (here .1) waits
 
+      -- a candidate has a path
+      path : PathTo (networkOf t) d (getD order rank 0)
+      path =
+          let known = facts (w .given) in
+          candidate-fact (networkOf t) (known .well-formed) d (omega (arith, known .routers, w .given .place)) (modeOf m) (take rank order) _
+          (subst T (sym (sym candidate-is ∙ e)) tt) .path
+
+      next-paths : (u : ℕ) → List·Memᴰ u (take rank order ++ (getD order rank 0 ∷ [])) → PathTo (networkOf t) d u
+      next-paths u k =
+          ⊎-elim (w .paths u) (λ last. subst (PathTo (networkOf t) d) (sym (List·Memᴰ·eq-of-singleton last)) path) (List·Memᴰ·append-cases (take rank order) k)
+
       pub again : {r : List ℕ} → Stepped (set keys (getD order rank 0) 0) (a .to) (a .back) ds m (getD order rank 0) (getD (a .count) (getD order rank 0) 0) r →
           Checking t a d m ds order r (rank + 1)
       again step =
-          let inside : rank < length order = omega (arith, w .proposed .long) in
           record {
             given = w .given;
             proposed = w .proposed;
             least = omega arith;
             most = omega arith;
-            right = rw (add-one, take-suc order rank 0) (placed-too (w .given) (zeros-small (w .given)) (w .right) place (here .1) waits step);
+            paths = rw (add-one, take-suc order rank 0 more) next-paths;
+            right = rw (add-one, take-suc order rank 0 more) (placed-too (w .given) (zeros-small (w .given)) (w .right) place (here .1) waits step);
             so-far = λ r h k. so-far-too r h (ℕ-discrete r rank) k;
           }
         where
@@ -102,16 +117,23 @@ module _ {t : Topology} {a : Arcs} {d : ℕ} {m : Mode} {ds order keys : List �
           so-far-too r h (yes e′) k = rw e′ (sym candidate-is ∙ e)
           so-far-too r h (no apart) k = w .so-far r h (omega arith)
 
-pub first-turn : {t : Topology} {a : Arcs} {d : ℕ} {m : Mode} {ds order keys r : List ℕ} → LaidOut t a d m ds → Proposed t d order →
+-- there are no more ranks than routers
+pub begins-short : {t : Topology} {d : ℕ} {order : List ℕ} → Begins t d order → length order ≤ t .routers
+begins-short {t} {d} {order} b =
+    let right = entry-right (t .routers) order (b .once) in
+    at-most (t .routers) order (differ order 0 (λ i h. right i h .1)) (λ u k. let (i, h, e) = mem-getD 0 k in rw e at (right i h .0))
+
+pub first-turn : {t : Topology} {a : Arcs} {d : ℕ} {m : Mode} {ds order keys r : List ℕ} → LaidOut t a d m ds → Begins t d order →
     Standing (a .count) (a .to) (a .cost) ds (replicate 64 0) m (t .routers) keys → Stepped (set keys d 0) (a .to) (a .back) ds m d (getD (a .count) d 0) r →
     Checking t a d m ds order r 1
 first-turn {order} g p start step =
-    let inside : 0 < length order = omega (arith, p .long, p .place) in
+    let inside : 0 < length order = p .some-rank in
     record {
       given = g;
       proposed = p;
       least = omega arith;
-      most = omega (arith, p .place);
+      most = p .some-rank;
+      paths = rw (take-suc order 0 0, p .first) (λ u k. arrived (List·Memᴰ·eq-of-singleton k));
       right = rw (take-suc order 0 0, p .first) (first-placed g (zeros-small g) start step);
       so-far = λ r h k. absurd (omega arith);
     }

@@ -1,12 +1,14 @@
 -- What checking an order answers, test by test: each test that fails decides, and each that passes leaves the tests after it.
 -- Assumes nothing.
-use Prim.Native.Nat.{ℕ, zero, suc, pred, _+_, _≤_, _<_}
+use Prim.Native.Nat.{ℕ, zero, suc, pred, _+_, _-_, _≤_, _<_}
 use mathlib.Core.Bool.{Bool, true, false}
 use mathlib.Core.List.{List, [], _∷_, List·Memᴰ, List·Memᴰ·head}
 use mathlib.Core.Path.{_≡_, refl, ap}
 use native.Mathlib.Omega.{arith}
 use borrow.Author.Tests.{lt-ltb, le-ltb, eq-eqb, ne-eqb}
-use lib.ListN.{length, getD}
+use lib.Dec.{T}
+use lib.ListN.{length, getD, take}
+use lib.Seq.{length-take-le}
 use Rattle.network.specs.Lists.{below, keep, numbersFrom}
 use Rattle.network.proofs.Below.{from-bounds}
 use Rattle.network.proofs.Lists.{mem-keep}
@@ -17,8 +19,16 @@ use Rattle.stations.specs.Topology.{networkOf}
 use Rattle.stations.specs.Inner.{firstOr}
 use Rattle.stations.specs.Outcome.{answer}
 use Rattle.order.specs.declared.Mode.{Mode}
-use Rattle.order.specs.Calls.{atFirst, wrongRanks, unreadyRanks, modeOf, judging, checking}
-use Rattle.order.specs.Proposed.{Proposed}
+use Rattle.order.specs.Calls.{atFirst, reachedCount, wrongRanks, ranksAfter, unreadyRanks, modeOf, judging, checking}
+
+-- the tests before 20 pass: the order has a sound topology's length, holds places in its reached ranks, none twice, and 255 after them, and begins with d
+pub record Proposed (t : Topology) (d : ℕ) (order : List ℕ) : Type 0 where
+  pub on-sound : T (sound t)
+  pub place : d < t .routers
+  pub long : length order ≡ t .routers
+  pub once : wrongRanks (t .routers) (take (reachedCount (networkOf t) d) order) ≡ []
+  pub none-after : ranksAfter (reachedCount (networkOf t) d) order ≡ []
+  pub first : getD order 0 0 ≡ d
 
 -- a first number below n is there
 pub first-there : (xs : List ℕ) (n r number : ℕ) (next : Answer) → r ≡ firstOr n xs → r < n → answer number r ≡ atFirst number xs next
@@ -41,6 +51,10 @@ pub ranks-below : (f : ℕ → Bool) (s count n : ℕ) → s + count ≤ n → (
 ranks-below f s count n h x m = omega (arith, from-bounds s count (mem-keep f (numbersFrom s count) m .0))
 
 module _ (t : Topology) (d : ℕ) (m : Mode) (order : List ℕ) where
+  -- how many ranks are reached
+  abbrev pub reach : ℕ
+  reach = reachedCount (networkOf t) d
+
   pub unsound : sound t ≡ false → answer 14 0 ≡ checking t d m order
   unfolding checking
   unsound e = rw e
@@ -59,33 +73,44 @@ module _ (t : Topology) (d : ℕ) (m : Mode) (order : List ℕ) where
   other-length h = rw (ne-eqb _ _ h)
 
   module _ (long : length order ≡ t .routers) where
-    pub wrong-entry : (r : ℕ) → r ≡ firstOr (t .routers) (wrongRanks (t .routers) order) → r < t .routers → answer 18 r ≡ judging t d m order
+    pub wrong-entry : (r : ℕ) → r ≡ firstOr reach (wrongRanks (t .routers) (take reach order)) → r < reach → answer 18 r ≡ judging t d m order
     unfolding judging
-    wrong-entry r e h = rw (eq-eqb _ _ long) (first-there (wrongRanks (t .routers) order) (t .routers) r 18 _ e h)
+    wrong-entry r e h = rw (eq-eqb _ _ long) (first-there (wrongRanks (t .routers) (take reach order)) reach r 18 _ e h)
 
-    pub all-right : (r : ℕ) → r ≡ firstOr (t .routers) (wrongRanks (t .routers) order) → t .routers ≤ r → wrongRanks (t .routers) order ≡ []
+    pub all-right : reach ≤ t .routers → (r : ℕ) → r ≡ firstOr reach (wrongRanks (t .routers) (take reach order)) → reach ≤ r →
+        wrongRanks (t .routers) (take reach order) ≡ []
     unfolding wrongRanks below
-    all-right r e h = none-there _ (t .routers) r (ranks-below _ 0 (length order) (t .routers) (omega arith)) e h
+    all-right most r e h =
+        none-there _ reach r (ranks-below _ 0 (length (take reach order)) reach (omega (arith, length-take-le reach order (omega arith)))) e h
 
-    module _ (once : wrongRanks (t .routers) order ≡ []) where
-      pub other-first : (getD order 0 0 ≡ d → ⊥) → answer 19 0 ≡ judging t d m order
+    module _ (once : wrongRanks (t .routers) (take reach order) ≡ []) where
+      pub ranked-after : (r : ℕ) → r ≡ firstOr (t .routers) (ranksAfter reach order) → r < t .routers → answer 18 r ≡ judging t d m order
       unfolding judging atFirst
-      other-first h = rw (eq-eqb _ _ long, once, ne-eqb _ _ h)
+      ranked-after r e h = rw (eq-eqb _ _ long, once) (first-there (ranksAfter reach order) (t .routers) r 18 _ e h)
+
+      pub none-ranked : reach ≤ t .routers → (r : ℕ) → r ≡ firstOr (t .routers) (ranksAfter reach order) → t .routers ≤ r → ranksAfter reach order ≡ []
+      unfolding ranksAfter
+      none-ranked most r e h = none-there _ (t .routers) r (ranks-below _ reach (length order - reach) (t .routers) (omega arith)) e h
+
+      pub other-first : ranksAfter reach order ≡ [] → (getD order 0 0 ≡ d → ⊥) → answer 19 0 ≡ judging t d m order
+      unfolding judging atFirst
+      other-first after h = rw (eq-eqb _ _ long, once, after, ne-eqb _ _ h)
 
   module _ (p : Proposed t d order) where
-    pub unready : (r : ℕ) → r ≡ firstOr (t .routers) (unreadyRanks (networkOf t) d (modeOf m) order) → r < t .routers → answer 20 r ≡ judging t d m order
-    unfolding judging atFirst
-    unready r e h =
-        rw (eq-eqb _ _ (p .long), p .once, eq-eqb _ _ (p .first))
-        (first-there (unreadyRanks (networkOf t) d (modeOf m) order) (t .routers) r 20 _ e h)
+    abbrev unready-ranks : List ℕ
+    unready-ranks = unreadyRanks (networkOf t) d (modeOf m) (take reach order)
 
-    pub none-unready : (r : ℕ) → r ≡ firstOr (t .routers) (unreadyRanks (networkOf t) d (modeOf m) order) → t .routers ≤ r →
-        unreadyRanks (networkOf t) d (modeOf m) order ≡ []
+    pub unready : (r : ℕ) → r ≡ firstOr reach unready-ranks → r < reach → answer 20 r ≡ judging t d m order
+    unfolding judging atFirst
+    unready r e h = rw (eq-eqb _ _ (p .long), p .once, p .none-after, eq-eqb _ _ (p .first)) (first-there unready-ranks reach r 20 _ e h)
+
+    pub none-unready : 1 ≤ reach → reach ≤ t .routers → (r : ℕ) → r ≡ firstOr reach unready-ranks → reach ≤ r → unready-ranks ≡ []
     unfolding unreadyRanks
-    none-unready r e h =
-        none-there _ (t .routers) r
-        (ranks-below _ 1 (pred (length order)) (t .routers) (omega (arith, p .long, pred-one (length order) d (omega (arith, p .long, p .place))))) e h
+    none-unready least most r e h =
+        let long = length-take-le reach order (omega (arith, p .long)) in
+        let last = pred-one (length (take reach order)) 0 (omega arith) in
+        none-there _ reach r (ranks-below _ 1 (pred (length (take reach order))) reach (omega (arith, last))) e h
 
-    pub passes : unreadyRanks (networkOf t) d (modeOf m) order ≡ [] → answer 0 0 ≡ judging t d m order
+    pub passes : unready-ranks ≡ [] → answer 0 0 ≡ judging t d m order
     unfolding judging atFirst
-    passes e = rw (eq-eqb _ _ (p .long), p .once, eq-eqb _ _ (p .first), e)
+    passes e = rw (eq-eqb _ _ (p .long), p .once, p .none-after, eq-eqb _ _ (p .first), e)

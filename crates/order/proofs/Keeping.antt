@@ -74,6 +74,9 @@ module _ {A : Type 0} where
       go [] e = inl refl
       go (y ∷ ys) e = let (m, t) = mem-keep f xs (subst (List·Memᴰ y) (sym e) (List·Memᴰ·head refl)) in inr (y, m, t)
 
+  pub kept-some : (f : A → Bool) (xs : List A) → 1 ≤ length (keep f xs) → Found f xs
+  kept-some f xs h = ⊎-elim (λ e. absurd (omega arith)) (λ w. w) (found-or f xs)
+
   pub none-kept : (f : A → Bool) (xs : List A) → (Found f xs → ⊥) → length (keep f xs) ≡ 0
   none-kept f xs h = ⊎-elim (λ e. e) (λ w. absurd (h w)) (found-or f xs)
 

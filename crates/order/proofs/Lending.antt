@@ -3,9 +3,9 @@
 use Prim.Native.Nat.{ℕ, _+_, _%_, _≤_, _<_}
 use mathlib.Core.List.{List, _++_}
 use mathlib.Core.Option.{some}
-use mathlib.Core.Path.{_≡_, sym, _∙_, ap}
+use mathlib.Core.Path.{_≡_, sym, _∙_}
 use native.Mathlib.Omega.{arith}
-use lib.ListN.{length, getD, set, drop}
+use lib.ListN.{length, getD, set, drop, replicate}
 use Rattle.network.specs.Network.{size}
 use Rattle.network.specs.Order.{build}
 use Rattle.network.proofs.Selection.{ids-apart}
@@ -14,14 +14,15 @@ use Rattle.stations.specs.Topology.{networkOf}
 use Rattle.arcs.specs.declared.Arcs.{Arcs}
 use Rattle.arcs.specs.Arcs.{inSlots}
 use Rattle.order.specs.declared.Mode.{Mode}
-use Rattle.order.specs.Calls.{modeOf}
+use Rattle.order.specs.Calls.{modeOf, orderBytes}
 use Rattle.order.specs.Proposed.{Lent}
 use Rattle.distances.specs.Slots.{AllSlots}
 use Rattle.order.specs.Inner.{Lower, Apart, Inverse, Standing, Highest, Room, Stepped}
 use Rattle.order.proofs.Setting.{topology-ids}
 use Rattle.order.proofs.Ties.{lower-small, lower-apart}
 use Rattle.order.proofs.Turn.{facts, every-slot, every-back, standings-low, first-room}
-use Rattle.order.proofs.Building.{Building, ties-small, same-long, first-turn, selected, found, place, has-room, again, finished}
+use Rattle.order.proofs.Building.{Building, ties-small, same-long, first-turn, selected, found, place, has-room, again, ends, all-placed, finished}
+use Rattle.order.proofs.Building.{cleared}
 
 module _ {t : Topology} {counts to cost back ids ds : List ℕ} {n d : ℕ} {m : Mode} (l : Lent t counts to cost back ids n d m ds) where
   abbrev pub slots-of : Arcs
@@ -75,12 +76,12 @@ module _ {t : Topology} {counts to cost back ids ds : List ℕ} {n d : ℕ} {m :
       pub fits : rank < length out
       fits = omega (arith, own-more, b .room, same-long b)
 
-      module _ {best : ℕ} {places : List ℕ} (top : Highest keys n best) (inverse : Inverse lower n places) where
+      module _ {best : ℕ} {places : List ℕ} (top : Highest keys n best) (high : 17472 ≤ best) (inverse : Inverse lower n places) where
         abbrev next : ℕ
         next = getD places (best % 64) 0
 
         picked : selected b own-more ≡ some next
-        picked = found b own-more {best = best} {places = places} (rw (l .routers-are) top) (rw (l .routers-are) inverse)
+        picked = found b own-more {best = best} (rw (l .routers-are) top) {places = places} high (rw (l .routers-are) inverse)
 
         pub next-in : next < n
         next-in = rw (l .routers-are) at (place b own-more picked)
@@ -92,8 +93,17 @@ module _ {t : Topology} {counts to cost back ids ds : List ℕ} {n d : ℕ} {m :
             Building t slots-of d m ds lower first (set out rank next) r (rank + 1)
         go-on step = again b own-more picked step
 
-  pub done : (first : List ℕ) {x : ℕ} {lower out keys : List ℕ} {rank : ℕ} → x ≡ d → Building t slots-of d m ds lower (set first 0 x) out keys rank →
-      n ≤ rank → out ≡ build (networkOf t) x (modeOf m) ++ drop n first
-  done first same b over =
-      rw same
-      (finished first (rw same at b) (rw (l .routers-are) over) ∙ ap (λ (k : ℕ). build (networkOf t) d (modeOf m) ++ drop k first) (l .routers-are))
+  -- when N are placed, or none that is left is a candidate
+  module _ (first old : List ℕ) (are : first ≡ replicate n 255 ++ drop n old) {x : ℕ} (same : x ≡ d) {lower out keys : List ℕ} {rank : ℕ}
+      (b : Building t slots-of d m ds lower (set first 0 x) out keys rank) (least : 1 ≤ rank) where
+    finish : build (networkOf t) d (modeOf m) ≡ b .placed → out ≡ orderBytes n (build (networkOf t) x (modeOf m)) ++ drop n old
+    finish whole =
+        let most : rank ≤ n = omega (arith, b .most, l .routers-are) in
+        let counts = l .routers-are in
+        rw (same, ← counts) (finished old b (rw counts (cleared n first old are rank x least most)) whole)
+
+    pub done : n ≤ rank → out ≡ orderBytes n (build (networkOf t) x (modeOf m)) ++ drop n old
+    done over = finish (all-placed b (rw (l .routers-are) over))
+
+    pub stuck : rank < n → {best : ℕ} → Highest keys n best → best < 17472 → out ≡ orderBytes n (build (networkOf t) x (modeOf m)) ++ drop n old
+    stuck more {best} top low = finish (ends b (rw (l .routers-are) more) {best = best} (rw (l .routers-are) top) low)

@@ -14,6 +14,7 @@ pub mod Chosen
 pub mod Ranges
 pub mod Reached
 pub mod Entries
+pub mod After
 pub mod Turn
 pub mod Building
 pub mod Lending
@@ -21,5 +22,4 @@ pub mod Checking
 pub mod Answers
 pub mod Orders
 pub mod Verdicts
-pub mod Proposals
 pub mod Table

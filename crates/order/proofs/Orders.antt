@@ -1,46 +1,47 @@
--- What passes the tests of `checking` is accepted, and the other way round: in a sound topology every router has a path to every destination. What
--- is built is the order by the rule.
+-- What passes the tests of `checking` is accepted, and the other way round: as many ranks are reached as routers have a path, so where each router that is
+-- placed has one, all are placed. What is built is the order by the rule.
 -- Assumes nothing.
-use Prim.Native.Nat.{ℕ, zero, suc, pred, _+_, _≤_, _<_}
+use Prim.Native.Nat.{ℕ, zero, suc, pred, _+_, _-_, _≤_, _<_}
 use mathlib.Core.Bool.{Bool, true, false, not}
-use mathlib.Core.List.{List, [], _∷_, _++_, List·Memᴰ}
-use mathlib.Core.Logic.{_↔_}
+use mathlib.Core.List.{List, [], _∷_, _++_, List·Memᴰ, List·Memᴰ·cases-cons}
+use mathlib.Core.Logic.{_↔_, ⊎-elim}
 use mathlib.Core.Path.{_≡_, refl, sym, ap, _∙_, subst}
 use native.Mathlib.Omega.{arith}
 use borrow.Author.Tests.{not-false, lt-ltb, le-ltb}
 use lib.Dec.{T}
-use lib.ListN.{length, getD, take, drop, length-append}
-use lib.Seq.{split-at, take-at, drop-at, getD-at, length-front, length-take-le}
-use Rattle.network.specs.Lists.{Distinct}
+use lib.ListN.{length, getD, take, drop, replicate, length-append, take-append-drop}
+use lib.Seq.{split-at, take-at, drop-at, getD-at, getD-take, length-front, length-take-le}
+use Rattle.network.specs.Lists.{Distinct, below}
 use Rattle.network.specs.Network.{size}
-use Rattle.network.specs.Distance.{distances}
-use Rattle.network.specs.Order.{candidate, build, accepted}
+use Rattle.network.specs.Distance.{PathTo, arrived, distances}
+use Rattle.network.specs.Order.{free, candidate, build, accepted}
 use Rattle.network.specs.Theorems.Order.{Candidate, Accepted}
 use Rattle.network.proofs.Tests.{as-true, as-false}
 use Rattle.network.proofs.Lists.{pairwise-split}
-use Rattle.network.proofs.Below.{below-lt, below-distinct, length-below}
-use Rattle.network.proofs.Pigeon.{no-longer, all-there}
+use Rattle.network.proofs.Below.{mem-below, below-lt, below-distinct, length-below}
+use Rattle.network.proofs.Pigeon.{member?, distinct-cons}
 use Rattle.network.proofs.Distance.{starts-in}
 use Rattle.network.proofs.Candidate.{candidate-fact, fact-candidate}
 use Rattle.network.proofs.Build.{built-by-rule}
-use Rattle.network.proofs.Order.{order-fits, acceptance-exact, built-accepted, shortest-path-is-free}
+use Rattle.network.proofs.Order.{acceptance-exact, built-accepted, shortest-path-is-free}
 use Rattle.stations.specs.declared.Topology.{Topology}
-use Rattle.stations.specs.Topology.{networkOf}
+use Rattle.stations.specs.Topology.{padded, networkOf}
 use Rattle.soundness.specs.Sound.{sound}
 use Rattle.stations.specs.Inner.{firstOr}
 use Rattle.stations.specs.Outcome.{answer, given, turnedAway}
 use Rattle.soundness.specs.Theorems.{SoundNetwork}
 use Rattle.order.specs.declared.Mode.{Mode}
 use Rattle.order.specs.declared.Mode.the-variants as mode
-use Rattle.order.specs.Calls.{modeOf, unreadyRanks, building, checking}
-use Rattle.order.specs.Proposed.{Proposed}
-use Rattle.order.specs.Theorems.{ChecksExact, BuiltWell, BuildsByRule, BuildRefuses, UnreadyAt}
+use Rattle.order.specs.Calls.{modeOf, reachedCount, orderBytes, unreadyRanks, building, checking}
+use Rattle.order.specs.Inner.{Begins}
+use Rattle.order.specs.Theorems.{ReachedRight, Holds, ChecksExact, BuiltWell, BuildsByRule, BuildRefuses}
 use Rattle.soundness.proofs.Sound.{sound-networks}
-use Rattle.order.proofs.Reached.{built-long}
+use Rattle.order.proofs.Reached.{counted, no-more, reached-most, reached-some, accepted-long, built-long, bytes-long}
 use Rattle.order.proofs.Ranges.{getD-mem, mem-getD, differ, keep-none, none-passes, keep-first, first-passes}
 use Rattle.order.proofs.Entries.{entry-right, none-wrong}
+use Rattle.order.proofs.After.{none-ranked, all-none, rest-same, past-part}
 use Rattle.order.proofs.Answers.{is-0}
-use Rattle.order.proofs.Decided.{passes, judged}
+use Rattle.order.proofs.Decided.{Proposed, passes, judged}
 
 module _ (t : Topology) (is-sound : T (sound t)) (d : ℕ) (place : d < t .routers) where
   facts : SoundNetwork t
@@ -51,6 +52,16 @@ module _ (t : Topology) (is-sound : T (sound t)) (d : ℕ) (place : d < t .route
 
   inside : d < size (networkOf t)
   inside = omega (arith, facts .routers)
+
+  -- how many ranks are reached
+  abbrev reach : ℕ
+  reach = reachedCount (networkOf t) d
+
+  pub few-reached : reach ≤ t .routers
+  few-reached = omega (arith, reached-most (networkOf t) (facts .well-formed) d inside, facts .routers)
+
+  pub some-reached : 1 ≤ reach
+  some-reached = reached-some (networkOf t) (facts .well-formed) d inside free
 
   module _ (m : Mode) (order : List ℕ) where
     -- the router at a rank is a candidate after those before it, as a fact and as a test
@@ -69,44 +80,58 @@ module _ (t : Topology) (is-sound : T (sound t)) (d : ℕ) (place : d < t .route
     not-unready : (r : ℕ) → InTurn r → not (in-turn? r) ≡ false
     not-unready r c = rw (as-true (in-turn? r) (fact-candidate (networkOf t) (facts .well-formed) d inside (modeOf m) _ _ c))
 
-    pub accepts : Proposed t d order → unreadyRanks (networkOf t) d (modeOf m) order ≡ [] → Accepted (networkOf t) d (modeOf m) order
+    -- where no rank is unready each router has a path, and all that have one are there
+    pub accepts : Begins t d order → length order ≡ reach → unreadyRanks (networkOf t) d (modeOf m) order ≡ [] → Accepted (networkOf t) d (modeOf m) order
     unfolding unreadyRanks
-    accepts p none =
-        let right = entry-right (t .routers) order (p .once) in
+    accepts b long none =
+        let right = entry-right (t .routers) order (b .once) in
         let once = differ order 0 (λ i h. right i h .1) in
-        let below : (u : ℕ) → List·Memᴰ u order → u < t .routers = λ u k. let (i, h, e) = mem-getD 0 k in rw e at (right i h .0) in
+        let turn : (r : ℕ) → 1 ≤ r → r < length order → InTurn r = λ r h k. in-turn r (none-passes _ 1 (pred (length order)) none r h (omega arith)) in
+        let only : (u : ℕ) → List·Memᴰ u order → PathTo (networkOf t) d u =
+        λ u k. let (i, h, e) = mem-getD 0 k in subst (PathTo (networkOf t) d) e (at-rank i h (b .first) (turn i)) in
         record {
           once = once;
-          all = λ u path.
-              all-there (t .routers) order once below (omega (arith, p .long)) u
-              (omega (arith, starts-in (networkOf t) (facts .well-formed) d inside path, facts .routers));
-          only = λ u k. facts .paths d u place (below u k);
-          first = (drop 1 order, split-at order 0 0 (omega (arith, p .long, place)) ∙ rw (p .first));
+          all = λ u path. there once only long u path (member? u order);
+          only = only;
+          first = (drop 1 order, split-at order 0 0 (omega (arith, b .some-rank)) ∙ rw (b .first));
           in-turn = λ v before u after e.
               let r = length (v ∷ before) in
-              let within : r < 1 + pred (length order) = omega (arith, ap length e, length-append before (u ∷ after)) in
-              let here : InTurn r = in-turn r (none-passes _ 1 (pred (length order)) none r (omega arith) within) in
-              rw (e, take-at (v ∷ before) (u ∷ after) r refl, getD-at (v ∷ before) u after 0 r refl) at here;
+              let within : r < length order = omega (arith, ap length e, length-append before (u ∷ after)) in
+              rw (e, take-at (v ∷ before) (u ∷ after) r refl, getD-at (v ∷ before) u after 0 r refl) at (turn r (omega arith) within);
         }
+      where
+        at-rank : (i : ℕ) → i < length order → getD order 0 0 ≡ d → (1 ≤ i → i < length order → InTurn i) → PathTo (networkOf t) d (getD order i 0)
+        at-rank zero h first turn = arrived first
+        at-rank (suc i) h first turn = turn (omega arith) h .path
+
+        there : Distinct order → ((u : ℕ) → List·Memᴰ u order → PathTo (networkOf t) d u) → length order ≡ reach → (u : ℕ) → PathTo (networkOf t) d u →
+            Dec (List·Memᴰ u order) → List·Memᴰ u order
+        there once only long u path (yes k) = k
+        there once only long u path (no out) =
+            absurd
+            (omega (
+              arith,
+              no-more (networkOf t) (facts .well-formed) d inside (u ∷ order) (distinct-cons out once)
+                  (λ v k. ⊎-elim (λ e. subst (PathTo (networkOf t) d) (sym e) path) (only v) (List·Memᴰ·cases-cons k)),
+            ))
 
     module _ (a : Accepted (networkOf t) d (modeOf m) order) where
-      pub proposes : Proposed t d order
-      proposes =
+      pub begins : Begins t d order
+      begins =
           let n = networkOf t in
           let wf = facts .well-formed in
-          let all-in = no-longer order (below-distinct (size n))
-          (λ u k. a .all u (facts .paths d u place (omega (arith, below-lt (size n) k, facts .routers)))) in
+          let first = a .first in
           record {
             on-sound = is-sound;
             place = place;
-            long = omega (arith, facts .routers, order-fits n wf d inside (modeOf m) a, length-below (size n), all-in);
+            some-rank = omega (arith, ap length (first .1));
             once =
                 none-wrong (t .routers) order
                 (λ r h. (
                   omega (arith, starts-in n wf d inside (a .only _ (getD-mem order r 0 h)), facts .routers),
                   λ k. pairwise-split (take r order) (getD order r 0) (drop (suc r) order) (subst Distinct (split-at order r 0 h) (a .once)) _ k refl,
                 ));
-            first = ap (λ (l : List ℕ). getD l 0 0) (a .first .1);
+            first = ap (λ (l : List ℕ). getD l 0 0) (first .1);
           }
 
       turn-of : (r : ℕ) → 1 ≤ r → r < length order → InTurn r
@@ -120,37 +145,93 @@ module _ (t : Topology) (is-sound : T (sound t)) (d : ℕ) (place : d < t .route
       unfolding unreadyRanks
       none-unready = keep-none _ 1 (pred (length order)) (λ r h k. not-unready r (turn-of r h (omega arith)))
 
-    pub exact : (checking t d m order ≡ answer 0 0) ↔ Accepted (networkOf t) d (modeOf m) order
-    exact = (
-      λ e. let (at, p, none) = is-0 t d m order 0 e in accepts p none,
-      λ a. let p = proposes a in sym (passes t d m order p (none-unready a) ∙ judged t d m order good place),
-    )
+      pub long : length order ≡ reach
+      long = accepted-long (networkOf t) (facts .well-formed) d inside (modeOf m) a
 
     -- 20 points at the first that is no candidate
-    pub unready-at : (r : ℕ) (rest : List ℕ) → unreadyRanks (networkOf t) d (modeOf m) order ≡ r ∷ rest → UnreadyAt t d (modeOf m) order r
+    pub unready-at : (r : ℕ) (rest : List ℕ) → unreadyRanks (networkOf t) d (modeOf m) order ≡ r ∷ rest →
+        (1 ≤ r) × (r < length order) × (InTurn r → ⊥) × ((k : ℕ) → 1 ≤ k → k < r → InTurn k)
     unfolding unreadyRanks
     unready-at r rest e =
-        let w = first-passes unready? 1 (pred (length order)) r rest e in
-        record {
-          not-first = w .least;
-          within = omega (arith, w .within, w .least);
-          unready = λ c. subst T (sym (w .passes) ∙ not-unready r c) tt;
-          earlier = λ k h l. in-turn k (w .earlier k h l);
-        }
+        let w = first-passes unready? 1 (pred (length order)) r rest e in (
+          w .least,
+          omega (arith, w .within, w .least),
+          λ c. subst T (sym (w .passes) ∙ not-unready r c) tt,
+          λ k h l. in-turn k (w .earlier k h l),
+        )
 
-    pub at-unready : (other r : ℕ) → UnreadyAt t d (modeOf m) order r → firstOr other (unreadyRanks (networkOf t) d (modeOf m) order) ≡ r
+    pub at-unready : (other r : ℕ) → 1 ≤ r → r < length order → (InTurn r → ⊥) → ((k : ℕ) → 1 ≤ k → k < r → InTurn k) →
+        firstOr other (unreadyRanks (networkOf t) d (modeOf m) order) ≡ r
     unfolding unreadyRanks
-    at-unready other r w =
+    at-unready other r least within out earlier =
         keep-first unready? other 1 (pred (length order)) r
         (record {
-          least = w .not-first;
-          within = omega (arith, w .within);
-          passes = rw (as-false (in-turn? r) (λ c. w .unready (in-turn r (rw (as-true (in-turn? r) c)))));
-          earlier = λ k h l. not-unready k (w .earlier k h l);
+          least = least;
+          within = omega arith;
+          passes = rw (as-false (in-turn? r) (λ c. out (in-turn r (rw (as-true (in-turn? r) c)))));
+          earlier = λ k h l. not-unready k (earlier k h l);
         })
 
-    checks : T (accepted (networkOf t) d (modeOf m) order) → checking t d m order ≡ answer 0 0
-    checks a = exact .1 (acceptance-exact (networkOf t) (facts .well-formed) d inside (modeOf m) order .0 a)
+  module _ (m : Mode) (bytes : List ℕ) where
+    -- the reached ranks
+    abbrev pub part : List ℕ
+    part = take reach bytes
+
+    -- a proposed order begins as its reached ranks do, and is 255 after them
+    module _ (p : Proposed t d bytes) where
+      part-long : length part ≡ reach
+      part-long = length-take-le reach bytes (omega (arith, p .long, few-reached))
+
+      pub proposal-begins : Begins t d part
+      proposal-begins =
+          record {
+            on-sound = is-sound;
+            place = place;
+            some-rank = omega (arith, part-long, some-reached);
+            once = p .once;
+            first = getD-take reach bytes 0 0 some-reached ∙ p .first;
+          }
+
+      pub proposal-bytes : bytes ≡ orderBytes (t .routers) part
+      unfolding orderBytes padded
+      proposal-bytes =
+          sym (take-append-drop reach bytes)
+          ∙ ap (λ (l : List ℕ). part ++ l)
+          (rw part-long (rest-same bytes reach (t .routers) (p .long) (none-ranked bytes reach (p .none-after))))
+
+    -- what is accepted, and then 255, is proposed
+    pub proposes : Accepted (networkOf t) d (modeOf m) part → bytes ≡ orderBytes (t .routers) part → Proposed t d bytes
+    unfolding orderBytes padded
+    proposes a e =
+        let b = begins m part a in
+        let part-long = long m part a in
+        let bytes-are = bytes-long (t .routers) part (omega (arith, few-reached)) in
+        let whole : length bytes ≡ t .routers = ap length e ∙ bytes-are in
+        record {
+          on-sound = is-sound;
+          place = place;
+          long = whole;
+          once = b .once;
+          none-after =
+              all-none bytes reach
+              (λ r h k. ap (λ (l : List ℕ). getD l r 0) e ∙ past-part part (t .routers) r (omega arith) (omega arith));
+          first = sym (getD-take reach bytes 0 0 some-reached) ∙ b .first;
+        }
+
+    pub exact : (checking t d m bytes ≡ answer 0 0) ↔ (Accepted (networkOf t) d (modeOf m) part × (bytes ≡ orderBytes (t .routers) part))
+    exact = (
+      λ e. let (at, p, none) = is-0 t d m bytes 0 e in (accepts m part (proposal-begins p) (part-long p) none, proposal-bytes p),
+      λ (a, e). let p = proposes a e in sym (passes t d m bytes p (none-unready m part a) ∙ judged t d m bytes good place),
+    )
+
+  -- an order that is accepted, and then 255, is accepted as bytes
+  module _ (m : Mode) (order : List ℕ) (a : Accepted (networkOf t) d (modeOf m) order) where
+    pub part-is : take reach (orderBytes (t .routers) order) ≡ order
+    unfolding orderBytes padded
+    part-is = take-at order (replicate (t .routers - length order) 255) reach (long m order a)
+
+    pub checks : checking t d m (orderBytes (t .routers) order) ≡ answer 0 0
+    checks = exact m (orderBytes (t .routers) order) .1 (rw part-is (a, refl))
 
   in-free : (m : Mode) (order : List ℕ) → T (accepted (networkOf t) d (modeOf m) order) → T (accepted (networkOf t) d (modeOf mode.Free) order)
   unfolding modeOf
@@ -158,13 +239,16 @@ module _ (t : Topology) (is-sound : T (sound t)) (d : ℕ) (place : d < t .route
   in-free mode.Free order a = a
 
   module _ (m : Mode) (buffer : List ℕ) where
-    order-long : length (build (networkOf t) d (modeOf m)) ≡ t .routers
-    order-long = built-long t is-sound d place (modeOf m)
+    abbrev built : List ℕ
+    built = build (networkOf t) d (modeOf m)
+
+    pub order-long : length (orderBytes (t .routers) built) ≡ t .routers
+    order-long =
+        bytes-long (t .routers) built (omega (arith, built-long (networkOf t) (facts .well-formed) d inside (modeOf m), few-reached))
 
     -- what building leaves
     left : t .routers ≤ length buffer →
-        building t d m buffer
-        ≡ record { answer = answer 0 (t .routers); buffer = build (networkOf t) d (modeOf m) ++ drop (t .routers) buffer }
+        building t d m buffer ≡ record { answer = answer 0 (t .routers); buffer = orderBytes (t .routers) built ++ drop (t .routers) buffer }
     unfolding building given
     left enough = rw (good, lt-ltb d (t .routers) place, order-long, le-ltb (length buffer) (t .routers) enough)
 
@@ -173,24 +257,53 @@ module _ (t : Topology) (is-sound : T (sound t)) (d : ℕ) (place : d < t .route
     no-room short = rw (good, lt-ltb d (t .routers) place, order-long, lt-ltb (length buffer) (t .routers) short)
 
     built-well : t .routers ≤ length buffer → BuiltWell t d m (modeOf m) buffer
+    unfolding orderBytes padded
     built-well enough =
-        let built = left enough in
-        let order = build (networkOf t) d (modeOf m) in
+        let then = left enough in
+        let bytes = orderBytes (t .routers) built in
         let rest = drop (t .routers) buffer in
-        let front = take-at order rest (t .routers) order-long in
-        let a = built-accepted (networkOf t) (facts .well-formed) d inside (modeOf m) in
+        let front = take-at bytes rest (t .routers) order-long in
+        let n = networkOf t in
+        let wf = facts .well-formed in
+        let test = built-accepted n wf d inside (modeOf m) in
+        let a = acceptance-exact n wf d inside (modeOf m) built .0 test in
         record {
-          success = rw built;
-          by-rule = rw (built, front) (built-by-rule (networkOf t) (facts .well-formed) d inside (modeOf m) .0);
-          rest = rw built (drop-at order rest (t .routers) order-long);
-          long = rw built (length-front buffer order (t .routers) (order-long ∙ sym (length-take-le (t .routers) buffer enough)));
-          in-mode = rw (built, front) (checks m order a);
-          in-free = rw (built, front) (checks mode.Free order (in-free m order a));
+          success = rw then;
+          order = built;
+          by-rule = built-by-rule n wf d inside (modeOf m) .0;
+          all-reached = λ u. (a .only u, a .all u);
+          bytes = rw (then, front) refl;
+          rest = rw then (drop-at bytes rest (t .routers) order-long);
+          long = rw then (length-front buffer bytes (t .routers) (order-long ∙ sym (length-take-le (t .routers) buffer enough)));
+          in-mode = rw (then, front) (checks m built a);
+          in-free = rw (then, front) (checks mode.Free built (acceptance-exact n wf d inside (modeOf mode.Free) built .0 (in-free m built test)));
         }
+
+-- some order holds, and then 255
+pub holds-exact : (t : Topology) → T (sound t) → (d : ℕ) → d < t .routers → (m : Mode) (bytes : List ℕ) →
+    (checking t d m bytes ≡ answer 0 0) ↔ ((order : List ℕ) × Holds t d (modeOf m) bytes order)
+unfolding orderBytes padded
+holds-exact t s d place m bytes = (
+  λ e. let (a, are) = exact t s d place m bytes .0 e in (part t s d place m bytes, record { accepted = a; bytes-are = are }),
+  λ (order, h). rw (h .bytes-are) (checks t s d place m order (h .accepted)),
+)
 
 pub checks-exact : ChecksExact
 unfolding modeOf
-checks-exact t s d place = record { in-shortest-path = exact t s d place mode.ShortestPath; in-free = exact t s d place mode.Free }
+checks-exact t s d place = record { in-shortest-path = holds-exact t s d place mode.ShortestPath; in-free = holds-exact t s d place mode.Free }
+
+pub reached-right : ReachedRight
+reached-right n wf d inside =
+    record {
+      counts = λ us once are. sym (counted n wf d inside us once are);
+      some-list =
+          let a = acceptance-exact n wf d inside free (build n d free) .0 (built-accepted n wf d inside free) in
+          (build n d free, a .once, λ u. (a .only u, a .all u));
+      whole = λ paths.
+          sym (counted n wf d inside (below (size n)) (below-distinct (size n))
+          (λ u. (λ k. paths u (below-lt (size n) k), λ p. mem-below (starts-in n wf d inside p))))
+          ∙ length-below (size n);
+    }
 
 pub builds-by-rule : BuildsByRule
 unfolding modeOf

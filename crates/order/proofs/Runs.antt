@@ -1,13 +1,13 @@
 -- Numbers one after the other, as a loop goes through them: counting down, a turn adds the number before those that it has passed, and counting up
 -- the slot after them.
 -- Assumes nothing.
-use Prim.Native.Nat.{ℕ, suc, _+_, _-_, _≤_, _<_}
+use Prim.Native.Nat.{ℕ, zero, suc, _+_, _-_, _≤_, _<_}
 use mathlib.Core.List.{List, [], _∷_, _++_, map, map-append}
-use mathlib.Core.Path.{_≡_, ap}
+use mathlib.Core.Path.{_≡_, refl, ap}
 use native.Mathlib.Nat.{sub-self, sub-zero}
 use native.Mathlib.Numerals.{add-one}
 use native.Mathlib.Omega.{arith}
-use lib.ListN.{length, getD, drop, set}
+use lib.ListN.{length, getD, drop, set, replicate}
 use lib.Seq.{append-snoc, drop-cons, set-at}
 use Rattle.network.specs.Lists.{numbersFrom, below}
 use Rattle.network.proofs.Below.{length-map-below}
@@ -36,3 +36,19 @@ pub fill-more : {A : Type 0} (g : ℕ → A) (z : A) (old : List A) (u : ℕ) �
 fill-more g z old u h =
     rw (below-more, map-append, append-snoc, add-one, drop-cons old u z)
     (set-at (map g (below u)) (getD old u z) (drop (suc u) old) (g u) u (length-map-below g u))
+
+-- what is left of equal numbers
+pub drop-same : (k n x : ℕ) → drop k (replicate n x) ≡ replicate (n - k) x
+drop-same zero n x = rw sub-zero
+drop-same (suc k) zero x = let none : 0 - suc k ≡ 0 = omega arith in rw none
+drop-same (suc k) (suc n) x = let less : suc n - suc k ≡ n - k = omega arith in rw less (drop-same k n x)
+
+-- one number for each of the numbers of a run
+same-from : (s k x : ℕ) → map (λ _. x) (numbersFrom s k) ≡ replicate k x
+unfolding numbersFrom
+same-from s zero x = refl
+same-from s (suc k) x = ap (λ (l : List ℕ). x ∷ l) (same-from (suc s) k x)
+
+pub all-one : (n x : ℕ) → map (λ _. x) (below n) ≡ replicate n x
+unfolding below
+all-one n x = same-from 0 n x

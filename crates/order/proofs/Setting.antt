@@ -1,5 +1,5 @@
--- What the counters go by, and that a sound topology has it: a network within the limits with its arcs in slots, and those of the other ends, its IDs, and a
--- distance of every router.
+-- What the counters go by, and that a sound topology has it: a network within the limits with its arcs in slots, and those of the other ends, and its
+-- IDs.
 -- Assumes nothing.
 use Prim.Native.Nat.{ℕ, _≤_, _<_}
 use mathlib.Core.List.{List}
@@ -10,8 +10,6 @@ use lib.ListN.{length, getD}
 use lib.Seq.{getD-take}
 use Rattle.network.specs.Network.{Network, size, idOf, arcsOf, WellFormed, linked}
 use Rattle.network.specs.Distance.{absent, distanceIn, distances}
-use Rattle.network.specs.Order.{reached}
-use Rattle.network.proofs.NextHop.{path-reached}
 use Rattle.stations.specs.declared.Topology.{Topology}
 use Rattle.stations.specs.Topology.{contents, networkIn, networkOf}
 use Rattle.soundness.specs.Theorems.{SoundNetwork}
@@ -64,11 +62,6 @@ module _ {t : Topology} (w : SoundNetwork t) where
         back = subst (Held (networkBack t) (slotsBack a)) (sym sized) (back-held t (slotsBack a) s (laid .back));
         opposite = subst (Opposite (networkOf t) (networkBack t)) (sym sized) (back-exact t s .arcs);
       }
-
-  pub topology-reached : (d : ℕ) → d < t .routers → (u : ℕ) → u < size (networkOf t) → T (reached (networkOf t) (distances (networkOf t) d) u)
-  topology-reached d d-in u h =
-      let sized = w .routers in
-      path-reached (networkOf t) (w .well-formed) d (omega arith) (w .paths d u d-in (omega arith))
 
   pub topology-ids : (u : ℕ) → u < size (networkOf t) → idOf (networkOf t) u ≡ getD (t .id) u 0
   topology-ids u h = let sized = w .routers in named (omega arith)

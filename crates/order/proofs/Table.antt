@@ -8,18 +8,18 @@ use Rattle.network.specs.Order.{reached, shortestNextHops, leadsInto, ready, ca
 use Rattle.network.specs.Order.{build}
 use Rattle.stations.specs.Outcome.{turnedAway, given}
 use Rattle.stations.specs.Topology.{noLink, padded, contents, held, zeros, seen, networkIn, networkOf}
-use Rattle.soundness.specs.Apart.{apart}
-use Rattle.soundness.specs.Sound.{within, inLimits, wellLinked, uncrowded, none?, connected, isNoLink, unusedZero, slotted, sound}
-use Rattle.order.specs.Calls.{modeOf, building, wrongRanks, unreadyRanks, atFirst, judging, checking}
-use Rattle.order.specs.Table.{answers, holds, link, twoCosts, T-topology, square, directed, costsThere, costsBack, facts, FactsHold}
+use Rattle.soundness.specs.Sound.{within, inLimits, wellLinked, uncrowded, isNoLink, unusedZero, slotted, sound}
+use Rattle.order.specs.Calls.{modeOf, reachedCount, orderBytes, building, wrongRanks, ranksAfter, unreadyRanks, atFirst, judging, checking}
+use Rattle.order.specs.Table.{answers, holds, link, twoCosts, T-topology, square, directed, costsThere, costsBack, cutOff, twoParts, pair}
+use Rattle.order.specs.Table.{facts, FactsHold}
 
 pub facts-hold : FactsHold
 unfolding numbersFrom below keep every any leastBy ahead foremost member distinct sameNumbers wins
     size idOf arcsOf greatestCost arcsAmong linked soundCost soundLink samePair pairsDiffer soundLinks
     absent distanceIn through of-distance.atFirst round rounds distances
     reached shortestNextHops leadsInto ready candidate placedNeighbours preferred select continued placing build
-    turnedAway given noLink padded contents held zeros seen networkIn networkOf apart
-    within inLimits wellLinked uncrowded none? connected isNoLink unusedZero slotted sound
-    modeOf building wrongRanks unreadyRanks atFirst judging checking
-    answers holds link twoCosts T-topology square directed costsThere costsBack facts
+    turnedAway given noLink padded contents held zeros seen networkIn networkOf
+    within inLimits wellLinked uncrowded isNoLink unusedZero slotted sound
+    modeOf reachedCount orderBytes building wrongRanks ranksAfter unreadyRanks atFirst judging checking
+    answers holds link twoCosts T-topology square directed costsThere costsBack cutOff twoParts pair facts
 facts-hold = tt

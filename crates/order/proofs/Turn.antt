@@ -1,16 +1,18 @@
 -- What the functions that place routers share: the slots that they go through are sound, and the standings stay right from turn to turn.
 -- Assumes nothing.
-use Prim.Native.Nat.{ℕ, _%_, _<_}
+use Prim.Native.Nat.{ℕ, _*_, _%_, _≤_, _<_}
 use mathlib.Core.Bool.{not}
 use mathlib.Core.List.{List, [], _∷_, _++_, List·Memᴰ, List·Memᴰ·not-nil}
-use mathlib.Core.Option.{some}
-use mathlib.Core.Path.{_≡_}
+use mathlib.Core.Option.{none, some}
+use mathlib.Core.Path.{_≡_, sym, ap, _∙_}
 use native.Mathlib.Omega.{arith}
-use lib.Dec.{T, leb}
-use lib.ListN.{getD, set, replicate, length-replicate, getD-replicate}
-use Rattle.network.specs.Network.{Network, size}
-use Rattle.network.specs.Distance.{PathTo, distances}
-use Rattle.network.specs.Order.{shortestNextHops, leadsInto, candidate, select}
+use lib.Dec.{T, ltb, leb}
+use lib.ListN.{length, getD, set, replicate, length-replicate, getD-replicate}
+use Rattle.network.specs.Lists.{below, keep}
+use Rattle.network.specs.Network.{Network, size, greatestCost}
+use Rattle.network.specs.Distance.{PathTo, absent, distances}
+use Rattle.network.specs.Order.{reached, shortestNextHops, leadsInto, candidate, select}
+use Rattle.network.proofs.Below.{below-lt}
 use Rattle.network.proofs.NextHop.{zero-at-d, next-nearer}
 use Rattle.stations.specs.declared.Topology.{Topology}
 use Rattle.stations.specs.Topology.{networkOf}
@@ -19,20 +21,20 @@ use Rattle.arcs.specs.declared.Arcs.{Arcs}
 use Rattle.arcs.specs.Arcs.{slotsBack, networkBack}
 use Rattle.order.specs.declared.Mode.{Mode}
 use Rattle.order.specs.declared.Mode.the-variants as mode
-use Rattle.order.specs.Calls.{modeOf}
+use Rattle.order.specs.Calls.{modeOf, reachedCount}
 use Rattle.distances.specs.Settled.{Settled}
-use Rattle.order.specs.Proposed.{DistancesFor, LaidOut}
+use Rattle.order.specs.Proposed.{DistancesFor, LaidOut, Measured}
 use Rattle.distances.specs.Slots.{Slots, AllSlots}
 use Rattle.order.specs.Inner.{waitsFor, Lower, Standing, Highest, Room, Stepped}
-use Rattle.soundness.proofs.Sound.{sound-networks}
+use Rattle.soundness.proofs.Sound.{sound-exact, sound-networks}
 use Rattle.distances.proofs.Slots.{sound-held, back-held, all-slots}
-use Rattle.order.proofs.Keeping.{none-kept}
+use Rattle.order.proofs.Keeping.{keep-same, none-kept}
 use Rattle.order.proofs.Counting.{waiting}
 use Rattle.order.proofs.Setting.{Setting, GoneBy, settled-agrees, topology-setting, topology-ids}
 use Rattle.order.proofs.Stepping.{waits-most}
 use Rattle.order.proofs.Kept.{Kept, kept-start, kept-room, kept-step}
 use Rattle.order.proofs.Ties.{lower-less}
-use Rattle.order.proofs.Chosen.{to-ready, candidate-stands, keys-low, highest-selected}
+use Rattle.order.proofs.Chosen.{to-ready, candidate-stands, keys-low, none-selected, some-selected, highest-selected}
 
 -- distances that are settled serve in either mode, and in free mode zeros do
 pub settled-serve : {n : Network} {d : ℕ} {ds : List ℕ} (m : Mode) → Settled n d ds → DistancesFor n d m ds
@@ -45,6 +47,21 @@ zeros-serve n d =
       long = length-replicate {A = ℕ} 64 0;
       near = λ v h. omega (arith, getD-replicate {A = ℕ} 64 v 0 0 h);
     }
+
+-- with the distances, what either mode needs is there, and as many distances are not absent as ranks are reached
+module _ {t : Topology} {a : Arcs} {d : ℕ} {ds : List ℕ} (g : Measured t a d ds) where
+  pub measured-laid : (m : Mode) → LaidOut t a d m ds
+  measured-laid m = record { is-sound = g .is-sound; holds = g .holds; place = g .place; for-mode = settled-serve m (g .settled) }
+
+  pub counts-reached : length (keep (λ v. ltb (getD ds v 0) (t .routers * 65536)) (below (t .routers))) ≡ reachedCount (networkOf t) d
+  unfolding reachedCount reached absent greatestCost
+  counts-reached =
+      let known = sound-networks t (g .is-sound) in
+      let few = sound-exact t .0 (g .is-sound) .routers-most in
+      ap (λ (k : ℕ). length (keep (λ v. ltb (getD ds v 0) (k * 65536)) (below k))) (sym (known .routers))
+      ∙ ap length
+      (keep-same (λ v. ltb (getD ds v 0) (size (networkOf t) * 65536)) (reached (networkOf t) (distances (networkOf t) d)) (below (size (networkOf t)))
+      (λ v k. ap (λ (x : ℕ). ltb x (size (networkOf t) * 65536)) (sym (settled-agrees (omega (arith, known .routers)) (g .settled) v (below-lt _ k)))))
 
 module _ {t : Topology} {a : Arcs} {d : ℕ} {m : Mode} {ds : List ℕ} (g : LaidOut t a d m ds) where
   pub facts : SoundNetwork t
@@ -100,28 +117,37 @@ module _ {t : Topology} {a : Arcs} {d : ℕ} {m : Mode} {ds : List ℕ} (g : Lai
     small-in : (u : ℕ) → u < size (networkOf t) → getD lower u 0 < 64
     small-in u h = small u (omega (arith, facts .routers))
 
-    paths : (u : ℕ) → u < size (networkOf t) → PathTo (networkOf t) d u
-    paths u h = facts .paths d u (g .place) (omega (arith, facts .routers))
-
     pub candidate-waits : (u : ℕ) → T (candidate (networkOf t) (distances (networkOf t) d) (modeOf m) placed u) →
         waitsFor m (waiting (networkOf t) (distances (networkOf t) d) placed u) ≡ 0
-    candidate-waits u c = to-ready (facts .well-formed) (inside (g .place)) paths (setting .few) small-in kept u c .waits
-
-    pub is-candidate : List·Memᴰ d placed → {u : ℕ} → u < t .routers →
-        leb 17472 (getD keys u 0) ≡ candidate (networkOf t) (distances (networkOf t) d) (modeOf m) placed u
-    is-candidate first h = candidate-stands (facts .well-formed) (inside (g .place)) paths (setting .few) small-in kept first _ (inside h)
+    candidate-waits u c = to-ready (facts .well-formed) (inside (g .place)) (setting .few) small-in kept u c .waits
 
     pub standings-low : (u : ℕ) → u < t .routers → getD keys u 0 < 32768
-    standings-low u h = keys-low (facts .well-formed) (inside (g .place)) paths (setting .few) small-in kept u (inside h)
+    standings-low u h = keys-low (facts .well-formed) (inside (g .place)) (setting .few) small-in kept u (inside h)
 
-    -- ties are decided as by the IDs, so the one that is selected stands highest
-    pub top-selected : Lower (t .id) (t .routers) lower → {w best : ℕ} →
-        select (networkOf t) (distances (networkOf t) d) (modeOf m) placed ≡ some w → Highest keys (t .routers) best → best % 64 ≡ getD lower w 0
-    top-selected l e top =
-        highest-selected (facts .well-formed) (inside (g .place)) paths (setting .few) small-in kept
-        (λ u v h k less.
-        lower-less l u v (omega (arith, facts .routers)) (omega (arith, facts .routers)) (rw (topology-ids facts u h, topology-ids facts v k) at less)) e
-        (rw (facts .routers) top)
+    -- d is placed, and only routers that have a path are
+    module _ (first : List·Memᴰ d placed) (paths : (u : ℕ) → List·Memᴰ u placed → PathTo (networkOf t) d u) where
+      pub is-candidate : {u : ℕ} → u < t .routers →
+          leb 17472 (getD keys u 0) ≡ candidate (networkOf t) (distances (networkOf t) d) (modeOf m) placed u
+      is-candidate h = candidate-stands (facts .well-formed) (inside (g .place)) (setting .few) small-in kept first paths _ (inside h)
+
+      module _ {best : ℕ} (top : Highest keys (t .routers) best) where
+        own-top : Highest keys (size (networkOf t)) best
+        own-top = rw (facts .routers) top
+
+        pub none-left : best < 17472 → select (networkOf t) (distances (networkOf t) d) (modeOf m) placed ≡ none
+        none-left = none-selected (facts .well-formed) (inside (g .place)) (setting .few) small-in kept first paths own-top
+
+        pub some-left : 17472 ≤ best → (w : ℕ) × (select (networkOf t) (distances (networkOf t) d) (modeOf m) placed ≡ some w)
+        some-left = some-selected (facts .well-formed) (inside (g .place)) (setting .few) small-in kept first paths own-top
+
+        -- ties are decided as by the IDs, so the one that is selected stands highest
+        pub top-selected : Lower (t .id) (t .routers) lower → {w : ℕ} →
+            select (networkOf t) (distances (networkOf t) d) (modeOf m) placed ≡ some w → best % 64 ≡ getD lower w 0
+        top-selected l e =
+            highest-selected (facts .well-formed) (inside (g .place)) (setting .few) small-in kept first paths
+            (λ u v h k less.
+            lower-less l u v (omega (arith, facts .routers)) (omega (arith, facts .routers)) (rw (topology-ids facts u h, topology-ids facts v k) at less)) e
+            own-top
 
     module _ {u : ℕ} (h : u < t .routers) (out : List·Memᴰ u placed → ⊥)
         (ready : waitsFor m (waiting (networkOf t) (distances (networkOf t) d) placed u) ≡ 0) where

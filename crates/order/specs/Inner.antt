@@ -1,17 +1,20 @@
--- What the private functions ask of the slots that they go through, and what they make of them; only they rest on it, no open contract does.
+-- What the private functions ask of the slots and orders that they go through, and what they make of them; only they rest on it, no open contract does.
 -- Router u has the slots from u * mostNeighbours on.
 -- Assumes nothing.
 use Prim.Native.Nat.{ℕ, _+_, _*_, _≤_, _<_}
 use mathlib.Core.Bool.{Bool, cond, _&&_}
-use mathlib.Core.List.{List}
+use mathlib.Core.List.{List, []}
 use mathlib.Core.Path.{_≡_}
-use lib.Dec.{eqb, ltb}
+use lib.Dec.{T, eqb, ltb}
 use lib.ListN.{length, getD}
 use Rattle.network.specs.Lists.{below, keep}
 use Rattle.stations.specs.Limits.{mostRouters, mostNeighbours}
+use Rattle.stations.specs.declared.Topology.{Topology}
+use Rattle.soundness.specs.Sound.{sound}
 use Rattle.order.specs.declared.Mode.{Mode}
 use Rattle.order.specs.declared.Mode.the-variants as mode
 use Rattle.distances.specs.Slots.{slotTo, slotCost}
+use Rattle.order.specs.Calls.{wrongRanks}
 
 -- slot j of u leads to a shortest next hop
 unfoldable pub slotShort : List ℕ → List ℕ → List ℕ → ℕ → ℕ → Bool
@@ -76,3 +79,11 @@ pub record Room (keys to back ds : List ℕ) (m : Mode) (u count : ℕ) : Type 0
 pub record Stepped (keys to back ds : List ℕ) (m : Mode) (u count : ℕ) (r : List ℕ) : Type 0 where
   pub long : length r ≡ mostRouters
   pub each : (v : ℕ) → v < mostRouters → getD r v 0 ≡ after keys to back ds m u count v
+
+-- places of a sound topology, none twice, of which d is the first
+pub record Begins (t : Topology) (d : ℕ) (order : List ℕ) : Type 0 where
+  pub on-sound : T (sound t)
+  pub place : d < t .routers
+  pub some-rank : 1 ≤ length order
+  pub once : wrongRanks (t .routers) order ≡ []
+  pub first : getD order 0 0 ≡ d

@@ -1,7 +1,7 @@
 -- What the open contracts of `unchecked` ask of arcs, distances and orders, and promise of distances and ranks.
 -- Assumes nothing.
 use Prim.Native.Nat.{ℕ, _≤_, _<_}
-use mathlib.Core.List.{List, [], List·Memᴰ}
+use mathlib.Core.List.{List, List·Memᴰ}
 use mathlib.Core.Path.{_≡_}
 use lib.Dec.{T}
 use lib.ListN.{length, getD, take}
@@ -16,12 +16,13 @@ use Rattle.soundness.specs.Sound.{sound}
 use Rattle.arcs.specs.declared.Arcs.{Arcs}
 use Rattle.arcs.specs.Arcs.{inSlots, Laid}
 use Rattle.distances.specs.Slots.{farthest}
+use Rattle.distances.specs.Settled.{Settled}
 use Rattle.order.specs.declared.Mode.{Mode}
 use Rattle.order.specs.declared.Mode.the-variants as mode
 use Rattle.order.specs.declared.unchecked.Ranks.{Ranks}
-use Rattle.order.specs.Calls.{wrongRanks}
 
--- what a mode needs of distances: shortest-path mode those to d, by place, free mode only that none is more than absent can be
+-- what a mode needs of distances to build an order: shortest-path mode those to d, by place, free mode only that none is more than absent can be; to judge
+-- one both need those to d (`Measured`)
 pub record DistancesFor (n : Network) (d : ℕ) (m : Mode) (ds : List ℕ) : Type 0 where
   pub first : m ≡ mode.ShortestPath → take (size n) ds ≡ distances n d
   pub long : length ds ≡ mostRouters
@@ -41,21 +42,20 @@ pub record Lent (t : Topology) (counts to cost back ids : List ℕ) (n d : ℕ) 
   pub ids-are : t .id ≡ ids
   pub routers-are : t .routers ≡ n
 
--- a proposed order that has a sound topology's length, holds each place once, and begins with d
-pub record Proposed (t : Topology) (d : ℕ) (order : List ℕ) : Type 0 where
-  pub on-sound : T (sound t)
+-- a sound topology with its arcs laid out, a place of it as destination, and the distances to it
+pub record Measured (t : Topology) (a : Arcs) (d : ℕ) (ds : List ℕ) : Type 0 where
+  pub is-sound : T (sound t)
+  pub holds : Laid t a
   pub place : d < t .routers
-  pub long : length order ≡ t .routers
-  pub once : wrongRanks (t .routers) order ≡ []
-  pub first : getD order 0 0 ≡ d
+  pub settled : Settled (networkOf t) d ds
 
 -- an order of places, none twice
 pub record Ranked (order : List ℕ) : Type 0 where
   pub places : (u : ℕ) → List·Memᴰ u order → u < mostRouters
   pub once : Distinct order
 
--- for each place that the order holds its rank, for every other 0
+-- for each place that the order holds its rank, for every other 255: it has no rank
 pub record RanksOf (order : List ℕ) (r : Ranks) : Type 0 where
   pub long : length (r .by) ≡ mostRouters
   pub ranks : (u : ℕ) → List·Memᴰ u order → getD (r .by) u (record { 0 = 0 }) .0 ≡ rank order u
-  pub others : (u : ℕ) → u < mostRouters → (List·Memᴰ u order → ⊥) → getD (r .by) u (record { 0 = 0 }) .0 ≡ 0
+  pub others : (u : ℕ) → u < mostRouters → (List·Memᴰ u order → ⊥) → getD (r .by) u (record { 0 = 0 }) .0 ≡ 255

@@ -58,6 +58,17 @@ costsThere = held (record { ids = 1 ∷ 2 ∷ 3 ∷ []; links = link 0 1 2 ∷ l
 unfoldable pub costsBack : Topology
 costsBack = held (record { ids = 1 ∷ 2 ∷ 3 ∷ []; links = link 0 1 1 ∷ link 0 2 3 ∷ link 2 1 1 ∷ []; limit = 3 })
 
+-- 02, #107: T with a fourth router that has no link; two pairs apart; and two routers with no link. For a destination only the routers of its own part are
+-- reached: three of `cutOff` for destination 0, and one for destination 3.
+unfoldable pub cutOff : Topology
+cutOff = held (record { ids = 1 ∷ 2 ∷ 3 ∷ 4 ∷ []; links = link 0 1 1 ∷ link 1 2 1 ∷ link 0 2 3 ∷ []; limit = 3 })
+
+unfoldable pub twoParts : Topology
+twoParts = held (record { ids = 1 ∷ 2 ∷ 3 ∷ 4 ∷ []; links = link 0 1 1 ∷ link 2 3 1 ∷ []; limit = 3 })
+
+unfoldable pub pair : Topology
+pair = held (record { ids = 1 ∷ 2 ∷ []; links = []; limit = 3 })
+
 -- By number of the refusal, each beside one that is tested later; then the calls that succeed. 170 is what the buffers hold.
 unfoldable pub facts : List Fact
 facts =
@@ -67,26 +78,51 @@ facts =
     ∷ checks T-topology 3 mode.ShortestPath (0 ∷ 1 ∷ 2 ∷ []) 15 3
     ∷ checks T-topology 255 mode.Free [] 15 255
     ∷ builds T-topology 3 mode.ShortestPath [] 15 3 []
+    ∷ checks cutOff 4 mode.Free (0 ∷ 1 ∷ 2 ∷ []) 15 4
     ∷ checks T-topology 0 mode.ShortestPath (0 ∷ 1 ∷ []) 17 2
     ∷ checks T-topology 0 mode.ShortestPath (0 ∷ 0 ∷ 0 ∷ 0 ∷ []) 17 4
     ∷ checks T-topology 0 mode.Free [] 17 0
+    ∷ checks cutOff 0 mode.ShortestPath (0 ∷ 1 ∷ 2 ∷ []) 17 3
+    ∷ checks cutOff 0 mode.Free (0 ∷ 1 ∷ 1 ∷ []) 17 3
     ∷ checks T-topology 0 mode.ShortestPath (0 ∷ 1 ∷ 1 ∷ []) 18 2
     ∷ checks T-topology 0 mode.ShortestPath (0 ∷ 3 ∷ 0 ∷ []) 18 1
     ∷ checks T-topology 0 mode.ShortestPath (1 ∷ 1 ∷ 0 ∷ []) 18 1
+    ∷ checks cutOff 0 mode.ShortestPath (0 ∷ 255 ∷ 1 ∷ 2 ∷ []) 18 1
+    ∷ checks cutOff 0 mode.Free (0 ∷ 1 ∷ 255 ∷ 255 ∷ []) 18 2
+    ∷ checks cutOff 0 mode.ShortestPath (0 ∷ 1 ∷ 1 ∷ 3 ∷ []) 18 2
+    ∷ checks cutOff 0 mode.ShortestPath (0 ∷ 1 ∷ 2 ∷ 3 ∷ []) 18 3
+    ∷ checks cutOff 0 mode.Free (0 ∷ 2 ∷ 1 ∷ 4 ∷ []) 18 3
+    ∷ checks cutOff 0 mode.ShortestPath (1 ∷ 0 ∷ 2 ∷ 3 ∷ []) 18 3
+    ∷ checks cutOff 0 mode.ShortestPath (0 ∷ 2 ∷ 1 ∷ 3 ∷ []) 18 3
+    ∷ checks cutOff 0 mode.Free (0 ∷ 3 ∷ 1 ∷ 2 ∷ []) 18 3
+    ∷ checks cutOff 3 mode.Free (255 ∷ 255 ∷ 255 ∷ 255 ∷ []) 18 0
+    ∷ checks pair 0 mode.Free (0 ∷ 1 ∷ []) 18 1
+    ∷ checks twoParts 0 mode.ShortestPath (2 ∷ 3 ∷ 0 ∷ 1 ∷ []) 18 2
     ∷ checks T-topology 0 mode.ShortestPath (1 ∷ 0 ∷ 2 ∷ []) 19 0
     ∷ checks T-topology 0 mode.ShortestPath (2 ∷ 1 ∷ 0 ∷ []) 19 0
+    ∷ checks cutOff 0 mode.ShortestPath (2 ∷ 1 ∷ 0 ∷ 255 ∷ []) 19 0
+    ∷ checks cutOff 0 mode.Free (3 ∷ 0 ∷ 1 ∷ 255 ∷ []) 19 0
+    ∷ checks twoParts 0 mode.ShortestPath (2 ∷ 3 ∷ 255 ∷ 255 ∷ []) 19 0
     ∷ checks T-topology 0 mode.ShortestPath (0 ∷ 2 ∷ 1 ∷ []) 20 1
     ∷ checks square 0 mode.ShortestPath (0 ∷ 2 ∷ 3 ∷ 1 ∷ []) 20 2
     ∷ checks square 0 mode.Free (0 ∷ 3 ∷ 2 ∷ 1 ∷ []) 20 1
     ∷ checks directed 2 mode.ShortestPath (2 ∷ 0 ∷ 1 ∷ []) 20 1
     ∷ checks costsThere 0 mode.ShortestPath (0 ∷ 2 ∷ 1 ∷ []) 20 1
     ∷ checks costsBack 0 mode.ShortestPath (0 ∷ 2 ∷ 1 ∷ []) 20 1
+    ∷ checks cutOff 0 mode.ShortestPath (0 ∷ 1 ∷ 3 ∷ 255 ∷ []) 20 2
+    ∷ checks cutOff 0 mode.Free (0 ∷ 3 ∷ 1 ∷ 255 ∷ []) 20 1
+    ∷ checks cutOff 0 mode.ShortestPath (0 ∷ 2 ∷ 1 ∷ 255 ∷ []) 20 1
     ∷ builds T-topology 0 mode.ShortestPath (170 ∷ 170 ∷ []) 24 3 (170 ∷ 170 ∷ [])
+    ∷ builds cutOff 0 mode.ShortestPath (170 ∷ 170 ∷ 170 ∷ []) 24 4 (170 ∷ 170 ∷ 170 ∷ [])
     ∷ checks T-topology 0 mode.ShortestPath (0 ∷ 1 ∷ 2 ∷ []) 0 0
     ∷ checks T-topology 0 mode.Free (0 ∷ 2 ∷ 1 ∷ []) 0 0
     ∷ checks square 0 mode.ShortestPath (0 ∷ 1 ∷ 2 ∷ 3 ∷ []) 0 0
     ∷ checks square 0 mode.Free (0 ∷ 2 ∷ 3 ∷ 1 ∷ []) 0 0
     ∷ checks directed 0 mode.ShortestPath (0 ∷ 2 ∷ 1 ∷ []) 0 0
+    ∷ checks cutOff 0 mode.ShortestPath (0 ∷ 1 ∷ 2 ∷ 255 ∷ []) 0 0
+    ∷ checks cutOff 0 mode.Free (0 ∷ 2 ∷ 1 ∷ 255 ∷ []) 0 0
+    ∷ checks cutOff 3 mode.ShortestPath (3 ∷ 255 ∷ 255 ∷ 255 ∷ []) 0 0
+    ∷ checks twoParts 3 mode.Free (3 ∷ 2 ∷ 255 ∷ 255 ∷ []) 0 0
     ∷ builds T-topology 0 mode.ShortestPath (170 ∷ 170 ∷ 170 ∷ []) 0 3 (0 ∷ 1 ∷ 2 ∷ [])
     ∷ builds T-topology 0 mode.Free (170 ∷ 170 ∷ 170 ∷ 170 ∷ []) 0 3 (0 ∷ 2 ∷ 1 ∷ 170 ∷ [])
     ∷ builds square 0 mode.ShortestPath (170 ∷ 170 ∷ 170 ∷ 170 ∷ []) 0 4 (0 ∷ 2 ∷ 1 ∷ 3 ∷ [])
@@ -95,6 +131,12 @@ facts =
     ∷ builds costsBack 0 mode.ShortestPath (170 ∷ 170 ∷ 170 ∷ []) 0 3 (0 ∷ 1 ∷ 2 ∷ [])
     ∷ builds directed 1 mode.ShortestPath (170 ∷ 170 ∷ 170 ∷ []) 0 3 (1 ∷ 0 ∷ 2 ∷ [])
     ∷ builds directed 2 mode.ShortestPath (170 ∷ 170 ∷ 170 ∷ []) 0 3 (2 ∷ 1 ∷ 0 ∷ [])
+    ∷ builds cutOff 0 mode.ShortestPath (170 ∷ 170 ∷ 170 ∷ 170 ∷ []) 0 4 (0 ∷ 1 ∷ 2 ∷ 255 ∷ [])
+    ∷ builds cutOff 0 mode.Free (170 ∷ 170 ∷ 170 ∷ 170 ∷ 170 ∷ []) 0 4 (0 ∷ 2 ∷ 1 ∷ 255 ∷ 170 ∷ [])
+    ∷ builds cutOff 3 mode.Free (170 ∷ 170 ∷ 170 ∷ 170 ∷ 170 ∷ []) 0 4 (3 ∷ 255 ∷ 255 ∷ 255 ∷ 170 ∷ [])
+    ∷ builds twoParts 0 mode.ShortestPath (170 ∷ 170 ∷ 170 ∷ 170 ∷ []) 0 4 (0 ∷ 1 ∷ 255 ∷ 255 ∷ [])
+    ∷ builds twoParts 3 mode.Free (170 ∷ 170 ∷ 170 ∷ 170 ∷ 170 ∷ []) 0 4 (3 ∷ 2 ∷ 255 ∷ 255 ∷ 170 ∷ [])
+    ∷ builds pair 0 mode.ShortestPath (170 ∷ 170 ∷ []) 0 2 (0 ∷ 255 ∷ [])
     ∷ []
 
 -- The one statement: every fact of the list holds, by computing it.

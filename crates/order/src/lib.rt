@@ -60,6 +60,6 @@ pub fn check(t: Topology, destination: Place, mode: Mode, order: &[u8]) -> Answe
         return Answer { number: 15, at: d };
     }
     let a = arcs::unchecked::of(t);
-    let ds = unchecked::distances_for(&a.count, &a.to, &a.back, t.routers, destination, mode);
+    let ds = distances::unchecked::to(&a.count, &a.to, &a.back, t.routers, destination);
     unchecked::judge(t, a, ds, destination, mode, order)
 }

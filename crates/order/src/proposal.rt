@@ -10,8 +10,9 @@ ghost use lib.ListN.{length};
 ghost use Rattle.stations.specs.Limits.{mostRouters};
 ghost use Rattle.stations.specs.Topology.{networkOf};
 ghost use Rattle.stations.specs.Inner.{firstOr};
-ghost use Rattle.order.specs.Calls.{modeOf, wrongRanks, unreadyRanks};
-ghost use Rattle.order.specs.Proposed.{LaidOut, Proposed};
+ghost use Rattle.order.specs.Calls.{modeOf, wrongRanks, ranksAfter, unreadyRanks};
+ghost use Rattle.order.specs.Proposed.{LaidOut};
+ghost use Rattle.order.specs.Inner.{Begins};
 
 // The first rank whose entry is not below n or stands before; the order's length where there is none.
 pub(crate) fn wrong_rank(n: usize, order: &[u8]) -> usize
@@ -34,7 +35,22 @@ pub(crate) fn wrong_rank(n: usize, order: &[u8]) -> usize
     rank
 }
 
-// The first rank, but 0, whose router is no candidate when placed; the number of routers where there is none.
+// The first rank from `reached` on whose entry is anything but 255; the order's length where there is none.
+pub(crate) fn rank_after(reached: usize, order: &[u8]) -> usize
+    requires { ⌜ reached ≤ length (now order) ⌝ }
+    ensures { λ r. ⌜ r ≡ firstOr (length (now (order .entry))) (ranksAfter reached (now (order .entry))) ⌝ }
+{
+    let mut rank = reached;
+    while rank < order.len() {
+        if order[rank] != 255 {
+            return rank;
+        }
+        rank += 1;
+    }
+    rank
+}
+
+// The first rank, but 0, whose router is no candidate when placed; the order's length where there is none.
 pub(crate) fn unready_rank(
     t: Topology,
     a: Arcs,
@@ -43,8 +59,8 @@ pub(crate) fn unready_rank(
     mode: Mode,
     order: &[u8],
 ) -> usize
-    requires { ⌜ LaidOut t a d mode ds × Proposed t d (now order) ⌝ }
-    ensures { λ r. ⌜ r ≡ firstOr (t .routers) (unreadyRanks (networkOf t) d (modeOf mode) (now (order .entry))) ⌝ }
+    requires { ⌜ LaidOut t a d mode ds × Begins t d (now order) ⌝ }
+    ensures { λ r. ⌜ r ≡ firstOr (length (now (order .entry))) (unreadyRanks (networkOf t) d (modeOf mode) (now (order .entry))) ⌝ }
 {
     // Ties are not decided here, so no lower IDs are counted.
     let lower = [0u32; ROUTERS];
@@ -52,7 +68,7 @@ pub(crate) fn unready_rank(
     let count = a.count[d] as usize;
     placing::count_in(&mut keys, mode, &a.to, &a.back, &ds, d, count);
     let mut rank: usize = 1;
-    while rank < t.routers {
+    while rank < order.len() {
         let u = order[rank] as usize;
         if !placing::is_candidate(keys[u]) {
             return rank;

@@ -12,16 +12,20 @@ use stations::Rank;
 use stations::Topology;
 ghost use mathlib.Core.List.{_++_};
 ghost use mathlib.Core.Path.{_≡_};
-ghost use Prim.Native.Nat.{_<_, _≤_};
-ghost use lib.ListN.{length, getD, drop};
+ghost use Prim.Native.Nat.{_*_, _<_, _≤_};
+ghost use lib.Dec.{ltb};
+ghost use lib.ListN.{length, getD, drop, replicate};
+ghost use Rattle.network.specs.Lists.{below, keep};
 ghost use Rattle.network.specs.Order as «said-order»;
+ghost use Rattle.stations.specs.Limits.{mostRouters};
 ghost use Rattle.stations.specs.declared.Topology.{Topology};
 ghost use Rattle.stations.specs.Topology.{networkOf};
-ghost use Rattle.order.specs.Calls.{modeOf, judging};
+ghost use Rattle.order.specs.Calls.{modeOf, orderBytes, judging};
 ghost use Rattle.distances.specs.Settled.{LaidIn};
-ghost use Rattle.order.specs.Proposed.{DistancesFor, LaidOut, Lent, Ranked, RanksOf};
+ghost use Rattle.order.specs.Proposed.{DistancesFor, Measured, Lent, Ranked, RanksOf};
 
-// What the mode needs of distances: in shortest-path mode the distances, in free mode none, so zeros.
+// What the mode needs of distances to build an order: in shortest-path mode the distances, in free mode none, so zeros. Judging one needs the distances in
+// both modes, for how many ranks are reached.
 pub fn distances_for<'a>(
     counts: &'a [u8; ROUTERS],
     to: &'a [u8; SLOTS],
@@ -39,7 +43,20 @@ pub fn distances_for<'a>(
     }
 }
 
-// The order for the destination, into the first bytes of the slice. All that is read is lent, so that nothing is copied.
+// 255, which is no place, into the first n bytes.
+fn clear(out: &mut [u8], n: usize)
+    requires { ⌜ n ≤ length (now out) ⌝ }
+    ensures { λ _. ⌜ now (out .exit) ≡ replicate n 255 ++ drop n (now (out .entry)) ⌝ }
+{
+    let mut i: usize = 0;
+    while i < n {
+        out[i] = 255;
+        i += 1;
+    }
+}
+
+// The order for the destination, into the first bytes of the slice: the routers that have a path to it, then 255. All that is read is lent, so that
+// nothing is copied.
 pub fn build<'a>(
     counts: &'a [u8; ROUTERS],
     to: &'a [u8; SLOTS],
@@ -53,7 +70,7 @@ pub fn build<'a>(
     out: &mut [u8],
 )
     requires { ⌜ ((t : Topology) × Lent t (now counts) (now to) (now cost) (now back) (now ids) n (destination .0) mode (now ds)) × (n ≤ length (now out)) ⌝ }
-    ensures { λ _. ⌜ ((t : Topology) → Lent t (now (counts .entry)) (now (to .entry)) (now (cost .entry)) (now (back .entry)) (now (ids .entry)) n (destination .0) mode (now (ds .entry)) → now (out .exit) ≡ «said-order».build (networkOf t) (destination .0) (modeOf mode) ++ drop n (now (out .entry))) ⌝ }
+    ensures { λ _. ⌜ ((t : Topology) → Lent t (now (counts .entry)) (now (to .entry)) (now (cost .entry)) (now (back .entry)) (now (ids .entry)) n (destination .0) mode (now (ds .entry)) → now (out .exit) ≡ orderBytes n («said-order».build (networkOf t) (destination .0) (modeOf mode)) ++ drop n (now (out .entry))) ⌝ }
 {
     let d = destination.index();
     let lower = placing::lower_ids(ids, n);
@@ -61,10 +78,14 @@ pub fn build<'a>(
     let mut keys = placing::standings(counts, to, cost, ds, &lower, n, mode);
     let count = counts[d] as usize;
     placing::count_in(&mut keys, mode, to, back, ds, d, count);
+    clear(out, n);
     out[0] = destination.0;
     let mut rank: usize = 1;
     while rank < n {
         let best = placing::highest(&keys, n);
+        if !placing::is_candidate(best) {
+            return;
+        }
         let place = places[(best % placing::NEAR) as usize];
         let u = place as usize;
         let count = counts[u] as usize;
@@ -72,6 +93,23 @@ pub fn build<'a>(
         out[rank] = place;
         rank += 1;
     }
+}
+
+// How many of the first n routers have a distance, by place: as many have a path to the destination (02, #107).
+pub fn reached_count<'a>(ds: &'a [u32; ROUTERS], n: usize) -> usize
+    requires { ⌜ n ≤ mostRouters ⌝ }
+    ensures { λ r. ⌜ r ≡ length (keep (λ v. ltb (getD (now (ds .entry)) v 0) (n * 65536)) (below n)) ⌝ }
+{
+    let absent = n as u32 * distances::unchecked::STEP;
+    let mut count: usize = 0;
+    let mut v: usize = 0;
+    while v < n {
+        if ds[v] < absent {
+            count += 1;
+        }
+        v += 1;
+    }
+    count
 }
 
 // Whether a proposed order is accepted: refusals 17 to 20.
@@ -83,7 +121,7 @@ pub fn judge(
     mode: Mode,
     order: &[u8],
 ) -> Answer
-    requires { ⌜ LaidOut t a (destination .0) mode ds ⌝ }
+    requires { ⌜ Measured t a (destination .0) ds ⌝ }
     ensures { λ r. ⌜ r ≡ judging t (destination .0) mode (now (order .entry)) ⌝ }
 {
     let n = t.routers;
@@ -93,18 +131,26 @@ pub fn judge(
             at: order.len(),
         };
     }
-    let wrong = proposal::wrong_rank(n, order);
-    if wrong < n {
+    let reached = reached_count(&ds, n);
+    let wrong = proposal::wrong_rank(n, &order[..reached]);
+    if wrong < reached {
         return Answer {
             number: 18,
             at: wrong,
         };
     }
+    let ranked = proposal::rank_after(reached, order);
+    if ranked < n {
+        return Answer {
+            number: 18,
+            at: ranked,
+        };
+    }
     if order[0] != destination.0 {
         return Answer { number: 19, at: 0 };
     }
-    let unready = proposal::unready_rank(t, a, ds, destination.index(), mode, order);
-    if unready < n {
+    let unready = proposal::unready_rank(t, a, ds, destination.index(), mode, &order[..reached]);
+    if unready < reached {
         return Answer {
             number: 20,
             at: unready,
@@ -113,16 +159,18 @@ pub fn judge(
     Answer { number: 0, at: 0 }
 }
 
-// The rank of every place in an order, 0 for a place that it does not hold: the way from a place to a rank.
+// The rank of every place in an order, 255 for a place that it does not hold, which has no rank: the way from a place to a rank. No place has 255 as its
+// rank, since an order holds at most 64 places; so a place with no rank compares as behind every place that has one.
 pub struct Ranks {
     pub by: [Rank; ROUTERS],
 }
 
+// The order holds places alone, no 255s; every place but those keeps the 255 that it starts with.
 pub fn ranks_of(order: &[u8]) -> Ranks
     requires { ⌜ Ranked (now order) ⌝ }
     ensures { λ r. ⌜ RanksOf (now (order .entry)) r ⌝ }
 {
-    let mut by = [Rank(0); ROUTERS];
+    let mut by = [Rank(255); ROUTERS];
     let n = order.len();
     let mut rank: usize = 0;
     while rank < n {
@@ -131,13 +179,4 @@ pub fn ranks_of(order: &[u8]) -> Ranks
         rank += 1;
     }
     Ranks { by: by }
-}
-
-// The place that has the rank: the way from a rank to a place.
-pub fn place_at(order: &[u8], rank: Rank) -> Place
-    requires { ⌜ rank .0 < length (now order) ⌝ }
-    ensures { λ r. ⌜ r .0 ≡ getD (now (order .entry)) (rank .0) 0 ⌝ }
-{
-    let at = rank.0 as usize;
-    Place(order[at])
 }

@@ -9,14 +9,13 @@ use lib.Dec.{eqb}
 use lib.ListN.{length}
 use Rattle.stations.specs.declared.Half.{Half}
 use Rattle.stations.specs.Topology.{Contents}
-use Rattle.soundness.specs.Apart.{apart}
 use Rattle.soundness.specs.Sound.{within}
 use Rattle.records.specs.declared.Reading.{Reading}
 use Rattle.records.specs.declared.Record.{Record}
 use Rattle.records.specs.declared.Record.the-variants as record-of
 use Rattle.records.specs.Halves.{Listing}
 use Rattle.records.specs.Stream.{records}
-use Rattle.records.specs.Reading.{refusal, fault, withLimit, added, width, isEnd, joined, ended, unless, some?, inTurn, nothingListed, reading}
+use Rattle.records.specs.Reading.{refusal, accepted, fault, withLimit, added, width, isEnd, ended, unless, some?, inTurn, nothingListed, reading}
 use Rattle.records.proofs.InTurn.{next-limit, next-end, goes-on}
 use Rattle.topology.specs.Written.{joinedOver, routerBytes, halfBytes}
 use Rattle.topology.proofs.Joined.{joined-behind}
@@ -108,8 +107,7 @@ same-end : (c : Contents) (at : ℕ) → ended false 0 c .answer .number ≡ 0 �
 unfolding ended refusal
 same-end c at = cases (eqb (length (c .ids)) 0)
   where
-    cases : (b : Bool) → cond b (refusal 12 0) (joined c (apart c)) .answer .number ≡ 0 →
-        cond b (refusal 12 0) (joined c (apart c)) ≡ cond b (refusal 12 at) (joined c (apart c))
+    cases : (b : Bool) → cond b (refusal 12 0) (accepted c) .answer .number ≡ 0 → cond b (refusal 12 0) (accepted c) ≡ cond b (refusal 12 at) (accepted c)
     cases true e = absurd (omega (arith, e))
     cases false e = refl
 

@@ -16,11 +16,10 @@ use Rattle.network.specs.Lists.{any, keep, member, Pairwise}
 use Rattle.network.proofs.Lists.{member-mem, mem-keep}
 use Rattle.network.proofs.Tests.{truth, as-true, as-false}
 use Rattle.stations.specs.declared.Half.{Half}
-use Rattle.soundness.specs.Apart.{apart}
 use Rattle.records.specs.declared.Reading.{Reading}
 use Rattle.records.specs.declared.Record.the-variants as record-of
 use Rattle.records.specs.Halves.{Listing, linkHalves, halves, sameHalf, opposite}
-use Rattle.records.specs.Reading.{refusal, accepted, routerFault, repeated, crowded, halvesFault, fault, withRouter, added, joined, ended, unless, nothingListed}
+use Rattle.records.specs.Reading.{refusal, accepted, routerFault, repeated, crowded, halvesFault, fault, withRouter, added, ended, unless, nothingListed}
 use Rattle.records.specs.Theorems.{Bytes}
 use Rattle.records.proofs.Halves.{total, one, total-append, total-none, adds-last}
 use Rattle.records.proofs.Opposite.{same-places, Once, adds-half}
@@ -37,7 +36,7 @@ use Rattle.ospf.proofs.Verdict.{Verdict, in-26, in-27, in-turn, at-end,
 use Rattle.ospf.proofs.Plain.{half-plain, id-fits, lsa-bytes}
 
 abbrev Met : ℕ → Type 0
-Met n = T (member n (0 ∷ 3 ∷ 4 ∷ 6 ∷ 7 ∷ 9 ∷ 10 ∷ 12 ∷ 13 ∷ 26 ∷ 27 ∷ []))
+Met n = T (member n (0 ∷ 3 ∷ 4 ∷ 6 ∷ 7 ∷ 9 ∷ 10 ∷ 12 ∷ 26 ∷ 27 ∷ []))
 
 -- by a test and the tests after it
 either : (b : Bool) (n rest : ℕ) → Met n → Met rest → Met (cond b n rest)
@@ -50,13 +49,12 @@ met-unless zero at r m rest = rest refl
 met-unless (suc number) at r m rest = m
 
 met-last : (p : Listing) → Met (atLast p .answer .number)
-unfolding atLast ended joined refusal accepted member any
-met-last p = cases (eqb (length (p .contents .ids)) 0) (apart (p .contents))
+unfolding atLast ended refusal accepted member any
+met-last p = cases (eqb (length (p .contents .ids)) 0)
   where
-    cases : (b : Bool) (us : List ℕ) → Met (cond b (refusal 12 0) (joined (p .contents) us) .answer .number)
-    cases true us = tt
-    cases false [] = tt
-    cases false (u ∷ us) = tt
+    cases : (b : Bool) → Met (cond b (refusal 12 0) (accepted (p .contents)) .answer .number)
+    cases true = tt
+    cases false = tt
 
 met-router : (p : Listing) (id : ℕ) → Met (fault p (record-of.Router id))
 unfolding fault routerFault member any

@@ -7,21 +7,15 @@ use mathlib.Core.Logic.{_≢_}
 use mathlib.Core.Path.{_≡_, refl, sym, ap, subst, _∙_}
 use native.Mathlib.Decide.{decLt}
 use native.Mathlib.Omega.{arith}
-use lib.Dec.{T, eqb}
+use lib.Dec.{eqb}
 use lib.ListN.{length, length-map}
-use Rattle.network.specs.Network.{soundLinks}
-use Rattle.network.specs.Distance.{PathTo}
 use Rattle.stations.specs.declared.Answer.{Answer}
 use Rattle.stations.specs.Outcome.{answer}
-use Rattle.stations.specs.Topology.{seen}
-use Rattle.soundness.specs.Apart.{apart}
-use Rattle.soundness.specs.Theorems.{plain, Lowest}
 use Rattle.records.specs.declared.Reading.{Reading}
-use Rattle.records.specs.declared.Record.the-variants as record-of
 use Rattle.records.specs.Halves.{Listing}
-use Rattle.records.specs.Reading.{refusal, accepted, ended, joined, nothingListed}
-use Rattle.records.specs.Theorems.{Bytes, Read, EndFaults, linkedIn}
-use Rattle.records.proofs.Kept.{Good, linked}
+use Rattle.records.specs.Reading.{refusal, accepted, ended, nothingListed}
+use Rattle.records.specs.Theorems.{Bytes, Read, EndFaults}
+use Rattle.records.proofs.Kept.{Good}
 use Rattle.records.proofs.Returned.{read-refusal, ended-reads}
 use Rattle.records.proofs.Verdicts.{faults-each}
 use Rattle.ospf.specs.Lsa.{malformed, wrongSum, Lsa, lsasFrom, lsas, firstAt, firstMalformed, firstWrongSum}
@@ -87,18 +81,17 @@ at-of = ap (λ (x : Answer). x .at)
 answer-of : {a b : Reading} → a ≡ b → a .answer ≡ b .answer
 answer-of = ap (λ (x : Reading). x .answer)
 
--- in the end the number is 0, 12 or 13
-last-number : (p : Listing) (n : ℕ) → n ≢ 0 → n ≢ 12 → n ≢ 13 → atLast p .answer .number ≡ n → ⊥
-unfolding atLast ended joined refusal accepted
-last-number p n o₀ o₁₂ o₁₃ = cases (eqb (length (p .contents .ids)) 0) (apart (p .contents))
+-- in the end the number is 0 or 12
+last-number : (p : Listing) (n : ℕ) → n ≢ 0 → n ≢ 12 → atLast p .answer .number ≡ n → ⊥
+unfolding atLast ended refusal accepted
+last-number p n o₀ o₁₂ = cases (eqb (length (p .contents .ids)) 0)
   where
-    cases : (b : Bool) (us : List ℕ) → cond b (refusal 12 0) (joined (p .contents) us) .answer .number ≡ n → ⊥
-    cases true us e = o₁₂ (sym e)
-    cases false [] e = o₀ (sym e)
-    cases false (u ∷ us) e = o₁₃ (sym e)
+    cases : (b : Bool) → cond b (refusal 12 0) (accepted (p .contents)) .answer .number ≡ n → ⊥
+    cases true e = o₁₂ (sym e)
+    cases false e = o₀ (sym e)
 
-not-last : (p : Listing) (n : ℕ) → n ≢ 0 → n ≢ 12 → n ≢ 13 → {at : ℕ} → atLast p .answer ≡ answer n at → ⊥
-not-last p n o₀ o₁₂ o₁₃ a = last-number p n o₀ o₁₂ o₁₃ (number-of a)
+not-last : (p : Listing) (n : ℕ) → n ≢ 0 → n ≢ 12 → {at : ℕ} → atLast p .answer ≡ answer n at → ⊥
+not-last p n o₀ o₁₂ a = last-number p n o₀ o₁₂ (number-of a)
 
 no-lsas : {at : ℕ} {s : List ℕ} {ls : List Lsa} → Consecutive at s ls → length ls ≡ 0 → length s ≡ 0
 no-lsas end e = refl
@@ -125,10 +118,6 @@ module _ (file : List ℕ) (bytes : Bytes file) where
     good : Good p
     good = taken-good t (plain-all right)
 
-    sound-links : T (soundLinks (p .contents .ids) (map plain (p .contents .links)))
-    unfolding seen
-    sound-links = linked p good
-
     ids-are : p .contents .ids ≡ map idOf (lsas file)
     ids-are = taken-ids (lsas file) t (plain-all right)
 
@@ -147,7 +136,7 @@ module _ (file : List ℕ) (bytes : Bytes file) where
         (omega arith, subst (FirstFault malformed (length file) (lsas file)) e (points-at-first file .0))
     on-26 a (in-27 w h i) = absurd (omega (arith, number-of (sym (answer-of i) ∙ a)))
     on-26 a (in-turn r n k f i) = absurd (omega (arith, number-of (sym (answer-of i) ∙ a), few r (suc n) k f))
-    on-26 a (at-end r p t i) = absurd (not-last p 26 (λ e. omega (arith, e)) (λ e. omega (arith, e)) (λ e. omega (arith, e)) (sym (answer-of i) ∙ a))
+    on-26 a (at-end r p t i) = absurd (not-last p 26 (λ e. omega (arith, e)) (λ e. omega (arith, e)) (sym (answer-of i) ∙ a))
 
     back-26 : (at < length file) × FirstFault malformed (length file) (lsas file) at → importing file .answer ≡ answer 26 at
     unfolding refusal firstMalformed
@@ -161,7 +150,7 @@ module _ (file : List ℕ) (bytes : Bytes file) where
         let e = at-of (sym (answer-of i) ∙ a) in
         (w, omega arith, subst (FirstFault wrongSum (length file) (lsas file)) e (points-at-first file .1))
     on-27 a (in-turn r n k f i) = absurd (omega (arith, number-of (sym (answer-of i) ∙ a), few r (suc n) k f))
-    on-27 a (at-end r p t i) = absurd (not-last p 27 (λ e. omega (arith, e)) (λ e. omega (arith, e)) (λ e. omega (arith, e)) (sym (answer-of i) ∙ a))
+    on-27 a (at-end r p t i) = absurd (not-last p 27 (λ e. omega (arith, e)) (λ e. omega (arith, e)) (sym (answer-of i) ∙ a))
 
     back-27 : AllWhole file × (at < length file) × FirstFault wrongSum (length file) (lsas file) at → importing file .answer ≡ answer 27 at
     unfolding refusal firstWrongSum
@@ -176,7 +165,7 @@ module _ (file : List ℕ) (bytes : Bytes file) where
         let e = sym (answer-of i) ∙ a in
         (r, subst (λ (k : ℕ). FaultAt (all file) number k) (at-of e) (subst (λ (n : ℕ). FaultAt (all file) n k) (number-of e) f))
     on-fault number least most a (at-end r p t i) =
-        absurd (not-last p number (λ e. omega arith) (λ e. omega arith) (λ e. omega arith) (sym (answer-of i) ∙ a))
+        absurd (not-last p number (λ e. omega arith) (λ e. omega arith) (sym (answer-of i) ∙ a))
 
     back-fault : (number : ℕ) → 1 ≤ number → AllRight file × FaultAt (all file) number at → importing file .answer ≡ answer number at
     unfolding refusal
@@ -198,32 +187,17 @@ module _ (file : List ℕ) (bytes : Bytes file) where
         let (z, f, none) = end-says r p t at .says-12 .0 e in
         (z, no-bytes file (no-lsas (lsas-consecutive file) (omega (arith, none, ap length (ids-are r p t), length-map (lsas file) idOf))))
 
-    on-13 : importing file .answer ≡ answer 13 at → (p : Listing) × AllTaken file p × Lowest (p .contents) at
-    on-13 a =
-        let (p, r, t, e) = last-of 13 (λ e. omega (arith, e)) (λ e. omega (arith, e)) (λ n h e. omega (arith, e)) a (verdict file) in
-        let (f, some, low) = end-says r p t at .says-13 (sound-links r p t) .0 e in
-        (p, record { right = r; taken = t; some-router = some }, low)
-
-    back-13 : (p : Listing) × AllTaken file p × Lowest (p .contents) at → importing file .answer ≡ answer 13 at
-    back-13 (p, k, low) =
-        let r = k .right in
-        let t = k .taken in
-        import-is r p t ∙ end-says r p t at .says-13 (sound-links r p t) .1 (refl, k .some-router, low)
-
-    abbrev Reached : Listing → Type 0
-    Reached p = (u : ℕ) → u < length (p .contents .ids) → PathTo (linkedIn (p .contents)) 0 u
-
-    on-0 : importing file .answer ≡ answer 0 at → (at ≡ 0) × ((p : Listing) × AllTaken file p × Reached p)
+    on-0 : importing file .answer ≡ answer 0 at → (at ≡ 0) × ((p : Listing) × AllTaken file p)
     on-0 a =
         let (p, r, t, e) = last-of 0 (λ e. omega (arith, e)) (λ e. omega (arith, e)) (λ n h e. omega (arith, e)) a (verdict file) in
-        let (z, f, some, paths) = end-says r p t at .says-0 (sound-links r p t) .0 e in
-        (z, (p, record { right = r; taken = t; some-router = some }, paths))
+        let (z, f, some) = end-says r p t at .says-0 .0 e in
+        (z, (p, record { right = r; taken = t; some-router = some }))
 
-    back-0 : (at ≡ 0) × ((p : Listing) × AllTaken file p × Reached p) → importing file .answer ≡ answer 0 at
-    back-0 (z, (p, k, paths)) =
+    back-0 : (at ≡ 0) × ((p : Listing) × AllTaken file p) → importing file .answer ≡ answer 0 at
+    back-0 (z, (p, k)) =
         let r = k .right in
         let t = k .taken in
-        import-is r p t ∙ end-says r p t at .says-0 (sound-links r p t) .1 (z, refl, k .some-router, paths)
+        import-is r p t ∙ end-says r p t at .says-0 .1 (z, refl, k .some-router)
 
 empty : importing [] .answer ≡ answer 12 0
 unfolding importing firstMalformed firstWrongSum firstAt lsas lsasFrom placedIn halvesIn takenTo atLast ended nothingListed refusal
@@ -236,7 +210,6 @@ import-answers file at bytes =
       says-27 = (λ a. on-27 file bytes at a (verdict file), back-27 file bytes at);
       says-fault = λ number least most. (λ a. on-fault file bytes at number least most a (verdict file), back-fault file bytes at number least);
       says-12 = (on-12 file bytes at, λ (z, e). rw (e, z) empty);
-      says-13 = (on-13 file bytes at, back-13 file bytes at);
       says-0 = (on-0 file bytes at, back-0 file bytes at);
     }
 

@@ -49,7 +49,7 @@ unfoldable pub takenTo : (Listing → Reading) → Listing → List Placed → R
 takenTo last p [] = last p
 takenTo last p (r ∷ rs) = unless (fault p (r .found)) (r .at) (takenTo last (added p (r .found)) rs)
 
--- 02, #106: 12, at 0, and 13 come last. The lone halves are dropped.
+-- 02, #106: 12, at 0, comes last. The lone halves are dropped.
 unfoldable pub atLast : Listing → Reading
 atLast p = ended false 0 (p .contents)
 

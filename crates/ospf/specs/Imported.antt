@@ -6,14 +6,12 @@ use mathlib.Core.List.{List, [], _∷_, _++_, map, List·Memᴰ}
 use mathlib.Core.Logic.{_↔_}
 use mathlib.Core.Path.{_≡_}
 use lib.ListN.{length}
-use Rattle.network.specs.Distance.{PathTo}
 use Rattle.stations.specs.declared.Half.{Half}
 use Rattle.stations.specs.Outcome.{answer}
-use Rattle.soundness.specs.Theorems.{Lowest}
 use Rattle.records.specs.declared.Record.the-variants as record-of
 use Rattle.records.specs.Halves.{Listing}
 use Rattle.records.specs.Reading.{fault, added, reading}
-use Rattle.records.specs.Theorems.{Bytes, Read, linkedIn, listedIn}
+use Rattle.records.specs.Theorems.{Bytes, Read, listedIn}
 use Rattle.topology.specs.Written.{joinedOver, routerBytes, halfBytes}
 use Rattle.ospf.specs.Lsa.{advertisingRouter, links, malformed, wrongSum, Lsa, lsas}
 use Rattle.ospf.specs.Neighbours.{allOf, halvesOf}
@@ -68,15 +66,13 @@ pub record AllTaken (file : List ℕ) (p : Listing) : Type 0 where
 
 -- 02, #106: what each answer means and where it points, if and only if; the tests before it pass. 26 and 27 are of the first such LSA, as `WellFormed` and
 -- `RightSum` say; the fault of a router or a half is what `FaultsEach` of `records` says, and points at the LSA's first byte; of the numbers to 10 those that
--- are none of `ImportNumbers` are never met.
+-- are none of `ImportNumbers` are never met. Nothing is asked of paths: files of routers whose parts are apart are imported (02, #107).
 pub record Answers (file : List ℕ) (at : ℕ) : Type 0 where
   pub says-26 : (importing file .answer ≡ answer 26 at) ↔ ((at < length file) × FirstFault malformed (length file) (lsas file) at)
   pub says-27 : (importing file .answer ≡ answer 27 at) ↔ (AllWhole file × (at < length file) × FirstFault wrongSum (length file) (lsas file) at)
   pub says-fault : (number : ℕ) → 1 ≤ number → number ≤ 10 → (importing file .answer ≡ answer number at) ↔ (AllRight file × FaultAt (placedIn (lsas file)) number at)
   pub says-12 : (importing file .answer ≡ answer 12 at) ↔ ((at ≡ 0) × (file ≡ []))
-  pub says-13 : (importing file .answer ≡ answer 13 at) ↔ ((p : Listing) × AllTaken file p × Lowest (p .contents) at)
-  pub says-0 : (importing file .answer ≡ answer 0 at)
-      ↔ ((at ≡ 0) × ((p : Listing) × AllTaken file p × ((u : ℕ) → u < length (p .contents .ids) → PathTo (linkedIn (p .contents)) 0 u)))
+  pub says-0 : (importing file .answer ≡ answer 0 at) ↔ ((at ≡ 0) × ((p : Listing) × AllTaken file p))
 
 abbrev pub ImportAnswers : Type 0
 ImportAnswers = (file : List ℕ) (at : ℕ) → Bytes file → Answers file at
@@ -84,7 +80,7 @@ ImportAnswers = (file : List ℕ) (at : ℕ) → Bytes file → Answers file at
 -- 02, #106: no other number is met; of a half, not 5 and not 8
 abbrev pub ImportNumbers : Type 0
 ImportNumbers = (file : List ℕ) → Bytes file →
-    List·Memᴰ (importing file .answer .number) (0 ∷ 3 ∷ 4 ∷ 6 ∷ 7 ∷ 9 ∷ 10 ∷ 12 ∷ 13 ∷ 26 ∷ 27 ∷ [])
+    List·Memᴰ (importing file .answer .number) (0 ∷ 3 ∷ 4 ∷ 6 ∷ 7 ∷ 9 ∷ 10 ∷ 12 ∷ 26 ∷ 27 ∷ [])
 
 -- 02, #106: an import that is not refused returns what is listed in the end, without the lone halves: the Advertising Routers in file order, and K 3
 pub record Returned (file : List ℕ) (p : Listing) : Type 0 where

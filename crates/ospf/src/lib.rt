@@ -6,7 +6,7 @@ use stream::unchecked::refused;
 ghost use mathlib.Core.Path.{_≡_};
 ghost use Rattle.ospf.specs.Import.{importing};
 
-// Imports a file of router-LSAs: refusals 26, 27, 3, 4, 6, 7, 9, 10, 12 and 13.
+// Imports a file of router-LSAs: refusals 26, 27, 3, 4, 6, 7, 9, 10 and 12.
 pub fn import(file: &[u8]) -> Reading
     ensures { λ r. ⌜ r ≡ importing (now (file .entry)) ⌝ }
 {

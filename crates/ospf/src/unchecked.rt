@@ -70,7 +70,7 @@ pub fn routers_of(file: &[u8]) -> Reading
     }
 }
 
-// The halves, LSA by LSA, behind the routers, which t has: refusal 6, 7, 9, 10, 12 or 13, or what is imported. No LSA is malformed.
+// The halves, LSA by LSA, behind the routers, which t has: refusal 6, 7, 9, 10 or 12, or what is imported. No LSA is malformed.
 pub fn with_halves(file: &[u8], t: Topology) -> Reading
     requires { ⌜ (length (now file) ≤ firstMalformed (now file)) × (routersTaken (now file) ≡ record { answer = record { number = 0; at = 0 }; topology = t }) ⌝ }
     ensures { λ r. ⌜ r ≡ allTaken (now (file .entry)) ⌝ }

@@ -94,11 +94,11 @@ module _ (t : Topology) (table : List ℕ) (u : ℕ) (schedule : List ℕ) where
   abbrev walkEnding : Said (network.Walk ℕ)
   walkEnding =
       ending t table (soundLength (t .routers) (t .links) (length schedule)) (WholeRows t schedule) schedule
-      (walk (by t table) (rowsIn (t .links) schedule) (start u))
+      (walk (by t table) (rowsIn (t .routers) (t .links) schedule) (start u))
 
   walk-ends : T (sound t) → Ends t table (soundLength (t .routers) (t .links) (length schedule)) (WholeRows t schedule) schedule
-      (walk (by t table) (rowsIn (t .links) schedule) (start u))
-  walk-ends good = ends t table _ _ schedule _ good (decides (sound-length t good schedule))
+      (walk (by t table) (rowsIn (t .routers) (t .links) schedule) (start u))
+  walk-ends good = ends t table _ _ schedule _ good (decides (sound-length t schedule))
 
   abbrev startTested : Said (network.Walk ℕ)
   startTested = tested (ltb u (t .routers)) 15 u walkEnding
@@ -117,7 +117,7 @@ module _ (t : Topology) (table : List ℕ) (u : ℕ) (schedule : List ℕ) where
 
   pub walks-done : (w : network.Walk ℕ) → (walking t table u schedule ≡ done w)
       ↔ (T (sound t) × ((u < t .routers) × ((tableChecking t table ≡ answer 0 0) × (WholeRows t schedule
-      × (((b : ℕ) → List·Memᴰ b schedule → b ≤ 1) × (walk (by t table) (rowsIn (t .links) schedule) (start u) ≡ w))))))
+      × (((b : ℕ) → List·Memᴰ b schedule → b ≤ 1) × (walk (by t table) (rowsIn (t .routers) (t .links) schedule) (start u) ≡ w))))))
   walks-done w = starting (λ s. clash (cc)) (λ a s. clash (cc)) (λ good. walk-ends good .ends-done w)
 
   walk-answers : (at : ℕ) → WalkAnswers t table u schedule at

@@ -1,14 +1,14 @@
--- Each call over an accepted table does what network's call does, tests included, so that network's bound on lists of calls is the bound here.
+-- Each call over an accepted table does what network's call does, tests included, so that network's bound on lists of calls is the bound here: the figure
+-- of the station last set where that is reached, and 0 where it is not.
 -- Assumes nothing.
 use Prim.Native.Nat.{ℕ, _≤_, _<_}
-use mathlib.Core.Bool.{cond}
+use mathlib.Core.Bool.{Bool, true, false, cond}
 use mathlib.Core.List.{List, [], _∷_, map}
-use mathlib.Core.Logic.{_⊎_, inl, inr}
+use mathlib.Core.Logic.{_⊎_, inl, inr, ⊎-elim}
 use mathlib.Core.Path.{_≡_, refl, sym, ap, _∙_}
 use native.Mathlib.Decide.{decLt}
 use native.Mathlib.Omega.{arith}
 use lib.Dec.{T, ltb, ltb→lt, lt→ltb}
-use lib.ListN.{getD}
 use Rattle.network.specs.Network.{size}
 use Rattle.network.specs.Forwarding as network
 use Rattle.network.specs.Forwarding.{Forwarding, Packet, hop, start}
@@ -17,18 +17,19 @@ use Rattle.network.specs.Calls.{Tests, afterCall, afterCalls, setBy, lastSet}
 use Rattle.network.specs.Routing.{routers, greatestHop, callTests}
 use Rattle.network.specs.Theorems.Calls as theorems
 use Rattle.network.proofs.Tests.{truth, passes, fails}
+use Rattle.network.proofs.Hops.{Hopped, stays-home, stuck, went, hopped}
 use Rattle.network.proofs.Routing.{tests-right, routers-calls}
 use Rattle.stations.specs.declared.Topology.{Topology}
 use Rattle.stations.specs.Topology.{networkOf}
 use Rattle.stations.specs.Outcome.{answer}
 use Rattle.soundness.specs.Sound.{sound}
 use Rattle.table.specs.Calls.{tableChecking}
-use Rattle.packet.specs.Calls.{Said, done, refused, figures, settingAt, hopping}
+use Rattle.packet.specs.Calls.{Said, done, refused, settingAt, hopping}
 use Rattle.packet.specs.Lent.{afterSetting, afterHop, settingPacket, hoppingPacket}
 use Rattle.packet.specs.Lists.{Call, set-at, hop-under, lastAfter, after, afterAll, setIn, lastSetIn}
 use Rattle.packet.specs.Theorems.{Standing, CallsBounded, CallsExact}
 use Rattle.packet.proofs.Calls.{settings-answer}
-use Rattle.packet.proofs.Listed.{Over, over}
+use Rattle.packet.proofs.Listed.{Over, over, reached-or, figure-reached, figure-unreached, hops-unreached}
 use Rattle.packet.proofs.Answers.{hops-done}
 use Rattle.packet.proofs.Reaching.{reaching}
 
@@ -137,21 +138,72 @@ module _ (t : Topology) (good : T (sound t)) (table : List ℕ) (right : tableCh
   starts : (u : ℕ) → u < t .routers → T (ltb u (size (networkOf t)))
   starts u h = lt→ltb u (size (networkOf t)) (omega (arith, o .routers-are))
 
-  -- over network's calls
+  -- over network's calls: hops made are at most network's greatest hop count of where the packet was last set
   passed-never : (p : Packet ℕ) (first : ℕ) → first < t .routers → (cs : List (calls.Call f)) →
       (lastSetIn t table (map here cs) first < t .routers)
-      × (afterAll t table (set-at first ∷ map here cs) p .hops ≤ getD (figures t table) (lastSetIn t table (map here cs) first) 0)
+      × (afterAll t table (set-at first ∷ map here cs) p .hops ≤ greatestHop (networkOf t) (o .d) (o .limit) (o .order) (lastSetIn t table (map here cs) first))
   unfolding here
   passed-never p first h cs =
-      let inside = set-below cs first h in
-      rw (same-all cs p first .1, same-all (calls.setting first ∷ cs) p first .0, o .figure-is (lastSet f tests cs first) inside)
-      (inside, bounded .never-passed p first (starts first h) cs)
+      rw (same-all cs p first .1, same-all (calls.setting first ∷ cs) p first .0)
+      (set-below cs first h, bounded .never-passed p first (starts first h) cs)
+
+  at-most : (p : Packet ℕ) (first : ℕ) → first < t .routers → (cs : List Call) →
+      (lastSetIn t table cs first < t .routers)
+      × (afterAll t table (set-at first ∷ cs) p .hops ≤ greatestHop (networkOf t) (o .d) (o .limit) (o .order) (lastSetIn t table cs first))
+  unfolding here
+  at-most p first h cs = rw again at (passed-never p first h (map there cs))
+
+  -- while no hop is made the packet stands where it was last set
+  abbrev Stands : ℕ → Packet ℕ → Type 0
+  Stands last p = p .hops ≡ 0 → p .station ≡ last
+
+  stands-on : (c : calls.Call f) (last : ℕ) (p : Packet ℕ) → Stands last p → Stands (setBy f tests c last) (afterCall f tests c p)
+  unfolding afterCall setBy
+  stands-on (calls.setting u) last p k = go (tests .start-ok u)
+    where
+      go : (b : Bool) → Stands (cond b u last) (cond b (start u) p)
+      go true = unfold start in λ e. refl
+      go false = k
+  stands-on (calls.hopping states) last p k = go (tests .hop-ok states p) (hopped f states p)
+    where
+      go : (b : Bool) {r : network.Hop ℕ} → Hopped f states p r → Stands last (cond b (calls.afterHop p r) p)
+      go false r = k
+      go true (stays-home h) = unfold calls.afterHop in k
+      go true (stuck h c) = unfold calls.afterHop in k
+      go true (went h e c) = unfold calls.afterHop in λ z. absurd (omega arith)
+
+  stands-all : (cs : List (calls.Call f)) (last : ℕ) (p : Packet ℕ) → Stands last p → Stands (lastSet f tests cs last) (afterCalls f tests cs p)
+  unfolding afterCalls lastSet
+  stands-all [] last p k = k
+  stands-all (c ∷ cs) last p k = stands-all cs _ _ (stands-on c last p k)
+
+  there-still : (p : Packet ℕ) (first : ℕ) → first < t .routers → (cs : List (calls.Call f)) →
+      afterAll t table (set-at first ∷ map here cs) p .hops ≡ 0 → afterAll t table (set-at first ∷ map here cs) p .station ≡ lastSetIn t table (map here cs) first
+  unfolding here afterCalls lastSet afterCall setBy
+  there-still p first h cs =
+      rw (same-all cs p first .1, same-all (calls.setting first ∷ cs) p first .0)
+      (stands-all cs first (cond (ltb first (size (networkOf t))) (start first) p)
+      (rw (passes (ltb first (size (networkOf t))) (starts first h) (start first) p) (unfold start in λ e. refl)))
+
+  still-there : (p : Packet ℕ) (first : ℕ) → first < t .routers → (cs : List Call) → afterAll t table (set-at first ∷ cs) p .hops ≡ 0 →
+      afterAll t table (set-at first ∷ cs) p .station ≡ lastSetIn t table cs first
+  unfolding here
+  still-there p first h cs = rw again at (there-still p first h (map there cs))
 
   calls-bounded : CallsBounded t table
-  unfolding here
   calls-bounded =
       record {
-        never-passed = λ p first h cs. rw again at (passed-never p first h (map there cs));
+        never-passed = λ p first h cs.
+            let (inside, few) = at-most p first h cs in
+            let last = lastSetIn t table cs first in (
+              inside,
+              ⊎-elim (λ path. rw (figure-reached good o last inside path) few)
+                  (λ out. rw (figure-unreached good o last inside out) (omega (arith, few, hops-unreached good o last inside out))) (reached-or good o last),
+            );
+        never-moved = λ p first h cs out.
+            let (inside, few) = at-most p first h cs in
+            let none-made : afterAll t table (set-at first ∷ cs) p .hops ≡ 0 = omega (arith, few, hops-unreached good o _ inside out) in
+            λ i. record { station = still-there p first h cs none-made i; hops = none-made i };
         reached = reaching t good table right o;
       }
 

@@ -1,5 +1,5 @@
--- The figures over an accepted table are network's greatest hop counts, and the walks are network's over the schedule's rows, so what is proved of those
--- holds here; a schedule that reaches a figure is network's valid rows laid end to end.
+-- The figures of reached stations over an accepted table are network's greatest hop counts, and the walks are network's over the schedule's rows, so what is
+-- proved of those holds here; a schedule that reaches a figure is network's valid rows laid end to end.
 -- Assumes nothing.
 use Prim.Native.Nat.{ℕ, pred, _*_, _≤_}
 use mathlib.Core.List.{List, List·Memᴰ}
@@ -20,16 +20,16 @@ use Rattle.stations.specs.Topology.{networkOf}
 use Rattle.stations.proofs.Given.{given-exact}
 use Rattle.table.specs.Calls.{unlessRefused}
 use Rattle.packet.specs.Schedule.{rowsIn}
-use Rattle.packet.specs.Calls.{figure, figures, countingHops}
+use Rattle.packet.specs.Calls.{figureByte, figures, countingHops}
 use Rattle.packet.specs.Theorems.{SoundSchedule, FiguresReported, FiguresExact}
-use Rattle.packet.proofs.Listed.{over}
+use Rattle.packet.proofs.Listed.{over, rank-reached, figure-reached}
 use Rattle.packet.proofs.Rules.{mem-joined}
-use Rattle.packet.proofs.Schedules.{links-needed, joined, joined-long, rows-again}
+use Rattle.packet.proofs.Schedules.{joined, joined-long, rows-again}
 use Rattle.packet.proofs.Passed.{walked, walks-when, walks-only}
 
 figures-long : (t : Topology) (table : List ℕ) → length (figures t table) ≡ t .routers
 unfolding figures
-figures-long t table = length-map-below (figure t table) (t .routers)
+figures-long t table = length-map-below (figureByte t table) (t .routers)
 
 pub figures-reported : FiguresReported
 unfolding countingHops unlessRefused
@@ -53,7 +53,7 @@ valid-states n states v =
     (eqb→eq _ _ long, λ b m. leb→le b 1 (every-all (λ b. leb b 1) states small b m))
 
 pub figures-exact : FiguresExact
-figures-exact t good table right u place =
+figures-exact t good table right u place path =
     let o = over t good table right in
     let n = networkOf t in
     let x = routers-exact n (o .well-formed) (o .d) (o .inside) (o .limit) (o .order) (o .in-free) u in
@@ -62,7 +62,7 @@ figures-exact t good table right u place =
     let wide : (row : List ℕ) → List·Memᴰ row rows → length row ≡ t .links = λ row m. valid-states n row (valid row m) .0 ∙ o .links-are in
     let whole : length (joined rows) ≡ pred (t .routers) * t .links =
     joined-long (t .links) rows wide ∙ ap (λ (k : ℕ). k * t .links) long in
-    let again = rows-again (t .links) rows wide (λ h. links-needed t good (omega arith)) in
+    let again = rows-again (t .links) (t .routers) rows wide long in
     let s : SoundSchedule t (joined rows) =
     record {
       whole-rows = record { rows = pred (t .routers); whole = whole; enough = omega arith };
@@ -71,16 +71,16 @@ figures-exact t good table right u place =
     record {
       never-passed = λ schedule w e.
           let (h, k, is) = walks-only t table right u schedule w e in
-          let xs = rowsIn (t .links) schedule in
-          rw (is, o .walk-is xs (start u), o .figure-is u place) (x .never-passed xs);
+          let xs = rowsIn (t .routers) (t .links) schedule in
+          rw (is, o .walk-is xs (start u), figure-reached good o u place path) (x .never-passed xs);
       reached = (
         joined rows,
         whole,
         (
           walked t table right u (joined rows),
           walks-when t table right u (joined rows) good place s,
-          rw (again, o .walk-is rows (start u), o .figure-is u place) reach,
+          rw (again, o .walk-is rows (start u), figure-reached good o u place path) reach,
         ),
       );
-      at-most-rank = rw (o .figure-is u place, o .rank-is u place) (x .at-most-rank);
+      at-most-rank = rw (figure-reached good o u place path, rank-reached good o u place path) (x .at-most-rank);
     }

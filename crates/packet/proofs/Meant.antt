@@ -1,19 +1,22 @@
 -- What the definitions mean: each is read off its clauses. A hop or a walk is done exactly where it is done with what forwarding by the table makes.
 -- Assumes nothing.
-use Prim.Native.Nat.{ℕ, _*_}
-use mathlib.Core.List.{List, [], _∷_, _++_}
-use mathlib.Core.Path.{_≡_, refl, _∙_}
+use Prim.Native.Nat.{ℕ, pred, _*_, _/_}
+use mathlib.Core.List.{List, [], _∷_, _++_, map}
+use mathlib.Core.Path.{_≡_, refl, sym, ap, _∙_}
+use native.Mathlib.Nat.{mul-zero, mul-div-cancel}
 use native.Mathlib.Omega.{arith}
 use borrow.Author.Tests.{ne-eqb}
-use lib.ListN.{drop, length-drop}
+use lib.ListN.{length, drop, length-drop}
 use lib.Seq.{length-take-le, getD-take, getD-drop}
+use Rattle.network.specs.Lists.{below}
 use Rattle.network.specs.Forwarding.{Packet, start, hop, walk}
 use Rattle.stations.specs.Outcome.{turnedAway}
 use Rattle.table.specs.Calls.{unlessRefused}
 use Rattle.packet.specs.Schedule.{rowIn, rowsIn}
 use Rattle.packet.specs.Calls.{said, packetIn, settingSays, hopSays, walkSays, by, countingHops}
 use Rattle.packet.specs.Lists.{Call, after, afterAll, setIn, lastSetIn}
-use Rattle.packet.specs.Theorems.{AnswersMean, RowsRight, CountRefuses, HopsDone, WalksDone, CallsInTurn}
+use Rattle.packet.specs.Theorems.{AnswersMean, RowsRight, EmptyWithoutLinks, RowsInTurn, CountRefuses, HopsDone, WalksDone, CallsInTurn}
+use Rattle.packet.proofs.Schedules.{count, counted, counts, least-count}
 use Rattle.packet.proofs.Answers as answers
 
 pub answers-mean : AnswersMean
@@ -36,6 +39,26 @@ rows-right links schedule h =
       bytes = λ i l. getD-take links (drop (h * links) schedule) i 0 l ∙ getD-drop (h * links) schedule i 0;
     }
 
+-- with links a length has one number of rows
+pub rows-in-turn : RowsInTurn
+unfolding rowsIn
+rows-in-turn routers links k schedule some e enough =
+    let (whole, least) = counted routers links (length schedule) (counts routers links (length schedule) k (sym e) enough) in
+    let many = count routers links (length schedule) in
+    ap (λ (n : ℕ). map (rowIn links schedule) (below n))
+    (sym (mul-div-cancel many some) ∙ ap (λ (n : ℕ). n / links) (whole ∙ e) ∙ mul-div-cancel k some)
+
+pub empty-without-links : EmptyWithoutLinks
+unfolding rowsIn rowIn
+empty-without-links routers =
+    record {
+      empty = λ long. (
+        λ s. sym (counted routers 0 long s .0) ∙ mul-zero (count routers 0 long),
+        λ e. counts routers 0 long (pred routers) (mul-zero (pred routers) ∙ sym e) (omega arith),
+      );
+      rows = rw (rw mul-zero at (least-count routers 0));
+    }
+
 pub count-refuses : CountRefuses
 unfolding countingHops unlessRefused turnedAway
 count-refuses t table buffer number at other e = rw (e, ne-eqb number 0 other)
@@ -56,7 +79,7 @@ walks-done t table u schedule = (
       let (good, (place, (right, (whole, (small, same))))) = answers.walks-done t table u schedule w .0 e in
       (good, place, right, record { whole-rows = whole; states-are = small }),
   λ (good, place, right, ok).
-      let made = walk (by t table) (rowsIn (t .links) schedule) (start u) in
+      let made = walk (by t table) (rowsIn (t .routers) (t .links) schedule) (start u) in
       (made, answers.walks-done t table u schedule made .1 (good, (place, (right, (ok .whole-rows, (ok .states-are, refl)))))),
 )
 

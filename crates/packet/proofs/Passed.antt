@@ -22,7 +22,7 @@ module _ (t : Topology) (table : List ℕ) (right : tableChecking t table ≡ an
   module _ (u : ℕ) (schedule : List ℕ) where
     -- the walk that the table's rows make under the schedule's
     abbrev pub walked : Walk ℕ
-    walked = walk (by t table) (rowsIn (t .links) schedule) (start u)
+    walked = walk (by t table) (rowsIn (t .routers) (t .links) schedule) (start u)
 
     pub walks-when : T (sound t) → u < t .routers → SoundSchedule t schedule → walking t table u schedule ≡ done walked
     walks-when good place s = walks-done t table u schedule _ .1 (good, (place, (right, (s .whole-rows, (s .states-are, refl)))))

@@ -20,10 +20,10 @@ use Rattle.soundness.specs.Sound.{sound}
 use Rattle.table.specs.Calls.{tableChecking}
 use Rattle.packet.specs.Calls.{done, figures}
 use Rattle.packet.specs.Lists.{Call, set-at, hop-under, after, afterAll, setIn, lastSetIn}
-use Rattle.packet.specs.Theorems.{SoundStates}
+use Rattle.packet.specs.Theorems.{Reached, SoundStates}
 use Rattle.packet.proofs.Calls.{settings-answer, calls-by-rule}
 use Rattle.packet.proofs.Figures.{valid-states}
-use Rattle.packet.proofs.Listed.{Over}
+use Rattle.packet.proofs.Listed.{Over, figure-reached}
 use Rattle.packet.proofs.Passed.{hops-when}
 
 module _ (t : Topology) (good : T (sound t)) (table : List ℕ) (right : tableChecking t table ≡ answer 0 0) (o : Over t table) where
@@ -67,11 +67,11 @@ module _ (t : Topology) (good : T (sound t)) (table : List ℕ) (right : tableCh
       ∙ ap done (o .hop-is x p ∙ hop-down f (rank (o .order)) Valid lawful x p e c)) in
       rw (afterAll, made) (omega (arith, over-way w (suc h) (omega (arith, o .routers-are, o .well-formed .sound s e arc .place)) (omega arith)))
 
-  pub reaching : (p : Packet ℕ) (s : ℕ) → s < t .routers → (cs : List Call) × (lastSetIn t table cs s ≡ s)
+  pub reaching : (p : Packet ℕ) (s : ℕ) → s < t .routers → Reached t table s → (cs : List Call) × (lastSetIn t table cs s ≡ s)
       × (afterAll t table (set-at s ∷ cs) p .hops ≡ getD (figures t table) s 0)
       × ((c : Call) → List·Memᴰ c cs → (states : List ℕ) × (c ≡ hop-under states) × SoundStates t states)
   unfolding afterAll greatestHop
-  reaching p s place =
+  reaching p s place path =
       let below = o .rank-below s place in
       let (xs, way, long) =
       longest-way f (rank (o .order)) Valid lawful (size (networkOf t)) s (omega (arith, o .routers-are)) in
@@ -80,6 +80,6 @@ module _ (t : Topology) (good : T (sound t)) (table : List ℕ) (right : tableCh
       calls-by-rule t table p s .sets s _ (settings-answer t s .sets good place) .0 in (
         map hop-under xs,
         last-kept xs s,
-        rw (afterAll, first) (omega (arith, over-way way 0 place (omega arith), long, o .figure-is s place)),
+        rw (afterAll, first) (omega (arith, over-way way 0 place (omega arith), long, figure-reached good o s place path)),
         all-sound way,
       )

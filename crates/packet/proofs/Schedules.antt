@@ -1,30 +1,24 @@
--- Schedules as bytes and as rows: a length that is so many rows is no other number of rows where there are links, and a sound topology without links
--- has one router, whose walks need no row. Rows laid end to end are these rows again.
+-- Schedules as bytes and as rows: a length is sound exactly if it is so many rows, at least N - 1, with no links too. N - 1 rows laid end to end are these
+-- rows again.
 -- Assumes nothing.
 use Prim.Native.Nat.{ℕ, zero, suc, pred, _+_, _*_, _≤_, _<_}
-use mathlib.Core.Bool.{Bool, false, not}
+use mathlib.Core.Bool.{Bool, false, not, true≢false}
 use mathlib.Core.List.{List, [], _∷_, List·Memᴰ, List·Memᴰ·head, List·Memᴰ·tail}
 use mathlib.Core.List.{Memᴰ·append-right, map, nil≢cons, head-eq-of-cons-eq}
 use mathlib.Core.Logic.{_↔_}
-use mathlib.Core.Path.{_≡_, refl, sym, ap, _∙_, subst}
+use mathlib.Core.Path.{_≡_, refl, sym, _∙_, subst}
 use native.Mathlib.Decide.{decLt}
-use native.Mathlib.Nat.{not-suc-le-zero, le-of-suc-le-suc, mul-zero, zero-mul, suc-mul, mul-le-mul-right, mul-lt-mul-of-pos-right, le-mul-of-pos-right}
+use native.Mathlib.Nat.{not-suc-le-zero, le-of-suc-le-suc, mul-zero, zero-mul, suc-mul, mul-le-mul-right, le-mul-of-pos-right}
 use native.Mathlib.Omega.{arith}
-use borrow.Author.Tests.{not-true, not-false, leb-true, leb-false, le-leb, lt-leb, eq-eqb, ne-eqb}
-use lib.Dec.{T, eqb, leb, eqb→eq, leb→le, le→leb}
+use borrow.Author.Tests.{not-true, not-false, leb-true, leb-false, eqb-true, le-leb, lt-leb, eq-eqb}
+use lib.Dec.{T, eqb, leb, ltb, lt→ltb}
 use lib.ListN.{length, getD, take, drop, length-append, length-drop, take-append-drop, drop-of-length-le}
 use lib.Seq.{length-take-le, take-at, drop-cons, ext-getD, drop-append-add}
-use Rattle.network.specs.Lists.{below, any}
-use Rattle.network.specs.Distance.{PathTo, arrived, along}
-use Rattle.network.proofs.Tests.{eq-test}
-use Rattle.network.proofs.Lists.{mem-keep, keep-mem, mem-take, any-some, some-any}
-use Rattle.network.proofs.Below.{mem-below, getD-below, length-map-below}
+use Rattle.network.specs.Lists.{below}
+use Rattle.network.proofs.Lists.{mem-take}
+use Rattle.network.proofs.Below.{getD-below, length-map-below}
 use Rattle.stations.specs.declared.Topology.{Topology}
 use Rattle.stations.specs.Inner.{firstOr}
-use Rattle.stations.specs.Topology.{networkOf}
-use Rattle.soundness.specs.Sound.{sound}
-use Rattle.soundness.specs.Theorems.{SoundNetwork}
-use Rattle.soundness.proofs.Sound.{sound-networks}
 use Rattle.order.proofs.Ranges.{getD-mem, mem-getD, keep-none, none-passes, keep-first, first-passes}
 use Rattle.topology.specs.Written.{joinedOver}
 use Rattle.table.proofs.Ordered.{begins}
@@ -74,102 +68,72 @@ module _ (states : List ℕ) where
       }))
       (f .within)
 
--- a path needs an arc, and an arc a link
-pub links-needed : (t : Topology) → T (sound t) → 0 < pred (t .routers) → 0 < t .links
-links-needed t good more = step (s .paths 0 1 (omega arith) (omega arith))
-  where
-    s : SoundNetwork t
-    s = sound-networks t good
-
-    step : PathTo (networkOf t) 0 1 → 0 < t .links
-    step (arrived e) = absurd (omega arith)
-    step (along a m p) = omega (arith, s .well-formed .sound 1 a m .numbered, s .links)
-
 -- 22: the number of rows that a length gives
-module _ (links : ℕ) where
-  mem-counts : (long k : ℕ) → List·Memᴰ k (rowCounts links long) → k * links ≡ long
-  unfolding rowCounts
-  mem-counts long k m = eqb→eq _ _ (mem-keep (λ j. eqb (j * links) long) (below (suc long)) m .1)
+module _ (routers links long : ℕ) where
+  abbrev isLong : ℕ → Bool
+  isLong k = eqb (k * links) long
 
-  counts-mem : (long k : ℕ) → k * links ≡ long → k ≤ long → List·Memᴰ k (rowCounts links long)
-  unfolding rowCounts
-  counts-mem long k e h = keep-mem (λ j. eqb (j * links) long) (below (suc long)) (mem-below (omega arith)) (eq-test e)
+  -- the number that is found
+  abbrev pub count : ℕ
+  count = firstOr 0 (rowCounts routers links long)
 
-  rows-least : (k : ℕ) → (0 < k → 0 < links) → k ≤ k * links
-  rows-least zero some = omega arith
-  rows-least (suc k) some = le-mul-of-pos-right (suc k) (some (omega arith))
+  pub counted : T (soundLength routers links long) → (count * links ≡ long) × (pred routers ≤ count)
+  unfolding soundLength rowCounts firstOr
+  counted = step (rowCounts routers links long) refl
+    where
+      step : (ks : List ℕ) → rowCounts routers links long ≡ ks → T (ltb 0 (length ks)) → (firstOr 0 ks * links ≡ long) × (pred routers ≤ firstOr 0 ks)
+      step [] e some = absurd some
+      step (k ∷ ks) e some = let f = first-passes isLong (pred routers) _ k ks e in (eqb-true _ _ (f .passes), f .least)
 
-  pub count-is : (k : ℕ) → (0 < k → 0 < links) → firstOr 0 (rowCounts links (k * links)) ≡ k
-  unfolding rowCounts below
-  count-is k some =
-      keep-first (λ j. eqb (j * links) (k * links)) 0 0 (suc (k * links)) k
-      (record {
-        least = omega arith;
-        within = omega (arith, rows-least k some);
-        passes = eq-eqb (k * links) (k * links) refl;
-        earlier = λ i l h.
-            let lower : i * links < k * links = mul-lt-mul-of-pos-right h (some (omega arith)) in
-            ne-eqb (i * links) (k * links) (λ e. omega arith);
-      })
+  -- one is found where so many rows are so long: with links they are at most the bytes, and with none N - 1 will do
+  pub counts : (k : ℕ) → k * links ≡ long → pred routers ≤ k → T (soundLength routers links long)
+  unfolding soundLength rowCounts
+  counts k e enough = step (decLt 0 links)
+    where
+      found : (j : ℕ) → j * links ≡ long → pred routers ≤ j → j ≤ pred routers + long → (ks : List ℕ) → rowCounts routers links long ≡ ks →
+          T (ltb 0 (length ks))
+      found j is least few [] none =
+          absurd (true≢false (sym (eq-eqb (j * links) long is) ∙ none-passes isLong (pred routers) _ none j least (omega arith)))
+      found j is least few (i ∷ others) some = lt→ltb 0 (suc (length others)) (omega arith)
+
+      step : Dec (0 < links) → T (ltb 0 (length (rowCounts routers links long)))
+      step (yes some) = found k e enough (omega (arith, le-mul-of-pos-right k some)) (rowCounts routers links long) refl
+      step (no none) =
+          let links-are : links ≡ 0 = omega arith in
+          found (pred routers) (rw (links-are, mul-zero) (rw (links-are, mul-zero) at e)) (omega arith) (omega arith)
+          (rowCounts routers links long) refl
+
+-- N - 1 rows are counted as that many
+pub least-count : (routers links : ℕ) → firstOr 0 (rowCounts routers links (pred routers * links)) ≡ pred routers
+unfolding rowCounts
+least-count routers links =
+    keep-first (λ k. eqb (k * links) (pred routers * links)) 0 (pred routers) _ (pred routers)
+    (record {
+      least = omega arith;
+      within = omega arith;
+      passes = eq-eqb (pred routers * links) (pred routers * links) refl;
+      earlier = λ i l h. absurd (omega arith);
+    })
 
 -- the rows of a schedule: so many, and its bytes are that many rows, enough for every walk
 pub record Rows (t : Topology) (schedule : List ℕ) : Type 0 where
   pub count : ℕ
-  pub are : rowsIn (t .links) schedule ≡ map (rowIn (t .links) schedule) (below count)
+  pub are : rowsIn (t .routers) (t .links) schedule ≡ map (rowIn (t .links) schedule) (below count)
   pub whole : length schedule ≡ count * t .links
   pub enough : pred (t .routers) ≤ count
 
-module _ (t : Topology) (good : T (sound t)) (schedule : List ℕ) where
-  -- with no links a schedule is empty, and no row is needed
-  no-links : WholeRows t schedule → (0 < t .links → ⊥) → (length schedule ≡ 0) × (pred (t .routers) ≡ 0)
-  no-links w none = (w .whole ∙ ap (λ (k : ℕ). w .rows * k) (omega arith) ∙ mul-zero (w .rows), step (decLt 0 (pred (t .routers))))
-    where
-      step : Dec (0 < pred (t .routers)) → pred (t .routers) ≡ 0
-      step (yes more) = absurd (none (links-needed t good more))
-      step (no few) = omega arith
-
+module _ (t : Topology) (schedule : List ℕ) where
   pub sound-length : T (soundLength (t .routers) (t .links) (length schedule)) ↔ WholeRows t schedule
-  unfolding soundLength
   sound-length = (
-    λ h.
-        let (k, m, l) = any-some (λ j. leb (pred (t .routers)) j) (rowCounts (t .links) (length schedule)) h in
-        record { rows = k; whole = sym (mem-counts (t .links) (length schedule) k m); enough = leb→le _ _ l },
-    λ w. step w (decLt 0 (t .links)),
+    λ s. let (e, h) = counted (t .routers) (t .links) (length schedule) s in record { rows = _; whole = sym e; enough = h },
+    λ w. counts (t .routers) (t .links) (length schedule) (w .rows) (sym (w .whole)) (w .enough),
   )
-    where
-      test : (k : ℕ) → k * t .links ≡ length schedule → k ≤ length schedule → pred (t .routers) ≤ k →
-          T (any (λ j. leb (pred (t .routers)) j) (rowCounts (t .links) (length schedule)))
-      test k e few enough =
-          some-any (λ j. leb (pred (t .routers)) j) (rowCounts (t .links) (length schedule)) (counts-mem (t .links) (length schedule) k e few)
-          (le→leb _ _ enough)
-
-      step : WholeRows t schedule → Dec (0 < t .links) → T (any (λ j. leb (pred (t .routers)) j) (rowCounts (t .links) (length schedule)))
-      step w (yes some) =
-          test (w .rows) (sym (w .whole)) (omega (arith, w .whole, rows-least (t .links) (w .rows) (λ h. some))) (w .enough)
-      step w (no none) =
-          let (empty, one) = no-links w none in
-          test 0 (zero-mul (t .links) ∙ sym empty) (omega arith) (omega arith)
 
   pub rows-of : WholeRows t schedule → Rows t schedule
   unfolding rowsIn
-  rows-of w = step (decLt 0 (t .links))
-    where
-      step : Dec (0 < t .links) → Rows t schedule
-      step (yes some) =
-          record {
-            count = w .rows;
-            are = rw (w .whole, count-is (t .links) (w .rows) (λ h. some));
-            whole = w .whole;
-            enough = w .enough;
-          }
-      step (no none) =
-          let (empty, one) = no-links w none in
-          record {
-            count = 0;
-            are = rw (empty ∙ sym (zero-mul (t .links)), count-is (t .links) 0 (λ h. absurd (omega arith)));
-            whole = empty ∙ sym (zero-mul (t .links));
-            enough = omega arith;
-          }
+  rows-of w =
+      let (e, h) = counted (t .routers) (t .links) (length schedule) (sound-length .1 w) in
+      record { count = _; are = refl; whole = sym e; enough = h }
 
 -- one row of a schedule
 module _ (links : ℕ) (schedule : List ℕ) where
@@ -219,10 +183,10 @@ module _ (links : ℕ) where
       let skip : suc h * links ≡ length r + h * links = omega (arith, suc-mul h links, wide r (List·Memᴰ·head refl)) in
       rw (skip, drop-append-add r (joined rs) (h * links)) (joined-row rs (λ row m. wide row (List·Memᴰ·tail m)) h (le-of-suc-le-suc l))
 
-  pub rows-again : (rows : List (List ℕ)) → Wide rows → (0 < length rows → 0 < links) → rowsIn links (joined rows) ≡ rows
+  pub rows-again : (routers : ℕ) (rows : List (List ℕ)) → Wide rows → length rows ≡ pred routers → rowsIn routers links (joined rows) ≡ rows
   unfolding rowsIn
-  rows-again rows wide some =
-      rw (joined-long rows wide, count-is links (length rows) some)
+  rows-again routers rows wide many =
+      rw (joined-long rows wide, many, least-count routers links, ← many)
       (ext-getD [] (map (rowIn links (joined rows)) (below (length rows))) rows (length-map-below _ (length rows))
       (λ i l.
       let here : i < length rows = omega (arith, length-map-below (rowIn links (joined rows)) (length rows)) in

@@ -1,5 +1,6 @@
--- Walks over an accepted table are network's walks over the schedule's rows: they end, go hop by hop, and with all links up cost the distance. At every
--- hop the hops made and the rank left are together below N, so that no single hop is refused. What the hops cost is what network's route costs.
+-- Walks over an accepted table are network's walks over the schedule's rows: they end, go hop by hop, and from reached stations, with all links up, cost
+-- the distance. At every hop the hops made and the rank left are together below N, so that no single hop is refused. What the hops cost is what network's
+-- route costs.
 -- Assumes nothing.
 use Prim.Native.Nat.{ℕ, suc, _+_, _≤_, _<_}
 use mathlib.Core.List.{List, [], _∷_, List·Memᴰ, Memᴰ·of-map}
@@ -8,15 +9,16 @@ use mathlib.Core.Option.{some}
 use mathlib.Core.Path.{_≡_, refl, sym, ap, _∙_, subst}
 use native.Mathlib.Numerals.{add-one}
 use native.Mathlib.Omega.{arith}
+use borrow.Author.Tests.{ne-eqb}
 use lib.Dec.{T, eqb→eq}
 use lib.ListN.{length, drop}
 use lib.Seq.{drop-drop}
 use Rattle.network.specs.Lists.{below}
-use Rattle.network.specs.Distance.{distance}
+use Rattle.network.specs.Distance.{arrived, distance}
 use Rattle.network.specs.Order.{shortest-path, accepted}
 use Rattle.network.specs.Row.{rank}
-use Rattle.network.specs.Forwarding.{Forwarding, Packet, Hop, Walk, hop, walk, routeOn, route, start}
-use Rattle.network.specs.Routing.{validStates, routers, costOf}
+use Rattle.network.specs.Forwarding.{Forwarding, Packet, Hop, dropped, Walk, dropped-at, hopTo, hop, walk, routeOn, route, start}
+use Rattle.network.specs.Routing.{validStates, firstLive, routers, costOf}
 use Rattle.network.specs.Theorems.Forwarding.{Lawful, WalkRule, RouteRule}
 use Rattle.network.specs.Theorems.Routing as network
 use Rattle.network.specs.Theorems.Routing.{AllUp}
@@ -37,10 +39,10 @@ use Rattle.order.proofs.Ranges.{getD-mem}
 use Rattle.table.specs.Calls.{tableChecking}
 use Rattle.packet.specs.Schedule.{rowIn, rowsIn}
 use Rattle.packet.specs.Calls.{done, hopping, walking}
-use Rattle.packet.specs.Theorems.{SoundSchedule, SoundStates, WalkEnds, delivers, drops, WalksEnd}
+use Rattle.packet.specs.Theorems.{Reached, SoundSchedule, SoundStates, CutOff, CutOffDrops, WalkEnds, delivers, drops, WalksEnd}
 use Rattle.packet.specs.Theorems.{ByHops, arrives, goes-on, WalksByHops, ShortestWalk, ShortestWalks}
 use Rattle.packet.specs.Theorems as packet
-use Rattle.packet.proofs.Listed.{Over, over}
+use Rattle.packet.proofs.Listed.{Over, over, figure-unreached, row-unreached}
 use Rattle.packet.proofs.Rules.{down-none-up}
 use Rattle.packet.proofs.Rules as rules
 use Rattle.packet.proofs.Schedules.{Rows, rows-of, row-mem, row-fits, row-long, drop-run}
@@ -74,10 +76,10 @@ module _ (t : Topology) (good : T (sound t)) (table : List ℕ) (right : tableCh
 
   module _ (schedule : List ℕ) (s : SoundSchedule t schedule) where
     rows : Rows t schedule
-    rows = rows-of t good schedule (s .whole-rows)
+    rows = rows-of t schedule (s .whole-rows)
 
     abbrev xs : List (List ℕ)
-    xs = rowsIn (t .links) schedule
+    xs = rowsIn (t .routers) (t .links) schedule
 
     abbrev rowAt : ℕ → List ℕ
     rowAt h = rowIn (t .links) schedule h
@@ -173,21 +175,53 @@ pub walks-end : WalksEnd
 walks-end t good table right u place schedule s =
     let v = o t good table right in
     end t good table right schedule s u place
-    (routing.walks-end (networkOf t) (v .well-formed) (v .d) (v .inside) (v .limit) (v .order) (v .in-free) (rowsIn (t .links) schedule) u
+    (routing.walks-end (networkOf t) (v .well-formed) (v .d) (v .inside) (v .limit) (v .order) (v .in-free) (rowsIn (t .routers) (t .links) schedule) u
     (rows-enough t good table right schedule s u place))
 
 pub walks-by-hops : WalksByHops
 walks-by-hops t good table right u schedule w e =
     let v = o t good table right in
     let (place, s, is) = walks-only t table right u schedule w e in
-    (_, hops-here t good table right schedule s u place (sym (v .walk-is (rowsIn (t .links) schedule) (start u)) ∙ sym is))
+    (_, hops-here t good table right schedule s u place (sym (v .walk-is (rowsIn (t .routers) (t .links) schedule) (start u)) ∙ sym is))
+
+-- Where there is no path the row is empty, and d has one, so a hop drops the packet; some row of states is there for the first hop.
+module _ (t : Topology) (good : T (sound t)) (table : List ℕ) (right : tableChecking t table ≡ answer 0 0) (u : ℕ) (place : u < t .routers)
+    (out : Reached t table u → ⊥) where
+  abbrev v : Over t table
+  v = o t good table right
+
+  not-home : u ≡ v .d → ⊥
+  not-home e = out (arrived (e ∙ sym (v .destination-is)))
+
+  drops-there : (states : List ℕ) (p : Packet ℕ) → p .station ≡ u → hop (f t good table right) states p ≡ dropped
+  unfolding hop hopTo firstLive
+  drops-there states p e = rw (e, ne-eqb u (v .d) not-home, row-unreached good v u place out)
+
+  first-drops : (ys : List (List ℕ)) → rank (v .order) u ≤ length ys → walk (f t good table right) ys (start u) ≡ dropped-at (start u)
+  unfolding start
+  first-drops [] enough = absurd (not-home (rank-zero (v .given .in-free) u (omega arith)))
+  first-drops (x ∷ ys) enough = hops.walks-by-hops (f t good table right) x ys (start u) .drops (drops-there x (start u) refl)
+
+  cut-off : CutOff t table u
+  unfolding start
+  cut-off =
+      record {
+        figure-is = figure-unreached good v u place out;
+        walks = λ schedule s.
+            walk-here t good table right schedule s u place
+            (first-drops (rowsIn (t .routers) (t .links) schedule) (rows-enough t good table right schedule s u place));
+        hops = λ states p e s k. hops-when t table right states p s k ∙ ap done (v .hop-is states p ∙ drops-there states p e);
+      }
+
+pub cut-off-drops : CutOffDrops
+cut-off-drops = cut-off
 
 pub shortest-walks : ShortestWalks
-shortest-walks t good table right mode u place schedule s ones =
+shortest-walks t good table right mode u place path schedule s ones =
     let v = o t good table right in
     let n = networkOf t in
     let a : T (accepted n (v .d) shortest-path (v .order)) =
     acceptance-exact n (v .well-formed) (v .d) (v .inside) shortest-path (v .order) .1 (rw (v .destination-is, v .lists .ordered) at mode) in
     shortest-here t good table right schedule s u place
-    (shortest.shortest-walks n (v .well-formed) (v .d) (v .inside) (v .limit) (v .order) a (v .given .limit-least) u (v .path u place)
-    (rowsIn (t .links) schedule) (all-up t good table right schedule s ones) (rows-enough t good table right schedule s u place))
+    (shortest.shortest-walks n (v .well-formed) (v .d) (v .inside) (v .limit) (v .order) a (v .given .limit-least) u (rw (v .destination-is) at path)
+    (rowsIn (t .routers) (t .links) schedule) (all-up t good table right schedule s ones) (rows-enough t good table right schedule s u place))

@@ -13,7 +13,7 @@ use Rattle.stations.specs.declared.Topology.{Topology}
 use Rattle.stations.specs.Outcome.{answer, Outcome, given}
 use Rattle.stations.specs.Topology.{networkOf}
 use Rattle.soundness.specs.Sound.{sound}
-use Rattle.table.specs.Listed.{listed, forwardingBy}
+use Rattle.table.specs.Listed.{rankIn, listed, forwardingBy}
 use Rattle.table.specs.Calls.{unlessRefused, tableChecking}
 use Rattle.packet.specs.declared.Packet.{Packet}
 use Rattle.packet.specs.declared.Setting.{Setting}
@@ -77,9 +77,13 @@ testedOver (i ∷ is) number next = refused number i
 unfoldable pub figure : Topology → List ℕ → ℕ → ℕ
 figure t table u = longest (by t table) (t .routers) u
 
+-- 02, #107: the byte that is reported for it, 255 where the table gives the router no rank
+unfoldable pub figureByte : Topology → List ℕ → ℕ → ℕ
+figureByte t table u = cond (eqb (rankIn table u) 255) 255 (figure t table u)
+
 -- 01, Packet, hop and schedule: for all places it is N bytes
 unfoldable pub figures : Topology → List ℕ → List ℕ
-figures t table = map (figure t table) (below (t .routers))
+figures t table = map (figureByte t table) (below (t .routers))
 
 -- 14, 21, then 24 at N; else the figures, the rest of a longer buffer staying
 unfoldable pub countingHops : Topology → List ℕ → List ℕ → Outcome
@@ -108,4 +112,4 @@ walking t table u schedule =
     (testedBy (tableChecking t table)
     (tested (soundLength (t .routers) (t .links) (length schedule)) 22 (length schedule)
     (testedOver (wrongStates schedule) 23
-    (done (walk (by t table) (rowsIn (t .links) schedule) (start u)))))))
+    (done (walk (by t table) (rowsIn (t .routers) (t .links) schedule) (start u)))))))

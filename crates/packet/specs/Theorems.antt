@@ -2,13 +2,14 @@
 -- every table that checking answers 0 for.
 -- Assumes nothing.
 use Prim.Native.Nat.{ℕ, suc, pred, _+_, _*_, _≤_, _<_}
-use mathlib.Core.List.{List, [], _∷_, _++_, List·Memᴰ}
+use mathlib.Core.List.{List, [], _∷_, _++_, map, List·Memᴰ}
 use mathlib.Core.Logic.{_↔_, _≢_, _⊎_}
 use mathlib.Core.Path.{_≡_}
 use lib.Dec.{T}
 use lib.ListN.{length, getD, take, drop}
+use Rattle.network.specs.Lists.{below}
 use Rattle.network.specs.Network.{Arc, arcsOf}
-use Rattle.network.specs.Distance.{distance}
+use Rattle.network.specs.Distance.{PathTo, distance}
 use Rattle.network.specs.Order.{shortest-path}
 use Rattle.network.specs.Forwarding as network
 use Rattle.network.specs.Forwarding.{Packet, Walk, delivered-at, dropped-at, packetOf}
@@ -24,7 +25,7 @@ use Rattle.packet.specs.declared.Packet as code
 use Rattle.packet.specs.declared.Setting.the-variants as setting
 use Rattle.packet.specs.declared.Hopped.the-variants as hopped
 use Rattle.packet.specs.declared.Walked.the-variants as walked
-use Rattle.packet.specs.Schedule.{rowIn}
+use Rattle.packet.specs.Schedule.{rowIn, rowsIn, soundLength}
 use Rattle.packet.specs.Calls.{Said, done, refused, said, packetIn, settingSays, hopSays, walkSays, figures, countingHops, settingAt, hopping, walking}
 use Rattle.packet.specs.Lent.{Left, settingPacket, hoppingPacket}
 use Rattle.packet.specs.Lists.{Call, set-at, hop-under, after, afterAll, setIn, lastSetIn}
@@ -59,6 +60,20 @@ pub record RowRight (links : ℕ) (schedule : List ℕ) (h : ℕ) : Type 0 where
 
 abbrev pub RowsRight : Type 0
 RowsRight = (links : ℕ) (schedule : List ℕ) (h : ℕ) → RowRight links schedule h
+
+-- 01, Packet, hop and schedule; Refusals, 22: with no links a schedule is empty, however many routers there are, and stands for N - 1 rows of no states.
+pub record WithoutLinks (routers : ℕ) : Type 0 where
+  pub empty : (long : ℕ) → T (soundLength routers 0 long) ↔ (long ≡ 0)
+  pub rows : rowsIn routers 0 [] ≡ map (λ h. []) (below (pred routers))
+
+abbrev pub EmptyWithoutLinks : Type 0
+EmptyWithoutLinks = (routers : ℕ) → WithoutLinks routers
+
+-- 01, Packet, hop and schedule: with links a schedule of k whole rows, at least N - 1, stands for these, one after the other.
+abbrev pub RowsInTurn : Type 0
+RowsInTurn =
+    (routers links k : ℕ) (schedule : List ℕ) → 0 < links → length schedule ≡ k * links → pred routers ≤ k →
+    rowsIn routers links schedule ≡ map (rowIn links schedule) (below k)
 
 -- a claim of every sound topology and every table accepted on it
 abbrev pub OfAccepted : (Topology → List ℕ → Type 0) → Type 0
@@ -117,7 +132,11 @@ CountRefuses =
     (t : Topology) (table buffer : List ℕ) (number at : ℕ) → number ≢ 0 → tableChecking t table ≡ answer number at →
     countingHops t table buffer ≡ record { answer = answer number at; buffer = buffer }
 
--- Demand 3, walks: for every start the figure we report is exactly the greatest hop count of a walk from there.
+-- 02, #107: u has a path to the table's destination
+abbrev pub Reached : Topology → List ℕ → ℕ → Type 0
+Reached t table u = PathTo (networkOf t) (destinationByte table) u
+
+-- Demand 3, walks: for every reached start the figure we report is exactly the greatest hop count of a walk from there.
 pub record FigureExact (t : Topology) (table : List ℕ) (u : ℕ) : Type 0 where
   -- no schedule passes it
   pub never-passed : (schedule : List ℕ) (w : Walk ℕ) → walking t table u schedule ≡ done w → packetOf w .hops ≤ getD (figures t table) u 0
@@ -128,7 +147,7 @@ pub record FigureExact (t : Topology) (table : List ℕ) (u : ℕ) : Type 0 wher
   pub at-most-rank : getD (figures t table) u 0 ≤ rankByte table u
 
 abbrev pub FiguresExact : Type 0
-FiguresExact = OfAccepted (λ t table. (u : ℕ) → u < t .routers → FigureExact t table u)
+FiguresExact = OfAccepted (λ t table. (u : ℕ) → u < t .routers → Reached t table u → FigureExact t table u)
 
 -- 01, Refusals, 14 and 15, for a hop: the topology is sound, and the packet's station and hops made are below N
 pub record Standing (t : Topology) (p : Packet ℕ) : Type 0 where
@@ -239,6 +258,25 @@ pub record HopLeaves (t : Topology) (table states : List ℕ) (p : Packet ℕ) :
 abbrev pub HopsLeave : Type 0
 HopsLeave = (t : Topology) (table states : List ℕ) (p : Packet ℕ) → HopLeaves t table states p
 
+-- 02, #107: from a start with no path to the destination a walk not refused is dropped after 0 hops, and so is every hop there, whatever the hops made; the
+-- figure reported is 255.
+pub record CutOff (t : Topology) (table : List ℕ) (u : ℕ) : Type 0 where
+  pub figure-is : getD (figures t table) u 0 ≡ 255
+  pub walks : (schedule : List ℕ) → SoundSchedule t schedule → walking t table u schedule ≡ done (dropped-at (record { station = u; hops = 0 }))
+  pub hops : (states : List ℕ) (p : Packet ℕ) → p .station ≡ u → Standing t p → SoundStates t states → hopping t table states p ≡ done network.dropped
+
+abbrev pub CutOffDrops : Type 0
+CutOffDrops = OfAccepted (λ t table. (u : ℕ) → u < t .routers → (Reached t table u → ⊥) → CutOff t table u)
+
+-- 02, #107: a station is reached or cut off, and its rank byte tells which: below N, or 255
+pub record ByRank (t : Topology) (table : List ℕ) (u : ℕ) : Type 0 where
+  pub either : Reached t table u ⊎ (Reached t table u → ⊥)
+  pub ranked : Reached t table u ↔ (rankByte table u < t .routers)
+  pub unranked : (Reached t table u → ⊥) ↔ (rankByte table u ≡ 255)
+
+abbrev pub RanksTell : Type 0
+RanksTell = OfAccepted (λ t table. (u : ℕ) → u < t .routers → ByRank t table u)
+
 -- Demand 3: a walk not refused ends delivered at d, or dropped off d where, in the row of states for that hop, no link to a listed next hop is up.
 pub data WalkEnds (t : Topology) (table : List ℕ) (u : ℕ) (schedule : List ℕ) : Type 0 where
   delivers : (p : Packet ℕ) → walking t table u schedule ≡ done (delivered-at p) → p .station ≡ destinationByte table → WalkEnds t table u schedule
@@ -290,21 +328,23 @@ abbrev pub CallsInTurn : Type 0
 CallsInTurn = (t : Topology) (table : List ℕ) (p : Packet ℕ) (last : ℕ) → InTurn t table p last
 
 -- Demand 3, hop by hop: ONE claim over all lists of calls, refused ones included, after a first accepted setting. The packet never has more hops made
--- than the figure of the station it was last set at, and for each station some list that last sets it there, and goes on by hops under states that
--- 22 and 23 let pass, reaches that figure.
+-- than the figure of the station it was last set at; if that is not reached it has 0 hops made, always, and stands there (02, #107). For each reached
+-- station some list that last sets it there, and goes on by hops under states that 22 and 23 let pass, reaches that figure.
 pub record CallsBounded (t : Topology) (table : List ℕ) : Type 0 where
   pub never-passed : (p : Packet ℕ) (first : ℕ) → first < t .routers → (cs : List Call) →
       (lastSetIn t table cs first < t .routers)
       × (afterAll t table (set-at first ∷ cs) p .hops ≤ getD (figures t table) (lastSetIn t table cs first) 0)
-  pub reached : (p : Packet ℕ) (s : ℕ) → s < t .routers → (cs : List Call) × (lastSetIn t table cs s ≡ s)
+  pub never-moved : (p : Packet ℕ) (first : ℕ) → first < t .routers → (cs : List Call) → (Reached t table (lastSetIn t table cs first) → ⊥) →
+      afterAll t table (set-at first ∷ cs) p ≡ record { station = lastSetIn t table cs first; hops = 0 }
+  pub reached : (p : Packet ℕ) (s : ℕ) → s < t .routers → Reached t table s → (cs : List Call) × (lastSetIn t table cs s ≡ s)
       × (afterAll t table (set-at s ∷ cs) p .hops ≡ getD (figures t table) s 0)
       × ((c : Call) → List·Memᴰ c cs → (states : List ℕ) × (c ≡ hop-under states) × SoundStates t states)
 
 abbrev pub CallsExact : Type 0
 CallsExact = OfAccepted CallsBounded
 
--- Demand 2, last clause: over a table in shortest-path mode, with all links up before every hop, the walk from every start is delivered at d, and what
--- its hops cost, each in the direction of travel, adds up to the distance.
+-- Demand 2, last clause: over a table in shortest-path mode, with all links up before every hop, the walk from every reached start is delivered at d, and
+-- what its hops cost, each in the direction of travel, adds up to the distance.
 pub record ShortestWalk (t : Topology) (table : List ℕ) (u : ℕ) (schedule : List ℕ) : Type 0 where
   pub end : Packet ℕ
   pub delivers : walking t table u schedule ≡ done (delivered-at end)
@@ -314,5 +354,5 @@ pub record ShortestWalk (t : Topology) (table : List ℕ) (u : ℕ) (schedule : 
 abbrev pub ShortestWalks : Type 0
 ShortestWalks =
     OfAccepted (λ t table. Accepted (networkOf t) (destinationByte table) shortest-path (orderIn (t .routers) table) →
-    (u : ℕ) → u < t .routers → (schedule : List ℕ) → SoundSchedule t schedule → ((b : ℕ) → List·Memᴰ b schedule → b ≡ 1) →
+    (u : ℕ) → u < t .routers → Reached t table u → (schedule : List ℕ) → SoundSchedule t schedule → ((b : ℕ) → List·Memᴰ b schedule → b ≡ 1) →
     ShortestWalk t table u schedule)

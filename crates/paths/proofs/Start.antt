@@ -1,31 +1,26 @@
 -- From a start the route is empty, 255 throughout, and a path put over it is its places and then 255.
 -- Assumes nothing.
-use Prim.Native.Nat.{ℕ, zero, suc, _+_, _*_, _-_, _≤_, _<_}
+use Prim.Native.Nat.{ℕ, _+_, _*_, _≤_, _<_}
 use mathlib.Core.Bool.{true, false}
 use mathlib.Core.List.{List, _++_}
 use mathlib.Core.Path.{_≡_, ap, _∙_}
-use native.Mathlib.Nat.{zero-add, sub-zero}
+use native.Mathlib.Nat.{zero-add}
 use native.Mathlib.Omega.{arith}
 use borrow.Author.Tests.{lt-ltb, le-ltb}
 use lib.Dec.{ltb}
-use lib.ListN.{length, take, drop, replicate, length-replicate}
+use lib.ListN.{length, take, replicate, length-replicate}
 use lib.Seq.{sets, sets-eq}
 use Rattle.network.specs.Lists.{counted}
 use Rattle.stations.specs.declared.Topology.{Topology}
 use Rattle.stations.specs.Topology.{padded}
 use Rattle.soundness.proofs.Sound.{sound-exact}
 use Rattle.topology.proofs.Joined.{joined-same}
+use Rattle.order.proofs.Runs.{drop-same}
 use Rattle.text.proofs.Stores.{start}
 use Rattle.ways.specs.Calls.{pathsOf, pathBytes, pathsBytes}
 use Rattle.ways.specs.Theorems.{Passed}
 use Rattle.ways.proofs.Right.{paths-exact}
 use Rattle.paths.specs.Inner.{Gathered, Listed}
-
--- what is left of equal numbers
-drop-same : (k n x : ℕ) → drop k (replicate n x) ≡ replicate (n - k) x
-drop-same zero n x = rw sub-zero
-drop-same (suc k) zero x = let none : 0 - suc k ≡ 0 = omega arith in rw none
-drop-same (suc k) (suc n) x = let less : suc n - suc k ≡ n - k = omega arith in rw less (drop-same k n x)
 
 over-empty : (path : List ℕ) → length path ≤ 64 → sets (replicate 64 255) 0 path ≡ pathBytes path
 unfolding pathBytes padded

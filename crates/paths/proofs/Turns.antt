@@ -1,4 +1,4 @@
--- The rule for paths, turn by turn, over the paths gathered so far. Ranks fall along entries, and a rank is below 64.
+-- The rule for paths, turn by turn, over the paths gathered so far. Ranks fall along entries, and a rank in the order is below 64.
 -- Assumes nothing.
 use Prim.Native.Nat.{ℕ, _+_, _*_, _≤_, _<_}
 use mathlib.Core.List.{List, [], _∷_, _++_}
@@ -7,18 +7,20 @@ use native.Mathlib.Numerals.{add-one}
 use native.Mathlib.Omega.{arith}
 use lib.ListN.{length, getD, set}
 use Rattle.network.specs.Lists.{counted}
+use Rattle.network.specs.Row.{rank}
 use Rattle.stations.specs.declared.Place.{Place}
 use Rattle.stations.specs.declared.Topology.{Topology}
 use Rattle.soundness.proofs.Sound.{sound-exact}
 use Rattle.topology.specs.Written.{joinedOver}
 use Rattle.rows.specs.Bytes.{rowStart}
+use Rattle.table.specs.Listed.{orderIn}
 use Rattle.packet.specs.Theorems.{rankByte, Lists}
 use Rattle.packet.proofs.Listed.{Over}
 use Rattle.hops.specs.Inner.{RowOf}
 use Rattle.hops.proofs.Bounds as bounds
 use Rattle.ways.specs.Calls.{pathsOf, pathsPast}
 use Rattle.ways.specs.Theorems.{Passed, PathRule}
-use Rattle.ways.proofs.Listed.{o, lower}
+use Rattle.ways.proofs.Listed.{o, law, lower}
 use Rattle.ways.proofs.Entries.{turn}
 use Rattle.ways.proofs.Rule.{paths-by-rule}
 use Rattle.paths.specs.declared.gathering.Entry.{Entry}
@@ -45,8 +47,12 @@ module _ {t : Topology} {table : List ℕ} {u : ℕ} (on : Passed t table u) whe
   unfolding rowStart
   few-entries = row-of .few
 
-  pub rank-few : rankByte table u < 64
-  rank-few = omega (arith, listed .rank-is u (on .place), listed .rank-below u (on .place), sound-exact t .0 (on .is-sound) .routers-most)
+  -- a rank by which every entry ranks lower: that in the order which the table's ranks form
+  abbrev turnOf : ℕ → ℕ
+  turnOf v = rank (orderIn (t .routers) table) v
+
+  pub rank-few : turnOf u < 64
+  rank-few = rw (listed .lists .ordered) (omega (arith, listed .rank-below u (on .place), sound-exact t .0 (on .is-sound) .routers-most))
 
   module _ {route : List ℕ} {moves : ℕ} {b : List ℕ} {count r : ℕ} {b′ : List ℕ} where
     -- at the destination
@@ -63,6 +69,7 @@ module _ {t : Topology} {table : List ℕ} {u : ℕ} (on : Passed t table u) whe
   pub record Next (i v : ℕ) : Type 0 where
     pub stands : Passed t table v
     pub lower : rankByte table v < rankByte table u
+    pub falls : turnOf v < turnOf u
     pub inside : i < getD table (4 + 19 * u + 2) 0
     pub paths : pathsPast t table u i ≡ pathsOf t table v ++ pathsPast t table u (i + 1)
 
@@ -73,6 +80,9 @@ module _ {t : Topology} {table : List ℕ} {u : ℕ} (on : Passed t table u) whe
       record {
         stands = record { is-sound = on .is-sound; accepted = on .accepted; place = rw (f .to) at there };
         lower = rw (f .to) at less;
+        falls =
+            rw (listed .lists .ordered, ← f .to)
+            (law t (on .is-sound) table (on .accepted) .falls u (f .arc) (rw (listed .entries-are u) at (f .among)));
         inside = l .0;
         paths = rw add-one (rule .entry i v l);
       }
@@ -91,7 +101,7 @@ module _ {t : Topology} {table : List ℕ} {u : ℕ} (on : Passed t table u) whe
 module _ {table : List ℕ} {u moves count : ℕ} {out : List ℕ} (a : Asked table u moves count out) where
   pub asked-next : {i v : ℕ} → Next (a .on) i v → count ≤ 512 → Asked table v (moves + 1) (count + 1) out
   asked-next n few =
-      record { topology = a .topology; on = n .stands; short = omega (arith, a .short, n .lower); few = omega arith; room = a .room }
+      record { topology = a .topology; on = n .stands; short = omega (arith, a .short, n .falls); few = omega arith; room = a .room }
 
   pub asked-again : {now : ℕ} → now ≤ 513 → {left : List ℕ} → length left ≡ length out → Asked table u moves now left
   asked-again few long = record { topology = a .topology; on = a .on; short = a .short; few = few; room = omega (arith, a .room) }

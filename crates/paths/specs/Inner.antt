@@ -6,10 +6,12 @@ use mathlib.Core.Path.{_≡_}
 use lib.ListN.{length, getD}
 use lib.Seq.{sets}
 use Rattle.network.specs.Lists.{counted}
+use Rattle.network.specs.Row.{rank}
 use Rattle.stations.specs.declared.Topology.{Topology}
 use Rattle.stations.specs.Limits.{mostRouters}
 use Rattle.topology.specs.Written.{joinedOver}
-use Rattle.packet.specs.Theorems.{rankByte, Lists}
+use Rattle.table.specs.Listed.{orderIn}
+use Rattle.packet.specs.Theorems.{Lists}
 use Rattle.text.specs.Lines.{Put}
 use Rattle.ways.specs.Calls.{mostPaths, pathsOf, pathsBytes}
 use Rattle.ways.specs.Theorems.{Passed}
@@ -30,7 +32,7 @@ Reads table u i entry.Past = getD table (4 + 19 * u + 2) 0 ≤ i
 pub record Asked (table : List ℕ) (u moves count : ℕ) (out : List ℕ) : Type 0 where
   pub topology : Topology
   pub on : Passed topology table u
-  pub short : moves + rankByte table u ≤ mostRouters
+  pub short : moves + rank (orderIn (topology .routers) table) u ≤ mostRouters
   pub few : count ≤ suc mostPaths
   pub room : mostBytes ≤ length out
 

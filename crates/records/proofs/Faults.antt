@@ -2,22 +2,17 @@
 -- Assumes nothing.
 use Prim.Native.Nat.{ℕ, zero, suc, _+_, _*_, _≤_, _<_}
 use mathlib.Core.Bool.{cond, not}
-use mathlib.Core.List.{List, [], _∷_, List·Memᴰ, List·Memᴰ·head}
+use mathlib.Core.List.{List}
 use mathlib.Core.Path.{_≡_, refl, sym}
 use native.Mathlib.Omega.{arith}
 use lib.Dec.{eqb, ltb, leb}
 use lib.ListN.{length, getD}
 use Rattle.network.specs.Lists.{any}
-use Rattle.network.proofs.Below.{below-lt}
-use Rattle.network.proofs.Lists.{mem-keep}
 use Rattle.stations.specs.declared.Half.{Half}
 use Rattle.stations.specs.Limits.{mostRouters, mostHalves, mostNeighbours}
-use Rattle.stations.specs.Topology.{Contents}
-use Rattle.stations.specs.Inner.{firstOr}
-use Rattle.soundness.specs.Apart.{apart}
 use Rattle.records.specs.declared.Reading.{Reading}
 use Rattle.records.specs.Halves.{Listing, halves}
-use Rattle.records.specs.Reading.{refusal, accepted, repeated, crowded, unless, joined}
+use Rattle.records.specs.Reading.{refusal, repeated, crowded, unless}
 use Rattle.records.specs.Inner.{Indexed}
 
 pub unless-fault : (number at : ℕ) (r : Reading) → (number ≡ 0 → ⊥) → unless number at r ≡ refusal number at
@@ -51,21 +46,3 @@ module _ (p : Listing) (h : Half) (new : List Half) where
 
   abbrev pub from-6 : ℕ
   from-6 = cond (eqb (h .from .0) (h .to .0)) 6 from-7
-
--- the places that are apart are places of routers, so that the first of them, or else the number of routers, tells whether there are any
-module _ (c : Contents) (n u : ℕ) (count : n ≡ length (c .ids)) (lowest : u ≡ firstOr n (apart c)) where
-  pub joined-not : u < n → joined c (apart c) ≡ refusal 13 u
-  unfolding firstOr joined
-  joined-not h = go (apart c) lowest
-    where
-      go : (us : List ℕ) → u ≡ firstOr n us → joined c us ≡ refusal 13 u
-      go [] e = absurd (omega arith)
-      go (v ∷ us) e = rw e
-
-  pub joined-all : n ≤ u → joined c (apart c) ≡ accepted c
-  unfolding firstOr joined apart
-  joined-all h = go (apart c) lowest (λ v m. below-lt (length (c .ids)) (mem-keep _ _ m .0))
-    where
-      go : (us : List ℕ) → u ≡ firstOr n us → ((v : ℕ) → List·Memᴰ v us → v < length (c .ids)) → joined c us ≡ accepted c
-      go [] e in-range = refl
-      go (v ∷ us) e in-range = absurd (omega (arith, in-range v (List·Memᴰ·head refl)))

@@ -1,9 +1,8 @@
 -- Bytes that list contents leave the reading at their end with those contents, record by record; what comes next is then one step of it.
 -- Assumes nothing.
-use Prim.Native.Nat.{ℕ, suc, _+_, _<_, _^_}
+use Prim.Native.Nat.{ℕ, suc, _+_, _<_}
 use mathlib.Core.Bool.{false}
 use mathlib.Core.List.{List, [], _∷_, _++_, append-nil, append-assoc}
-use mathlib.Core.List.{List·Memᴰ, List·Memᴰ·head, List·Memᴰ·tail, Memᴰ·append-left, Memᴰ·append-right}
 use mathlib.Core.Logic.{_≢_}
 use mathlib.Core.Path.{_≡_, refl, sym, ap, _∙_, subst}
 use native.Mathlib.Nat.{zero-add}
@@ -11,16 +10,15 @@ use native.Mathlib.Omega.{arith}
 use borrow.Author.Tests.{lt-ltb, le-ltb, ne-eqb}
 use lib.ListN.{length, length-append}
 use Rattle.stations.specs.declared.Half.{Half}
-use Rattle.stations.specs.Topology.{noLink, padded, held, zeros, seen}
+use Rattle.stations.specs.Topology.{noLink, padded, held, zeros}
 use Rattle.records.specs.declared.Record.{Record}
 use Rattle.records.specs.declared.Record.the-variants as record-of
 use Rattle.records.specs.Halves.{Listing, linkHalves, halves, opposite, linkOf}
 use Rattle.records.specs.Stream.{bigEndianOn, bigEndian, bodyLength, halfIn, decoded, recordIn, records}
 use Rattle.records.specs.Reading.{refusal, fault, withRouter, withLink, withLimit, added, width, isEnd, ended, unless, some?, inTurn, nothingListed, reading}
-use Rattle.records.specs.Theorems.{Bytes, fourBytes, twoBytes, halfOf, Lists, refused, ReadsInTurn, ListsSound}
+use Rattle.records.specs.Theorems.{fourBytes, twoBytes, halfOf, Lists, refused, ReadsInTurn}
 use Rattle.records.proofs.Halves.{total}
 use Rattle.records.proofs.Opposite.{Once}
-use Rattle.records.proofs.Kept.{Good, linked, good-nothing, kept}
 use Rattle.records.proofs.Lone.{once-added, first-added, second-added}
 
 -- the next record, by its bytes
@@ -147,53 +145,3 @@ reads-in-turn s p l = record {
   end = end-here s p l [];
   end-followed = λ byte rest. end-here s p l (byte ∷ rest);
 }
-
--- where an element stands
-here : {x : ℕ} {xs : List ℕ} → List·Memᴰ x (x ∷ xs)
-here = List·Memᴰ·head refl
-
-there : {x y : ℕ} {xs : List ℕ} → List·Memᴰ x xs → List·Memᴰ x (y ∷ xs)
-there m = List·Memᴰ·tail m
-
--- bytes that list contents without a fault keep them good
-module _ (s part : List ℕ) (bytes : Bytes (s ++ part)) where
-  first-part : Bytes s
-  first-part x m = bytes x (Memᴰ·append-left part m)
-
-  last-part : Bytes part
-  last-part x m = bytes x (Memᴰ·append-right s m)
-
-module _ (s : List ℕ) (kind u v e f : ℕ) (bytes : Bytes (s ++ (kind ∷ u ∷ v ∷ e ∷ f ∷ []))) where
-  small : Bytes (kind ∷ u ∷ v ∷ e ∷ f ∷ [])
-  small = last-part s (kind ∷ u ∷ v ∷ e ∷ f ∷ []) bytes
-
-  cost-fits : twoBytes e f < 2 ^ 16
-  cost-fits = omega (arith, small e (there (there (there here))), small f (there (there (there (there here)))))
-
-good-listed : {s : List ℕ} {p : Listing} → Bytes s → Lists s p → Good p
-unfolding nothingListed added withRouter withLink withLimit linkOf opposite
-good-listed bytes Lists.nothing = good-nothing
-good-listed bytes (Lists.router {s} {p} a b e f ok l) =
-    let small = last-part s (1 ∷ a ∷ b ∷ e ∷ f ∷ []) bytes in
-    kept p (good-listed (first-part s (1 ∷ a ∷ b ∷ e ∷ f ∷ []) bytes) l) (record-of.Router (fourBytes a b e f)) ok
-    (omega (
-      arith,
-      small a (there here),
-      small b (there (there here)),
-      small e (there (there (there here))),
-      small f (there (there (there (there here)))),
-    ))
-good-listed bytes (Lists.link {s} {p} u v e f ok l) =
-    kept p (good-listed (first-part s (2 ∷ u ∷ v ∷ e ∷ f ∷ []) bytes) l) (record-of.Link (halfOf u v (twoBytes e f))) ok (cost-fits s 2 u v e f bytes)
-good-listed bytes (Lists.first-half {s} {p} u v e f ok out l) =
-    subst Good (first-added p u v (twoBytes e f) out)
-    (kept p (good-listed (first-part s (4 ∷ u ∷ v ∷ e ∷ f ∷ []) bytes) l) (record-of.Half (halfOf u v (twoBytes e f))) ok (cost-fits s 4 u v e f bytes))
-good-listed bytes (Lists.second-half {s} {p} u v e f ok before c after is l) =
-    subst Good (second-added p u v (twoBytes e f) (lists-once l) before c after is)
-    (kept p (good-listed (first-part s (4 ∷ u ∷ v ∷ e ∷ f ∷ []) bytes) l) (record-of.Half (halfOf u v (twoBytes e f))) ok (cost-fits s 4 u v e f bytes))
-good-listed bytes (Lists.limit {s} {p} k ok l) =
-    kept p (good-listed (first-part s (8 ∷ k ∷ []) bytes) l) (record-of.Limit k) ok tt
-
-pub lists-sound : ListsSound
-unfolding seen
-lists-sound s p bytes l = linked p (good-listed bytes l)

@@ -1,5 +1,5 @@
--- What is listed so far is sound but for having a router and paths: nothing listed is, and a record without a fault keeps it so. A half is tested
--- against the routers listed at that time; those listed after it only make more places.
+-- What is listed so far is sound but for having a router: nothing listed is, and a record without a fault keeps it so. A half is tested against the
+-- routers listed at that time; those listed after it only make more places.
 -- Assumes nothing.
 use Prim.Native.Nat.{ℕ, _+_, _≤_, _<_, _^_}
 use mathlib.Core.Bool.{Bool, true, false, cond, not}
@@ -20,7 +20,7 @@ use Rattle.network.proofs.SoundLinks.{sound-links-exact}
 use Rattle.stations.specs.declared.Half.{Half}
 use Rattle.stations.specs.Topology.{held, seen}
 use Rattle.stations.proofs.Prefix.{distinct-more}
-use Rattle.soundness.specs.Sound.{within, wellLinked}
+use Rattle.soundness.specs.Sound.{within}
 use Rattle.soundness.proofs.Sound.{within-fact}
 use Rattle.records.specs.declared.Record.{Record}
 use Rattle.records.specs.declared.Record.the-variants as record-of
@@ -198,10 +198,9 @@ module _ (p : Listing) (g : Good p) where
   kept (record-of.Refused number) e fits = g
 
 pub good-listed : (p : Listing) → Good p → Listed (held (p .contents))
-unfolding wellLinked held
+unfolding held
 good-listed p g =
     record {
       counted = record { routers-fit = g .routers-fit; links-fit = links-fit p g };
       whole = ap held (sym (contents-held (p .contents)));
-      linked = rw contents-held (linked p g);
     }

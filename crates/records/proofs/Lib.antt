@@ -16,3 +16,4 @@ pub mod Verdicts
 pub mod Table
 pub mod Lone
 pub mod InTurn
+pub mod Numbers

@@ -1,5 +1,5 @@
--- What reading returns. While records are taken what is listed stays good, and at the end record it has a router and paths besides, so it is sound;
--- every other way out is a refusal, with a number that is not 0.
+-- What reading returns. While records are taken what is listed stays good, and at the end record it has a router besides, so it is sound; every other
+-- way out is a refusal, with a number that is not 0.
 -- Assumes nothing.
 use Prim.Native.Nat.{ℕ, zero, suc, _+_, _-_, _≤_, _<_, _^_}
 use mathlib.Core.Bool.{Bool, true, false, cond}
@@ -13,19 +13,17 @@ use lib.Dec.{T, eqb}
 use lib.ListN.{length, drop, replicate}
 use lib.Seq.{drop-append-seam}
 use Rattle.network.specs.Network.{arcsOf}
-use Rattle.network.specs.Distance.{PathTo}
 use Rattle.network.specs.Theorems.Network.{SoundLinks}
 use Rattle.network.proofs.SoundLinks.{sound-links-exact}
 use Rattle.stations.specs.Topology.{Contents, noLink, padded, contents, held, zeros, seen, networkOf}
 use Rattle.stations.proofs.Arcs.{arcs-listed}
-use Rattle.soundness.specs.Apart.{apart}
 use Rattle.soundness.specs.Sound.{sound}
 use Rattle.soundness.specs.Theorems.{Sound}
-use Rattle.soundness.proofs.Sound.{none-apart, sound-exact}
+use Rattle.soundness.proofs.Sound.{sound-exact}
 use Rattle.records.specs.declared.Record.{Record}
 use Rattle.records.specs.Halves.{Listing}
 use Rattle.records.specs.Stream.{bodyLength, records}
-use Rattle.records.specs.Reading.{refusal, accepted, fault, added, width, isEnd, joined, ended, unless, some?, inTurn, nothingListed, reading}
+use Rattle.records.specs.Reading.{refusal, accepted, fault, added, width, isEnd, ended, unless, some?, inTurn, nothingListed, reading}
 use Rattle.records.specs.Theorems.{Bytes, Read, ReadsSound}
 use Rattle.records.proofs.Held.{contents-held, padded-length}
 use Rattle.records.proofs.Fitting.{Fitting, record-fits}
@@ -40,8 +38,8 @@ module _ {A : Type 0} (z : A) (slots : ℕ) (xs : List A) (fit : length xs ≤ s
   unfolding padded
   padded-rest x m = mem-replicate (slots - length xs) z (rw drop-append-seam at m)
 
--- what is good, has a router and has no place apart is sound
-module _ (p : Listing) (g : Good p) (some : 0 < length (p .contents .ids)) (together : apart (p .contents) ≡ []) where
+-- what is good and has a router is sound
+module _ (p : Listing) (g : Good p) (some : 0 < length (p .contents .ids)) where
   abbrev c : Contents
   c = p .contents
 
@@ -56,10 +54,6 @@ module _ (p : Listing) (g : Good p) (some : 0 < length (p .contents .ids)) (toge
   unfolding networkOf
   neighbours-held u h = rw (contents-held, arcs-listed c u h) (neighbours p g u)
 
-  paths-held : (u : ℕ) → u < length (c .ids) → PathTo (networkOf (held c)) 0 u
-  unfolding networkOf
-  paths-held u h = rw contents-held (none-apart c some (linked p g) .0 together u h)
-
   facts : Sound (held c)
   unfolding contents held noLink seen
   facts =
@@ -71,7 +65,6 @@ module _ (p : Listing) (g : Good p) (some : 0 < length (p .contents .ids)) (toge
         limit-most = g .limit-most;
         linked = linked-held;
         neighbours = neighbours-held;
-        paths = paths-held;
         ids-unused = λ i m. padded-rest 0 64 (c .ids) (g .routers-fit) i m;
         links-unused = λ l m. let e = padded-rest noLink 256 (c .links) (links-fit p g) l m in rw e (refl, refl, refl, refl);
         id-slots = padded-length 0 64 (c .ids) (g .routers-fit);
@@ -88,23 +81,18 @@ read-refusal number at other =
     record { at-none = λ z. absurd (other z); is-sound = λ z. absurd (other z); zeros = λ n. refl }
 
 module _ (p : Listing) (g : Good p) where
-  read-accepted : 0 < length (p .contents .ids) → apart (p .contents) ≡ [] → Read (accepted (p .contents))
+  read-accepted : 0 < length (p .contents .ids) → Read (accepted (p .contents))
   unfolding accepted
-  read-accepted some together =
-      record { at-none = λ z. refl; is-sound = λ z. good-sound p g some together; zeros = λ other. absurd (other refl) }
+  read-accepted some = record { at-none = λ z. refl; is-sound = λ z. good-sound p g some; zeros = λ other. absurd (other refl) }
 
   pub ended-reads : (follows : Bool) (at : ℕ) → Read (ended follows at (p .contents))
-  unfolding ended joined
+  unfolding ended
   ended-reads true at = read-refusal 11 (at + 1) (λ e. omega (arith, e))
   ended-reads false at = cases (eqb (length (p .contents .ids)) 0) refl
     where
-      last : 0 < length (p .contents .ids) → (us : List ℕ) → apart (p .contents) ≡ us → Read (joined (p .contents) us)
-      last some [] e = read-accepted some e
-      last some (u ∷ us) e = read-refusal 13 u (λ z. omega (arith, z))
-
-      cases : (b : Bool) → eqb (length (p .contents .ids)) 0 ≡ b → Read (cond b (refusal 12 at) (joined (p .contents) (apart (p .contents))))
+      cases : (b : Bool) → eqb (length (p .contents .ids)) 0 ≡ b → Read (cond b (refusal 12 at) (accepted (p .contents)))
       cases true e = read-refusal 12 at (λ e. omega (arith, e))
-      cases false e = last (omega (arith, eqb-false (length (p .contents .ids)) 0 e)) (apart (p .contents)) refl
+      cases false e = read-accepted (omega (arith, eqb-false (length (p .contents .ids)) 0 e))
 
 turns-read : (rs : List Record) (at : ℕ) (p : Listing) → Good p → ((r : Record) → List·Memᴰ r rs → Fitting r) → Read (inTurn at p rs)
 unfolding inTurn unless

@@ -8,21 +8,17 @@ use mathlib.Core.Path.{_≡_, refl, ap}
 use native.Mathlib.Omega.{arith}
 use lib.Dec.{T, eqb, eqb→eq}
 use lib.ListN.{take}
-use Rattle.network.specs.Lists.{numbersFrom, below, keep, every, any, leastBy, member, sameNumbers}
-use Rattle.network.specs.Network.{size, arcsOf, greatestCost, arcsAmong, linked}
-use Rattle.network.specs.Distance.{absent, distanceIn, through, atFirst, round, rounds, distances}
-use Rattle.network.specs.Order.{reached}
+use Rattle.network.specs.Lists.{numbersFrom, below, keep, every, any, member, sameNumbers}
 use Rattle.network.proofs.Tests.{both}
 use Rattle.stations.specs.declared.Half.{Half}
-use Rattle.stations.specs.Topology.{noLink, padded, contents, held, zeros, seen, networkIn}
-use Rattle.soundness.specs.Apart.{apart}
+use Rattle.stations.specs.Topology.{noLink, padded, contents, held, zeros}
 use Rattle.soundness.specs.Sound.{within}
 use Rattle.records.specs.declared.Record.{Record}
 use Rattle.records.specs.declared.Record.the-variants as record-of
 use Rattle.records.specs.Halves.{Listing, firstHalf, secondHalf, linkHalves, halves, sameHalf, leaves, opposite, linkOf}
 use Rattle.records.specs.Stream.{bigEndianOn, bigEndian, bodyLength, halfIn, decoded, recordIn, records}
 use Rattle.records.specs.Reading.{refusal, accepted, routerFault, repeated, crowded, halvesFault, fault, withRouter, withLink, withLimit}
-use Rattle.records.specs.Reading.{arrived, added, width, isEnd, joined, ended, unless, some?}
+use Rattle.records.specs.Reading.{arrived, added, width, isEnd, ended, unless, some?}
 use Rattle.records.specs.Reading.{inTurn, nothingListed, reading}
 use Rattle.records.specs.Table.{sameLinks, answers, holding, claimHolds, holds, reads, one, two, three, T-stream, inSequence, routers}
 use Rattle.records.specs.Table.{hub, sent, received, exchanged, ring, atLimits, facts, FactsHold}
@@ -124,14 +120,11 @@ unfolding numbersFrom below any keep member linkHalves firstHalf secondHalf halv
 ring-cut = full-refuses-link 32 33 0 1 8 refl
 
 facts-computed : T (every holds facts)
-unfolding numbersFrom below keep every any leastBy member
-    size arcsOf greatestCost arcsAmong linked
-    absent distanceIn through atFirst round rounds distances reached
-    noLink padded contents held zeros seen networkIn apart within
+unfolding numbersFrom below keep every any member noLink padded contents held zeros within
     bigEndianOn bigEndian bodyLength halfIn decoded recordIn records
     linkHalves firstHalf secondHalf halves sameHalf leaves opposite linkOf
     refusal accepted routerFault repeated crowded halvesFault fault withRouter withLink withLimit arrived added
-    width isEnd joined ended unless some? inTurn nothingListed reading
+    width isEnd ended unless some? inTurn nothingListed reading
     sameNumbers sameLinks answers holding claimHolds holds reads one two three T-stream inSequence routers hub sent received exchanged ring facts
 facts-computed = tt
 

@@ -4,7 +4,7 @@ use Prim.Native.Nat.{ℕ, _+_, _*_, _<_}
 use mathlib.Core.Bool.{not}
 use mathlib.Core.List.{List}
 use mathlib.Core.Path.{_≡_}
-use lib.Dec.{T, eqb}
+use lib.Dec.{eqb}
 use lib.ListN.{length, getD}
 use Rattle.network.specs.Lists.{keep}
 use Rattle.stations.specs.declared.Half.{Half}
@@ -12,15 +12,13 @@ use Rattle.stations.specs.declared.Topology.{Topology}
 use Rattle.stations.specs.Limits.{mostRouters}
 use Rattle.stations.specs.Topology.{contents, held}
 use Rattle.stations.specs.Inner.{Counted}
-use Rattle.soundness.specs.Sound.{wellLinked}
 use Rattle.records.specs.Halves.{Listing, halves, leaves}
 use Rattle.records.specs.Reading.{repeated}
 
--- the counts are within the limits, unused slots are zero, and what is listed is well linked: what holds of a topology while it is read
+-- the counts are within the limits, and unused slots are zero: what holds of a topology while it is read
 pub record Listed (t : Topology) : Type 0 where
   pub counted : Counted t
   pub whole : t ≡ held (contents t)
-  pub linked : T (wellLinked t)
 
 -- what is known of the listing without going through its halves: n routers, m halves, a table that has 0 at u * 64 + v exactly
 -- where the half from u to v is not listed, and one that has at u how many halves leave u

@@ -11,7 +11,6 @@ use Rattle.stations.specs.declared.Link.{Link}
 use Rattle.stations.specs.Limits.{mostRouters, mostHalves, mostNeighbours, mostNextHops, defaultNextHops}
 use Rattle.stations.specs.Outcome.{answer}
 use Rattle.stations.specs.Topology.{Contents, held, zeros}
-use Rattle.soundness.specs.Apart.{apart}
 use Rattle.soundness.specs.Sound.{within}
 use Rattle.records.specs.declared.Reading.{Reading}
 use Rattle.records.specs.declared.Record.{Record}
@@ -104,14 +103,9 @@ isEnd (record-of.Limit k) = false
 isEnd record-of.End = true
 isEnd (record-of.Refused number) = false
 
--- 01, Refusals, 13: at the lowest place that has no path to place 0
-unfoldable pub joined : Contents → List ℕ → Reading
-joined c [] = accepted c
-joined c (u ∷ us) = refusal 13 u
-
--- 01, Refusals, 11, 12 and 13, at the end record: whether a byte follows it, and where it stands
+-- 01, Refusals, 11 and 12, at the end record: whether a byte follows it, and where it stands. Routers that no path joins are listed too (02, #107).
 unfoldable pub ended : Bool → ℕ → Contents → Reading
-ended follows at c = cond follows (refusal 11 (at + 1)) (cond (eqb (length (c .ids)) 0) (refusal 12 at) (joined c (apart c)))
+ended follows at c = cond follows (refusal 11 (at + 1)) (cond (eqb (length (c .ids)) 0) (refusal 12 at) (accepted c))
 
 -- 01, Refusals: a fault refuses at the record, else the reading goes on
 unfoldable pub unless : ℕ → ℕ → Reading → Reading

@@ -2,14 +2,12 @@
 -- Assumes nothing.
 use Prim.Native.Nat.{ℕ, suc, _+_, _-_, _*_, _≤_, _<_}
 use mathlib.Core.Bool.{Bool, true, false}
-use mathlib.Core.List.{List, [], _∷_, _++_, List·Memᴰ, map}
+use mathlib.Core.List.{List, [], _∷_, _++_, List·Memᴰ}
 use mathlib.Core.Logic.{_↔_, _≢_, _⊎_}
 use mathlib.Core.Path.{_≡_}
 use lib.Dec.{T, eqb}
 use lib.ListN.{length, replicate}
 use Rattle.network.specs.Lists.{keep}
-use Rattle.network.specs.Network.{Network, linked, soundLinks}
-use Rattle.network.specs.Distance.{PathTo}
 use Rattle.stations.specs.declared.Answer.{Answer}
 use Rattle.stations.specs.declared.Half.{Half}
 use Rattle.stations.specs.declared.Link.{Link}
@@ -17,7 +15,6 @@ use Rattle.stations.specs.declared.Topology.{Topology}
 use Rattle.stations.specs.Outcome.{answer}
 use Rattle.stations.specs.Topology.{Contents}
 use Rattle.soundness.specs.Sound.{sound}
-use Rattle.soundness.specs.Theorems.{plain, Lowest}
 use Rattle.records.specs.declared.Reading.{Reading}
 use Rattle.records.specs.declared.Record.the-variants as record-of
 use Rattle.records.specs.Halves.{Listing}
@@ -60,15 +57,15 @@ pub record Read (r : Reading) : Type 0 where
 abbrev pub ReadsSound : Type 0
 ReadsSound = (s : List ℕ) → Bytes s → Read (reading s)
 
+-- 01, Refusals, and 02, #107: no other number is met by a stream; 13 is not, as nothing is asked of paths
+abbrev pub ReadNumbers : Type 0
+ReadNumbers = (s : List ℕ) → List·Memᴰ (reading s .answer .number) (0 ∷ 1 ∷ 2 ∷ 3 ∷ 4 ∷ 5 ∷ 6 ∷ 7 ∷ 8 ∷ 9 ∷ 10 ∷ 11 ∷ 12 ∷ 16 ∷ [])
+
 -- 01, Refusals, 3 and 4: what each number of a router's record says, after what is listed; the tests before it pass.
 pub record RouterFaults (p : Listing) (id : ℕ) : Type 0 where
   pub says-3 : (fault p (record-of.Router id) ≡ 3) ↔ List·Memᴰ id (p .contents .ids)
   pub says-4 : (fault p (record-of.Router id) ≡ 4) ↔ ((List·Memᴰ id (p .contents .ids) → ⊥) × (64 ≤ length (p .contents .ids)))
   pub says-0 : (fault p (record-of.Router id) ≡ 0) ↔ ((List·Memᴰ id (p .contents .ids) → ⊥) × (length (p .contents .ids) < 64))
-
--- the network of what is listed: lone halves are not in it
-abbrev pub linkedIn : Contents → Network
-linkedIn c = linked (c .ids) (map plain (c .links))
 
 -- 02, #105, 8: the half from u to v is listed: as a link's, in the direction from its first place to its second or the other way round, or as a lone one
 pub data HalfListed (p : Listing) (u v : ℕ) : Type 0 where
@@ -140,14 +137,12 @@ pub record LimitFaults (p : Listing) (k : ℕ) : Type 0 where
   pub says-16 : (fault p (record-of.Limit k) ≡ 16) ↔ ((k ≡ 0) ⊎ (16 < k))
   pub says-0 : (fault p (record-of.Limit k) ≡ 0) ↔ ((1 ≤ k) × (k ≤ 16))
 
--- 01, Refusals, 11 to 13: what each answer at the end record says, by whether a byte follows it and where it stands; the tests before it pass. 13
--- and 0 are said of sound links; what bytes list without a fault is sound (`ListsSound`).
+-- 01, Refusals, 11 and 12: what each answer at the end record says, by whether a byte follows it and where it stands; the tests before it pass.
+-- Nothing is asked of paths: topologies whose parts are apart are read (02, #107).
 pub record EndFaults (c : Contents) (follows : Bool) (at points : ℕ) (a : Answer) : Type 0 where
   pub says-11 : (a ≡ answer 11 points) ↔ ((points ≡ at + 1) × (follows ≡ true))
   pub says-12 : (a ≡ answer 12 points) ↔ ((points ≡ at) × (follows ≡ false) × (length (c .ids) ≡ 0))
-  pub says-13 : T (soundLinks (c .ids) (map plain (c .links))) → (a ≡ answer 13 points) ↔ ((follows ≡ false) × (0 < length (c .ids)) × Lowest c points)
-  pub says-0 : T (soundLinks (c .ids) (map plain (c .links))) →
-      (a ≡ answer 0 points) ↔ ((points ≡ 0) × (follows ≡ false) × (0 < length (c .ids)) × ((u : ℕ) → u < length (c .ids) → PathTo (linkedIn c) 0 u))
+  pub says-0 : (a ≡ answer 0 points) ↔ ((points ≡ 0) × (follows ≡ false) × (0 < length (c .ids)))
 
 -- 01, Refusals, the table and the order of the tests: what each number says, record by record, whatever is listed before it.
 pub record Faults (p : Listing) : Type 0 where
@@ -250,7 +245,3 @@ pub record NextRecord (s : List ℕ) (p : Listing) : Type 0 where
 
 abbrev pub ReadsInTurn : Type 0
 ReadsInTurn = (s : List ℕ) (p : Listing) → Lists s p → NextRecord s p
-
--- What bytes list so has sound links, as 13 and 0 at the end record ask (`EndFaults`).
-abbrev pub ListsSound : Type 0
-ListsSound = (s : List ℕ) (p : Listing) → Bytes s → Lists s p → T (soundLinks (p .contents .ids) (map plain (p .contents .links)))

@@ -6,8 +6,7 @@ use Rattle.network.specs.Distance.{absent, distanceIn, through, atFirst, round,
 use Rattle.network.specs.Order.{reached, shortestNextHops, leadsInto, ready, candidate, placedNeighbours, preferred, select, continued, placing, build}
 use Rattle.network.specs.Row.{rank, sortsBefore, rankedBefore, fullRow, row}
 use Rattle.stations.specs.Topology.{noLink, padded, contents, held, zeros, seen, networkIn, networkOf}
-use Rattle.soundness.specs.Apart.{apart}
-use Rattle.soundness.specs.Sound.{within, inLimits, wellLinked, uncrowded, none?, connected, isNoLink, unusedZero, slotted, sound}
+use Rattle.soundness.specs.Sound.{within, inLimits, wellLinked, uncrowded, isNoLink, unusedZero, slotted, sound}
 use Rattle.topology.specs.Written.{joinedOver}
 use Rattle.order.specs.Table.{link, T-topology}
 use Rattle.table.specs.Facts.{lone}
@@ -26,8 +25,8 @@ unfolding numbersFrom below keep every any leastBy greatestBy ahead foremost ins
     absent distanceIn through atFirst round rounds distances
     reached shortestNextHops leadsInto ready candidate placedNeighbours preferred select continued placing build
     rank sortsBefore rankedBefore fullRow row
-    noLink padded contents held zeros seen networkIn networkOf apart
-    within inLimits wellLinked uncrowded none? connected isNoLink unusedZero slotted sound
+    noLink padded contents held zeros seen networkIn networkOf
+    within inLimits wellLinked uncrowded isNoLink unusedZero slotted sound
     joinedOver link T-topology lone answerText answerLine lastDigits numberText spaced
     rowFor pairsTo pairsOf hasTwo coveredAmong listedFor counted nothingCounted coverage
     overLinks fractions numbers answerOf coverageLine coverageOf holds facts

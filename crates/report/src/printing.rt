@@ -1,4 +1,5 @@
 // Putting lines into a lent buffer: each number is put behind the one before, which answers where it ends.
+use super::unchecked::fields::put_byte_field;
 use super::unchecked::fields::put_field;
 use super::unchecked::fields::put_fields;
 use rows::ENTRIES;
@@ -17,7 +18,7 @@ ghost use Rattle.text.specs.Lines.{Put};
 ghost use Rattle.wording.specs.Inner.{mostLine, mostLines, rowText, frontText, lineOf, Row, Small, Listable, tableText};
 
 // Room for a line, and for the lines of a destination.
-const LINE: usize = 12 + 3 * ENTRIES;
+const LINE: usize = 14 + 3 * ENTRIES;
 
 pub(crate) const LINES: usize = LINE * ROUTERS;
 
@@ -53,13 +54,13 @@ fn put_row(out: &mut [u8], at: usize, row: &[u8]) -> usize
 
 // The fields of a line before its row.
 fn put_front(out: &mut [u8], at: usize, front: Front) -> usize
-    requires { ⌜ Small front × (at + 11 ≤ length (now out)) ⌝ }
+    requires { ⌜ Small front × (at + 13 ≤ length (now out)) ⌝ }
     ensures { λ r. ⌜ Put (now (out .entry)) at (frontText front) r (now (out .exit)) ⌝ }
 {
     let first = lines::put_small(out, at, front.destination);
     let second = put_field(out, first, front.router);
-    let third = put_field(out, second, front.rank);
-    put_field(out, third, front.hops)
+    let third = put_byte_field(out, second, front.rank);
+    put_byte_field(out, third, front.hops)
 }
 
 // A line.

@@ -21,14 +21,14 @@ holds f = sameNumbers (output (f .stream)) (f .prints)
 unfoldable pub refused : List ℕ → List ℕ
 refused rest = 114 ∷ 101 ∷ 102 ∷ 117 ∷ 115 ∷ 101 ∷ 100 ∷ 32 ∷ rest
 
--- 02, 103: T's whole output, by its listing; one router alone; then refusals: `refused 1 0` for nothing, `refused 13 1` for two routers without a link,
--- `refused 11 31` for a byte after T
+-- 02, 103: T's whole output, by its listing; one router alone; two routers without a link, of which each has a path to itself alone (02, #107); then
+-- refusals: `refused 1 0` for nothing, `refused 11 31` for a byte after T
 unfoldable pub facts : List Fact
 facts =
     record { stream = T-stream; prints = T-0 ++ (T-1 ++ T-2) }
     ∷ record { stream = routers 1 ++ (3 ∷ []); prints = lone-0 }
+    ∷ record { stream = routers 2 ++ (3 ∷ []); prints = lone-0 ++ (49 ∷ 32 ∷ 49 ∷ 32 ∷ 58 ∷ 32 ∷ 49 ∷ 10 ∷ []) }
     ∷ record { stream = []; prints = refused (49 ∷ 32 ∷ 48 ∷ 10 ∷ []) }
-    ∷ record { stream = routers 2 ++ (3 ∷ []); prints = refused (49 ∷ 51 ∷ 32 ∷ 49 ∷ 10 ∷ []) }
     ∷ record { stream = T-stream ++ (0 ∷ []); prints = refused (49 ∷ 49 ∷ 32 ∷ 51 ∷ 49 ∷ 10 ∷ []) }
     ∷ []
 

@@ -2,5 +2,6 @@ pub mod Carrying
 pub mod SlotKeys
 pub mod Padding
 pub mod Mapped
+pub mod RankBytes
 pub mod KeyLaw
 pub mod Putting

@@ -24,7 +24,8 @@ use Rattle.topology.proofs.Over.{over-start, over-none, over-over}
 use Rattle.topology.proofs.Joined.{joined-length, joined-many, put-length, put-next}
 use Rattle.rows.specs.Bytes.{rowBytes, headerBytes, rowOf, rowsBytes, tableBytes, rowStart, tableLength}
 use Rattle.rows.specs.Keys.{Weights, rankOf, sortedKeys, placeOf, Fillable}
-use Rattle.rows.proofs.KeyLaw.{rank-of, key-law}
+use Rattle.rows.proofs.RankBytes.{rank-of}
+use Rattle.rows.proofs.KeyLaw.{weighable, key-law}
 
 -- the rows of the first u places
 abbrev pub firstRows : Network → List ℕ → ℕ → List ℕ → ℕ → List ℕ
@@ -84,4 +85,4 @@ pub row-put : {t : Topology} {a : Arcs} {ds : List ℕ} {d limit : ℕ} {order :
     rowBytes (rankOf (ranks .by) u) (map placeOf (take count keys)) ≡ rowOf (networkOf t) (distances (networkOf t) d) limit order u
 unfolding rowOf
 row-put {limit} f w r u u-in keys found count e cut =
-    rw (rank-of f r u u-in, cut-keys keys found limit count e cut, key-law f w r u u-in)
+    rw (rank-of r u (omega (arith, weighable f .most)), cut-keys keys found limit count e cut, key-law f w r u u-in)

@@ -1,9 +1,10 @@
 -- The bytes of rows and tables (01, Rows and tables).
 -- Assumes nothing.
 use Prim.Native.Nat.{ℕ, _+_, _*_}
+use mathlib.Core.Bool.{cond}
 use mathlib.Core.List.{List, [], _∷_, _++_, map}
 use lib.ListN.{length}
-use Rattle.network.specs.Lists.{below}
+use Rattle.network.specs.Lists.{below, member}
 use Rattle.network.specs.Network.{Arc, Network, size}
 use Rattle.network.specs.Distance.{distances}
 use Rattle.network.specs.Row.{rank, row}
@@ -19,9 +20,14 @@ rowBytes rank places = 17 ∷ rank ∷ length places ∷ padded 255 mostNextHops
 unfoldable pub headerBytes : ℕ → ℕ → ℕ → List ℕ
 headerBytes d count limit = 16 ∷ d ∷ count ∷ limit ∷ []
 
+-- 01, Rows and tables, and 02, #107: the rank of u as a table has it. An order holds the routers that have a path to its destination; one that it does not
+-- hold has no rank, and 255 stands for that.
+unfoldable pub rankOrNone : List ℕ → ℕ → ℕ
+rankOrNone order u = cond (member u order) (rank order u) 255
+
 -- 01, Rows and tables: the row of u as a table has it, its rank and the places of its entries
 unfoldable pub rowOf : Network → List ℕ → ℕ → List ℕ → ℕ → List ℕ
-rowOf n ds limit order u = rowBytes (rank order u) (map (λ (a : Arc). a .to) (row n ds limit order u))
+rowOf n ds limit order u = rowBytes (rankOrNone order u) (map (λ (a : Arc). a .to) (row n ds limit order u))
 
 -- 01, Rows and tables: the rows by place, `ds` being the distances
 unfoldable pub rowsBytes : Network → List ℕ → ℕ → List ℕ → List ℕ

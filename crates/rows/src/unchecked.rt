@@ -16,7 +16,8 @@ ghost use Rattle.stations.specs.Topology.{networkOf};
 ghost use Rattle.rows.specs.Bytes.{tableBytes, tableLength};
 ghost use Rattle.rows.specs.Keys.{Fillable};
 
-// The table for the destination, the next-hop limit and an order, into the first bytes of the slice.
+// The table for the destination, the next-hop limit and an order, into the first bytes of the slice. The order is the ranked places alone, without the 255s
+// that follow them in a proposal; the row of a place that it does not hold has 255 for its rank.
 pub fn fill(
     t: Topology,
     a: Arcs,

@@ -1,6 +1,6 @@
 -- The test for a sound topology, as the tests that are made in turn, each with those before it passed.
 -- Assumes nothing.
-use Prim.Native.Nat.{_<_, _^_}
+use Prim.Native.Nat.{_^_}
 use mathlib.Core.Bool.{Bool, true, _&&_, and-assoc, and-true}
 use mathlib.Core.List.{List}
 use mathlib.Core.Path.{_≡_, sym, subst}
@@ -20,29 +20,23 @@ use Rattle.stations.specs.Topology.{contents}
 use Rattle.stations.specs.Inner.{Counted}
 use Rattle.stations.proofs.Topology.{the-row}
 use Rattle.stations.proofs.Machine.{ids-length, links-length, id-fits}
-use Rattle.soundness.specs.Sound.{within, inLimits, wellLinked, uncrowded, connected, isNoLink, unusedZero, slotted, sound}
+use Rattle.soundness.specs.Sound.{within, inLimits, wellLinked, uncrowded, isNoLink, unusedZero, slotted, sound}
 use Rattle.soundness.proofs.Links.{links-sound, pairs-apart}
 
--- what is within the limits has counts that fit, and a router
-limits-fact : (t : Topology) → inLimits t ≡ true → Counted t × (0 < t .routers)
+-- what is within the limits has counts that fit
+pub limits-counted : (t : Topology) → inLimits t ≡ true → Counted t
 unfolding inLimits within
-limits-fact t e =
+limits-counted t e =
     let (routers, links, limit) = three (leb 1 (t .routers) && leb (t .routers) 64) (leb (t .links) 256) _ (subst T (sym e) tt) in
     let (least, most) = both (leb 1 (t .routers)) (leb (t .routers) 64) routers in
-    (record { routers-fit = leb→le (t .routers) 64 most; links-fit = leb→le (t .links) 256 links }, leb→le 1 (t .routers) least)
-
-pub limits-counted : (t : Topology) → inLimits t ≡ true → Counted t
-limits-counted t e = limits-fact t e .0
-
-pub limits-some : (t : Topology) → inLimits t ≡ true → 0 < t .routers
-limits-some t e = limits-fact t e .1
+    record { routers-fit = leb→le (t .routers) 64 most; links-fit = leb→le (t .links) 256 links }
 
 -- what is left to test of a topology within the limits: its IDs, and so on from there
 abbrev pub from-zeros : Topology → Bool
 from-zeros t = every (eqb 0) (drop (t .routers) (t .id)) && every isNoLink (drop (t .links) (t .link))
 
 abbrev pub links-fit : Topology → Bool
-links-fit t = links-sound (t .routers) (contents t .links) && pairs-apart (contents t .links) && uncrowded t && connected t
+links-fit t = links-sound (t .routers) (contents t .links) && pairs-apart (contents t .links) && uncrowded t
 
 abbrev pub from-ids : Topology → Bool
 from-ids t = distinct (contents t .ids) && (links-fit t && from-zeros t)
@@ -61,8 +55,3 @@ module _ (t : Topology) (vs : List Val) (good : Is the-row t vs) where
   pub past-limits : inLimits t ≡ true → sound t ≡ from-ids t
   unfolding sound wellLinked soundLinks unusedZero
   past-limits e = rw (listed (limits-counted t e), slots, e) (simp (and-assoc, and-true))
-
-  pub well-linked : Counted t → T (distinct (contents t .ids)) → links-sound (t .routers) (contents t .links) ≡ true →
-      pairs-apart (contents t .links) ≡ true → T (wellLinked t)
-  unfolding wellLinked soundLinks
-  well-linked counted ids each pairs = rw (listed counted, as-true (distinct (contents t .ids)) ids, each, pairs) tt

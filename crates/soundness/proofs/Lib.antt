@@ -1,6 +1,4 @@
 pub mod Stores
-pub mod Labels
-pub mod Lowest
 pub mod Times
 pub mod Turns
 pub mod Links
@@ -8,4 +6,3 @@ pub mod Pairs
 pub mod Crowds
 pub mod InTurn
 pub mod Sound
-pub mod FirstApart

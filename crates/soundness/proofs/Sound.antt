@@ -1,64 +1,54 @@
--- What `sound` tests, part by part, and the network of a sound topology: its links are sound, so it is well formed; each place that is not apart has
--- a path to place 0, and links go both ways.
+-- What `sound` tests, part by part, and the network of a sound topology: its links are sound, so it is well formed.
 -- Assumes nothing.
-use Prim.Native.Nat.{ℕ, _≤_, _<_, _^_}
+use Prim.Native.Nat.{ℕ, _≤_, _^_}
 use mathlib.Core.Bool.{Bool, _&&_}
-use mathlib.Core.List.{List, [], _∷_, List·Memᴰ, List·Memᴰ·not-nil, nil≢cons, map}
-use mathlib.Core.Logic.{_↔_, ⊎-elim}
-use mathlib.Core.Path.{_≡_, refl, sym, _∙_, subst}
+use mathlib.Core.List.{map}
+use mathlib.Core.Logic.{_↔_}
+use mathlib.Core.Path.{_≡_, refl, sym, _∙_}
 use native.Mathlib.Omega.{arith}
-use lib.Dec.{T, eqb, leb, ltb, eqb→eq, leb→le, le→leb, ltb→lt, lt→ltb, T-not, not-T}
+use lib.Dec.{T, eqb, leb, ltb, eqb→eq, leb→le, le→leb, ltb→lt, lt→ltb}
 use lib.ListN.{length, drop, length-map}
 use lib.Seq.{length-take-le}
 use Rattle.network.specs.Lists.{below, every}
-use Rattle.network.specs.Network.{WellFormed, size, linked, soundLinks}
-use Rattle.network.specs.Distance.{PathTo, distances}
-use Rattle.network.specs.Order.{reached}
-use Rattle.network.proofs.Tests.{both, and, three, and-three, eq-test, truth}
-use Rattle.network.proofs.Lists.{every-all, all-every, mem-keep, keep-mem, empty}
+use Rattle.network.specs.Network.{size, linked}
+use Rattle.network.proofs.Tests.{both, and, three, and-three, eq-test}
+use Rattle.network.proofs.Lists.{every-all, all-every}
 use Rattle.network.proofs.Below.{mem-below, below-lt}
-use Rattle.network.proofs.NextHop.{path-reached, reached-path}
 use Rattle.network.proofs.SoundLinks.{sound-links-exact}
-use Rattle.network.proofs.Linked.{linked-well-formed, linked-exact, linked-connected}
+use Rattle.network.proofs.Linked.{linked-well-formed, linked-exact}
 use Rattle.stations.specs.declared.Link.{Link}
 use Rattle.stations.specs.declared.Topology.{Topology}
-use Rattle.stations.specs.Topology.{Contents, contents, seen, networkIn, networkOf}
-use Rattle.soundness.specs.Apart.{apart}
-use Rattle.soundness.specs.Sound.{within, inLimits, wellLinked, uncrowded, none?, connected, isNoLink, unusedZero, slotted, sound}
+use Rattle.stations.specs.Topology.{contents, seen, networkIn, networkOf}
+use Rattle.soundness.specs.Sound.{within, inLimits, wellLinked, uncrowded, isNoLink, unusedZero, slotted, sound}
 use Rattle.soundness.specs.Theorems.{NetworkSeen, Sound, SoundExact, SoundNetworks}
 
--- the six tests
+-- the five tests
 pub record Tested (t : Topology) : Type 0 where
   pub limits : T (inLimits t)
   pub linked : T (wellLinked t)
   pub uncrowded : T (uncrowded t)
-  pub connected : T (connected t)
   pub unused : T (unusedZero t)
   pub slots : T (slotted t)
 
-six : (a b c d e f : Bool) → T (a && b && c && d && e && f) → T a × T b × T c × T d × T e × T f
-six a b c d e f t =
-    let (abcde, tf) = both (a && b && c && d && e) f t in
-    let (abcd, te) = both (a && b && c && d) e abcde in
-    let (abc, td) = both (a && b && c) d abcd in
+five : (a b c d e : Bool) → T (a && b && c && d && e) → T a × T b × T c × T d × T e
+five a b c d e t =
+    let (abc, td, te) = three (a && b && c) d e t in
     let (ta, tb, tc) = three a b c abc in
-    (ta, tb, tc, td, te, tf)
+    (ta, tb, tc, td, te)
 
-and-six : (a b c d e f : Bool) → T a → T b → T c → T d → T e → T f → T (a && b && c && d && e && f)
-and-six a b c d e f ta tb tc td te tf =
-    and (a && b && c && d && e) f (and (a && b && c && d) e (and (a && b && c) d (and-three a b c ta tb tc) td) te) tf
+and-five : (a b c d e : Bool) → T a → T b → T c → T d → T e → T (a && b && c && d && e)
+and-five a b c d e ta tb tc td te = and-three (a && b && c) d e (and-three a b c ta tb tc) td te
 
 pub tested : (t : Topology) → T (sound t) → Tested t
 unfolding sound
 tested t s =
-    let (a, b, c, d, e, f) = six (inLimits t) (wellLinked t) (uncrowded t) (connected t) (unusedZero t) (slotted t) s in
-    record { limits = a; linked = b; uncrowded = c; connected = d; unused = e; slots = f }
+    let (a, b, c, d, e) = five (inLimits t) (wellLinked t) (uncrowded t) (unusedZero t) (slotted t) s in
+    record { limits = a; linked = b; uncrowded = c; unused = d; slots = e }
 
 pub all-tested : (t : Topology) → Tested t → T (sound t)
 unfolding sound
 all-tested t s =
-    and-six (inLimits t) (wellLinked t) (uncrowded t) (connected t) (unusedZero t) (slotted t) (s .limits) (s .linked) (s .uncrowded) (s .connected)
-    (s .unused) (s .slots)
+    and-five (inLimits t) (wellLinked t) (uncrowded t) (unusedZero t) (slotted t) (s .limits) (s .linked) (s .uncrowded) (s .unused) (s .slots)
 
 pub within-fact : (most n : ℕ) → T (within most n) ↔ ((1 ≤ n) × (n ≤ most))
 unfolding within
@@ -66,37 +56,6 @@ within-fact most n = (
   λ t. let (a, b) = both (leb 1 n) (leb n most) t in (leb→le 1 n a, leb→le n most b),
   λ (a, b). and (leb 1 n) (leb n most) (le→leb 1 n a) (le→leb n most b),
 )
-
-module _ (c : Contents) (some : 0 < length (c .ids)) (t : T (soundLinks (c .ids) (map seen (c .links)))) where
-  well-formed : WellFormed (networkIn c)
-  unfolding networkIn
-  well-formed = linked-well-formed (c .ids) (map seen (c .links)) t
-
-  size-in : size (networkIn c) ≡ length (c .ids)
-  unfolding networkIn linked size
-  size-in = refl
-
-  -- no place is apart exactly where every place has a path to place 0
-  pub none-apart : (apart c ≡ []) ↔ ((u : ℕ) → u < length (c .ids) → PathTo (networkIn c) 0 u)
-  unfolding apart
-  none-apart = (
-    λ e u h.
-        ⊎-elim (λ s. reached-path (networkIn c) well-formed 0 (rw size-in some) u s)
-        (λ no′.
-        let m = keep-mem _ (below (length (c .ids))) (mem-below h) (not-T (reached (networkIn c) (distances (networkIn c) 0) u) no′) in
-        absurd (List·Memᴰ·not-nil (subst (List·Memᴰ u) e m)))
-        (truth (reached (networkIn c) (distances (networkIn c) 0) u)),
-    λ p.
-        empty _ (λ u m.
-        let (k, out) = mem-keep _ (below (length (c .ids))) m in
-        T-not (reached (networkIn c) (distances (networkIn c) 0) u) out
-        (path-reached (networkIn c) well-formed 0 (rw size-in some) (p u (below-lt (length (c .ids)) k)))),
-  )
-
-pub none-fact : (us : List ℕ) → T (none? us) ↔ (us ≡ [])
-unfolding none?
-none-fact [] = (λ t. refl, λ e. tt)
-none-fact (u ∷ us) = (λ t. absurd t, λ e. absurd (nil≢cons (sym e)))
 
 -- so many are listed as the counts say, if there are so many slots
 pub routers-listed : (t : Topology) → t .routers ≤ length (t .id) → length (contents t .ids) ≡ t .routers
@@ -120,7 +79,7 @@ no-link l = (
 )
 
 sound-facts : (t : Topology) → T (sound t) → Sound t
-unfolding inLimits wellLinked uncrowded connected unusedZero slotted contents seen networkOf
+unfolding inLimits wellLinked uncrowded unusedZero slotted contents seen networkOf
 sound-facts t s =
     let w = tested t s in
     let (few, links-few, hops) = three (within 64 (t .routers)) (leb (t .links) 256) (within 16 (t .limit)) (w .limits) in
@@ -138,7 +97,6 @@ sound-facts t s =
       limit-most = limit-most;
       linked = sound-links-exact _ _ .0 (w .linked);
       neighbours = λ u h. leb→le _ _ (every-all _ (below (t .routers)) (w .uncrowded) u (mem-below h));
-      paths = λ u h. none-apart (contents t) (omega arith) (w .linked) .0 (none-fact (apart (contents t)) .0 (w .connected)) u (omega arith);
       ids-unused = λ i m. sym (eqb→eq 0 i (every-all _ (drop (t .routers) (t .id)) ids-zero i m));
       links-unused = λ l m. no-link l .0 (every-all _ (drop (t .links) (t .link)) links-zero l m);
       id-slots = id-slots;
@@ -147,21 +105,17 @@ sound-facts t s =
     }
 
 facts-sound : (t : Topology) → Sound t → T (sound t)
-unfolding inLimits wellLinked uncrowded connected unusedZero slotted contents seen networkOf
+unfolding inLimits wellLinked uncrowded unusedZero slotted contents seen networkOf
 facts-sound t s =
     let listed : length (contents t .ids) ≡ t .routers = routers-listed t (omega arith) in
-    let links-sound : T (wellLinked t) = sound-links-exact _ _ .1 (s .linked) in
     all-tested t
     record {
       limits =
           and-three (within 64 (t .routers)) (leb (t .links) 256) (within 16 (t .limit))
           (within-fact 64 (t .routers) .1 (s .routers-least, s .routers-most)) (le→leb _ _ (s .links-most))
           (within-fact 16 (t .limit) .1 (s .limit-least, s .limit-most));
-      linked = links-sound;
+      linked = sound-links-exact _ _ .1 (s .linked);
       uncrowded = all-every _ (below (t .routers)) (λ u m. le→leb _ _ (s .neighbours u (below-lt (t .routers) m)));
-      connected =
-          none-fact (apart (contents t)) .1
-          (none-apart (contents t) (omega arith) links-sound .1 (λ u h. s .paths u (omega arith)));
       unused =
           and (every (eqb 0) (drop (t .routers) (t .id))) (every isNoLink (drop (t .links) (t .link)))
           (all-every _ (drop (t .routers) (t .id)) (λ i m. eq-test (sym (s .ids-unused i m))))
@@ -179,7 +133,7 @@ unfolding networkOf networkIn contents seen
 network-seen t = refl
 
 pub sound-networks : SoundNetworks
-unfolding networkOf networkIn contents wellLinked
+unfolding networkOf networkIn contents wellLinked size linked
 sound-networks t s =
     let w = tested t s in
     let f = sound-facts t s in
@@ -188,9 +142,6 @@ sound-networks t s =
     let n = linked-exact (contents t .ids) (map seen (contents t .links)) (w .linked) in
     record {
       well-formed = linked-well-formed (contents t .ids) (map seen (contents t .links)) (w .linked);
-      routers = size-in (contents t) (omega arith) (w .linked) ∙ listed;
+      routers = listed;
       links = n .same-links ∙ length-map (contents t .links) seen ∙ links-in;
-      paths = λ d u h k.
-          linked-connected (contents t .ids) (map seen (contents t .links)) (w .linked) 0 (λ v l. f .paths v (omega arith)) d u (omega arith)
-          (omega arith);
     }

@@ -1,4 +1,2 @@
-pub mod Apart
 pub mod Sound
-pub mod Inner
 pub mod Theorems

@@ -1,8 +1,8 @@
 -- Which topology values reading could return (01, Stations, links and limits; Refusals, 14).
 -- Assumes nothing.
 use Prim.Native.Nat.{ℕ, _^_}
-use mathlib.Core.Bool.{Bool, true, false, _&&_}
-use mathlib.Core.List.{List, [], _∷_, map}
+use mathlib.Core.Bool.{Bool, _&&_}
+use mathlib.Core.List.{map}
 use lib.Dec.{eqb, ltb, leb}
 use lib.ListN.{length, drop}
 use Rattle.network.specs.Lists.{below, every}
@@ -11,7 +11,6 @@ use Rattle.stations.specs.declared.Link.{Link}
 use Rattle.stations.specs.declared.Topology.{Topology}
 use Rattle.stations.specs.Limits.{mostRouters, mostLinks, mostNeighbours, mostNextHops}
 use Rattle.stations.specs.Topology.{contents, seen, networkOf}
-use Rattle.soundness.specs.Apart.{apart}
 
 -- n is from 1 to most (01, Stations, links and limits: 1 to 64 routers, K from 1 to 16)
 unfoldable pub within : ℕ → ℕ → Bool
@@ -29,15 +28,6 @@ wellLinked t = soundLinks (contents t .ids) (map seen (contents t .links))
 unfoldable pub uncrowded : Topology → Bool
 uncrowded t = every (λ u. leb (length (arcsOf (networkOf t) u)) mostNeighbours) (below (t .routers))
 
--- 01, Refusals, 13: whether no place is apart
-unfoldable pub none? : List ℕ → Bool
-none? [] = true
-none? (u ∷ us) = false
-
--- every router has a path to place 0
-unfoldable pub connected : Topology → Bool
-connected t = none? (apart (contents t))
-
 -- a link of all zeros
 unfoldable pub isNoLink : Link → Bool
 isNoLink l = eqb (l .first .0) 0 && eqb (l .second .0) 0 && eqb (l .cost) 0 && eqb (l .back) 0
@@ -52,4 +42,4 @@ slotted t = eqb (length (t .id)) mostRouters && eqb (length (t .link)) mostLinks
 
 -- 01, Refusals, 14: a topology value that reading could return
 unfoldable pub sound : Topology → Bool
-sound t = inLimits t && wellLinked t && uncrowded t && connected t && unusedZero t && slotted t
+sound t = inLimits t && wellLinked t && uncrowded t && unusedZero t && slotted t

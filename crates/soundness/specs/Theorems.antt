@@ -1,19 +1,17 @@
 -- What is proved of sound topologies, over all topology values.
 -- Assumes nothing.
 use Prim.Native.Nat.{ℕ, _≤_, _<_}
-use mathlib.Core.List.{List, _∷_, List·Memᴰ, map}
+use mathlib.Core.List.{List·Memᴰ, map}
 use mathlib.Core.Logic.{_↔_}
 use mathlib.Core.Path.{_≡_}
 use lib.Dec.{T}
 use lib.ListN.{length, take, drop}
-use Rattle.network.specs.Network.{WellFormed, size, arcsOf, linked, soundLinks}
+use Rattle.network.specs.Network.{WellFormed, size, arcsOf, linked}
 use Rattle.network.specs.Network as network
-use Rattle.network.specs.Distance.{PathTo}
 use Rattle.network.specs.Theorems.Network.{SoundLinks}
 use Rattle.stations.specs.declared.Link.{Link}
 use Rattle.stations.specs.declared.Topology.{Topology}
-use Rattle.stations.specs.Topology.{Contents, networkOf}
-use Rattle.soundness.specs.Apart.{apart}
+use Rattle.stations.specs.Topology.{networkOf}
 use Rattle.soundness.specs.Sound.{sound}
 
 -- a link with its places as numbers
@@ -33,7 +31,6 @@ pub record Sound (t : Topology) : Type 0 where
   pub limit-most : t .limit ≤ 16
   pub linked : SoundLinks (take (t .routers) (t .id)) (map plain (take (t .links) (t .link)))
   pub neighbours : (u : ℕ) → u < t .routers → length (arcsOf (networkOf t) u) ≤ 16
-  pub paths : (u : ℕ) → u < t .routers → PathTo (networkOf t) 0 u
   pub ids-unused : (i : ℕ) → List·Memᴰ i (drop (t .routers) (t .id)) → i ≡ 0
   pub links-unused : (l : Link) → List·Memᴰ l (drop (t .links) (t .link)) →
       (l .first .0 ≡ 0) × (l .second .0 ≡ 0) × (l .cost ≡ 0) × (l .back ≡ 0)
@@ -44,24 +41,12 @@ pub record Sound (t : Topology) : Type 0 where
 abbrev pub SoundExact : Type 0
 SoundExact = (t : Topology) → T (sound t) ↔ Sound t
 
--- A sound topology's network is well formed, so that all that is proved of well-formed networks holds of it; it has the topology's routers and links,
--- and every router has a path to every other.
+-- A sound topology's network is well formed, so that all that is proved of well-formed networks holds of it; it has the topology's routers and links.
+-- Its parts may be apart (02, #107).
 pub record SoundNetwork (t : Topology) : Type 0 where
   pub well-formed : WellFormed (networkOf t)
   pub routers : size (networkOf t) ≡ t .routers
   pub links : networkOf t .links ≡ t .links
-  pub paths : (d u : ℕ) → d < t .routers → u < t .routers → PathTo (networkOf t) d u
 
 abbrev pub SoundNetworks : Type 0
 SoundNetworks = (t : Topology) → T (sound t) → SoundNetwork t
-
--- 01, Refusals, 13: u is the lowest place that has no path to place 0
-pub record Lowest (c : Contents) (u : ℕ) : Type 0 where
-  pub listed : u < length (c .ids)
-  pub no-path : PathTo (linked (c .ids) (map plain (c .links))) 0 u → ⊥
-  pub lower : (v : ℕ) → v < u → PathTo (linked (c .ids) (map plain (c .links))) 0 v
-
--- Over links that are sound the first of the places apart is the lowest.
-abbrev pub LowestApart : Type 0
-LowestApart = (c : Contents) → 0 < length (c .ids) → T (soundLinks (c .ids) (map plain (c .links))) → (u : ℕ) (us : List ℕ) → apart c ≡ u ∷ us →
-    Lowest c u

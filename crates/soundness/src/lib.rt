@@ -1,5 +1,4 @@
 // Whether reading could return a topology (01, Refusals, 14).
-mod apart;
 mod testing;
 pub mod unchecked;
 

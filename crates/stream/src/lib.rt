@@ -12,7 +12,7 @@ use stations::ROUTERS;
 ghost use mathlib.Core.Path.{_≡_};
 ghost use Rattle.records.specs.Reading.{reading};
 
-// Reads a topology stream: refusals 1 to 13 and 16. Beside what is listed stand two tables for the halves to come: what the half from u to v costs, at
+// Reads a topology stream: refusals 1 to 12 and 16. Beside what is listed stand two tables for the halves to come: what the half from u to v costs, at
 // u * ROUTERS + v, 0 if it is not listed, and how many halves leave each router. A half whose opposite is listed makes a link with it; lone ones stand in
 // the tables alone.
 pub fn read(stream: &[u8]) -> Reading

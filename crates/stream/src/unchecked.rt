@@ -149,7 +149,7 @@ pub fn half_taken<'a>(
     held
 }
 
-// At the end record: refusals 11, 12 and 13.
+// At the end record: refusals 11 and 12.
 pub fn ended(t: Topology, at: usize, length: usize) -> Reading
     requires { ⌜ Listed t × (at < «length») ⌝ }
     ensures { λ r. ⌜ r ≡ said.ended (ltb (at + 1) «length») at (contents t) ⌝ }
@@ -159,10 +159,6 @@ pub fn ended(t: Topology, at: usize, length: usize) -> Reading
     }
     if t.routers == 0 {
         return refused(12, at);
-    }
-    let place = unchecked::lowest_apart(t);
-    if place < t.routers {
-        return refused(13, place);
     }
     taking::taken(t)
 }

@@ -1,7 +1,7 @@
 -- The tests of `tableChecking` as facts: the header and the ranks pass if and only if some order accepted in free mode has these ranks, and that order
 -- is the one that the ranks form; two lists of one length that differ at no offset are one.
 -- Assumes nothing.
-use Prim.Native.Nat.{ℕ, _<_}
+use Prim.Native.Nat.{ℕ, _+_, _*_, _≤_, _<_}
 use mathlib.Core.Bool.{Bool, false, not, _&&_}
 use mathlib.Core.List.{List, [], _∷_, List·Memᴰ}
 use mathlib.Core.Logic.{_≢_}
@@ -11,27 +11,28 @@ use borrow.Author.Tests.{eq-eqb, ne-eqb, eqb-false, eqb-true, not-true, not-fals
 use lib.Dec.{T, eqb, ltb, leb, eqb→eq, ltb→lt, lt→ltb, leb→le, le→leb}
 use lib.ListN.{length, getD}
 use lib.Seq.{ext-getD}
-use Rattle.network.specs.Lists.{below}
-use Rattle.network.specs.Order.{shortest-path, free}
+use Rattle.network.specs.Lists.{below, keep, every}
+use Rattle.network.specs.Network.{size}
+use Rattle.network.specs.Order.{shortest-path, free, accepted}
 use Rattle.network.specs.Theorems.Order.{Accepted}
 use Rattle.network.proofs.Distance.{starts-in}
-use Rattle.network.proofs.Order.{acceptance-exact}
+use Rattle.network.proofs.Below.{mem-below, below-lt}
+use Rattle.network.proofs.Lists.{every-all, all-every}
+use Rattle.network.proofs.Order.{order-fits, acceptance-exact}
 use Rattle.network.proofs.Tests.{both, and, three, and-three, eq-test}
 use Rattle.stations.specs.declared.Topology.{Topology}
 use Rattle.stations.specs.Limits.{mostNextHops}
-use Rattle.stations.specs.Topology.{networkOf}
+use Rattle.stations.specs.Topology.{padded, networkOf}
 use Rattle.soundness.specs.Sound.{sound, within}
 use Rattle.soundness.specs.Theorems.{SoundNetwork}
-use Rattle.soundness.proofs.Sound.{sound-networks}
-use Rattle.order.specs.declared.Mode.the-variants as mode
-use Rattle.order.specs.Calls.{modeOf}
-use Rattle.order.proofs.Orders.{proposes}
+use Rattle.soundness.proofs.Sound.{sound-exact, sound-networks}
+use Rattle.order.specs.Calls.{orderBytes}
 use Rattle.order.proofs.Ranges.{keep-none, none-passes, keep-first, first-passes}
-use Rattle.rows.specs.Bytes.{rowStart}
-use Rattle.table.specs.Listed.{kindIn, destinationIn, countIn, limitIn, rankIn, orderIn, inShortestPathMode}
+use Rattle.rows.specs.Bytes.{rankOrNone, rowStart}
+use Rattle.table.specs.Listed.{kindIn, destinationIn, countIn, limitIn, rankIn, byRank, orderIn, inShortestPathMode}
 use Rattle.table.specs.Calls.{soundHeader, soundRanks, differing}
-use Rattle.table.specs.Theorems.{SoundStart, RanksOrdered}
-use Rattle.table.proofs.Ordered.{ordered, ranked, begins}
+use Rattle.table.specs.Theorems.{SoundStart, RanksOrdered, RanksInBytes}
+use Rattle.table.proofs.Ordered.{as-byte, kept, ordered, begins}
 
 -- the test of the header and the ranks
 abbrev pub starts? : Topology → List ℕ → Bool
@@ -41,22 +42,37 @@ module _ (t : Topology) (is-sound : T (sound t)) where
   facts : SoundNetwork t
   facts = sound-networks t is-sound
 
+  few : t .routers ≤ 64
+  few = sound-exact t .0 is-sound .routers-most
+
   module _ (d : ℕ) (place : d < t .routers) (order : List ℕ) (a : Accepted (networkOf t) d free order) where
-    -- an accepted order holds the places, all of them
-    sized : length order ≡ t .routers
-    unfolding modeOf
-    sized = proposes t is-sound d place mode.Free order a .long
+    inside : d < size (networkOf t)
+    inside = omega (arith, facts .routers)
+
+    -- an accepted order holds places, no more than there are
+    short : length order ≤ t .routers
+    short = omega (arith, facts .routers, order-fits (networkOf t) (facts .well-formed) d inside free a)
 
     places : (u : ℕ) → List·Memᴰ u order → u < t .routers
-    places u m =
-        omega (arith, facts .routers, starts-in (networkOf t) (facts .well-formed) d (omega (arith, facts .routers)) (a .only u m))
+    places u m = omega (arith, facts .routers, starts-in (networkOf t) (facts .well-formed) d inside (a .only u m))
+
+    -- so the places of its bytes are the order
+    pub its-places : keep (λ u. ltb u (t .routers)) (orderBytes (t .routers) order) ≡ order
+    its-places = kept (t .routers) few order short places
+
+    pub its-ranks : (table : List ℕ) → ((u : ℕ) → u < t .routers → rankIn table u ≡ rankOrNone order u) →
+        byRank (t .routers) table ≡ orderBytes (t .routers) order
+    its-ranks table ranks = ordered (t .routers) few order short places table (a .once) ranks
 
   module _ (table : List ℕ) where
-    pub its-order : (order : List ℕ) → SoundStart t table order → orderIn (t .routers) table ≡ order
+    pub its-bytes : (order : List ℕ) → SoundStart t table order → byRank (t .routers) table ≡ orderBytes (t .routers) order
     unfolding rankIn rowStart
-    its-order order s =
-        ordered (t .routers) order table (sized _ (s .destination) order (s .in-free)) (places _ (s .destination) order (s .in-free)) (s .in-free .once)
-        (s .ranks)
+    its-bytes order s =
+        its-ranks _ (s .destination) order (s .in-free) table (λ u h. as-byte order u (getD table (4 + 19 * u + 1) 0) .0 (s .ranks u h))
+
+    pub its-order : (order : List ℕ) → SoundStart t table order → orderIn (t .routers) table ≡ order
+    unfolding orderIn
+    its-order order s = rw (its-bytes order s) (its-places _ (s .destination) order (s .in-free))
 
     -- the destination of a sound header is a place
     pub header-place : T (soundHeader (t .routers) table) → getD table 1 0 < t .routers
@@ -68,6 +84,15 @@ module _ (t : Topology) (is-sound : T (sound t)) where
         let (kind, destination, counted) = three (eqb (getD table 0 0) 16) (ltb d count) (eqb (getD table 2 0) count) front in
         ltb→lt d count destination
 
+    -- and its K is at most 16
+    pub header-limit : T (soundHeader (t .routers) table) → getD table 3 0 ≤ 16
+    unfolding soundHeader limitIn within
+    header-limit h =
+        let limit = getD table 3 0 in
+        let count = t .routers in
+        let (front, limits) = both (eqb (kindIn table) 16 && ltb (destinationIn table) count && eqb (countIn table) count) (within mostNextHops limit) h in
+        leb→le limit 16 (both (leb 1 limit) (leb limit mostNextHops) limits .1)
+
     pub starts : T (starts? t table) → SoundStart t table (orderIn (t .routers) table)
     unfolding soundHeader soundRanks kindIn destinationIn countIn limitIn rankIn rowStart within
     starts h =
@@ -75,7 +100,8 @@ module _ (t : Topology) (is-sound : T (sound t)) where
         let d = getD table 1 0 in
         let limit = getD table 3 0 in
         let order = orderIn count table in
-        let (header, ranks) = both (soundHeader count table) (soundRanks (networkOf t) count table) h in
+        let (header, ranked) = both (soundHeader count table) (soundRanks (networkOf t) count table) h in
+        let (ranks, each) = both (accepted (networkOf t) d free order) (every (λ u. eqb (rankIn table u) (rankOrNone order u)) (below count)) ranked in
         let (front, limits) = both (eqb (getD table 0 0) 16 && ltb d count && eqb (getD table 2 0) count) (within mostNextHops limit) header in
         let (kind, destination, counted) = three (eqb (getD table 0 0) 16) (ltb d count) (eqb (getD table 2 0) count) front in
         let (least, most) = both (leb 1 limit) (leb limit mostNextHops) limits in
@@ -89,11 +115,11 @@ module _ (t : Topology) (is-sound : T (sound t)) where
           limit-least = leb→le 1 limit least;
           limit-most = leb→le limit 16 most;
           in-free = a;
-          ranks = ranked count table (places d place order a) (a .once);
+          ranks = λ u l. as-byte order u (getD table (4 + 19 * u + 1) 0) .1 (eqb→eq _ _ (every-all _ (below count) each u (mem-below l)));
         }
 
     pub start-passes : (order : List ℕ) → SoundStart t table order → T (starts? t table)
-    unfolding soundHeader soundRanks kindIn destinationIn countIn limitIn within
+    unfolding soundHeader soundRanks kindIn destinationIn countIn limitIn rankIn rowStart within
     start-passes order s =
         let count = t .routers in
         let d = getD table 1 0 in
@@ -104,7 +130,10 @@ module _ (t : Topology) (is-sound : T (sound t)) where
         (eq-test (s .count)))
         (and (leb 1 limit) (leb limit mostNextHops) (le→leb 1 limit (s .limit-least)) (le→leb limit 16 (s .limit-most))))
         (rw (its-order order s)
-        (acceptance-exact (networkOf t) (facts .well-formed) d (omega (arith, facts .routers, s .destination)) free order .1 (s .in-free)))
+        (and (accepted (networkOf t) d free order) (every (λ u. eqb (getD table (4 + 19 * u + 1) 0) (rankOrNone order u)) (below count))
+        (acceptance-exact (networkOf t) (facts .well-formed) d (omega (arith, facts .routers, s .destination)) free order .1 (s .in-free))
+        (all-every (λ u. eqb (getD table (4 + 19 * u + 1) 0) (rankOrNone order u)) (below count)
+        (λ u m. eq-test (as-byte order u (getD table (4 + 19 * u + 1) 0) .0 (s .ranks u (below-lt count m)))))))
 
 pub ranks-ordered : RanksOrdered
 unfolding inShortestPathMode destinationIn
@@ -115,6 +144,10 @@ ranks-ordered t is-sound table order s =
       rw (n .routers, same)
           (acceptance-exact (networkOf t) (n .well-formed) (getD table 1 0) (omega (arith, n .routers, s .destination)) shortest-path order),
     )
+
+pub ranks-in-bytes : RanksInBytes
+unfolding orderBytes padded
+ranks-in-bytes = its-bytes
 
 -- two lists of bytes: they differ nowhere, or first at some offset
 module _ (table other : List ℕ) where

@@ -17,8 +17,9 @@ use Rattle.network.proofs.Below.{length-below}
 use Rattle.stations.specs.Topology.{padded}
 use Rattle.soundness.proofs.Stores.{getD-number}
 use Rattle.topology.specs.Written.{joinedOver}
-use Rattle.rows.specs.Bytes.{rowBytes, headerBytes, rowOf, rowsBytes, tableBytes}
+use Rattle.rows.specs.Bytes.{rankOrNone, rowBytes, headerBytes, rowOf, rowsBytes, tableBytes}
 use Rattle.table.specs.Theorems.{RowAt, TableIs, BytesExact}
+use Rattle.table.proofs.Ordered.{as-byte}
 
 -- pieces of width w, one after the other: how long they are, and what stands in the one at i
 module _ {A : Type 0} (f : A → List ℕ) (w : ℕ) (wide : (x : A) → length (f x) ≡ w) where
@@ -80,7 +81,7 @@ module _ (n : Network) (d limit : ℕ) (few : limit ≤ 16) (order : List ℕ) w
   row-holds u h =
       record {
         kind = row-at u 0 _ (omega arith) h (omega arith);
-        rank-is = row-at u 1 _ (omega arith) h (omega arith);
+        rank-is = as-byte order u _ .1 (row-at u 1 _ (omega arith) h (omega arith));
         count = row-at u 2 _ (omega arith) h (omega arith) ∙ places-long u;
         entry = λ j l.
             row-at u (suc (suc (suc j))) _ (omega arith) h (omega (arith, row-few u))
@@ -111,7 +112,8 @@ module _ (n : Network) (d limit : ℕ) (order a b : List ℕ) where
 
   row-same : (u : ℕ) → RowAt n d limit order a u → RowAt n d limit order b u → (k i : ℕ) → i ≡ 4 + (19 * u + k) → k < 19 → getD a i 0 ≡ getD b i 0
   row-same u p q zero i e h = agree i _ _ (omega arith) (p .kind) (q .kind)
-  row-same u p q (suc zero) i e h = agree i _ _ (omega arith) (p .rank-is) (q .rank-is)
+  row-same u p q (suc zero) i e h =
+      agree i (4 + 19 * u + 1) (rankOrNone order u) (omega arith) (as-byte order u _ .0 (p .rank-is)) (as-byte order u _ .0 (q .rank-is))
   row-same u p q (suc (suc zero)) i e h = agree i _ _ (omega arith) (p .count) (q .count)
   row-same u p q (suc (suc (suc j))) i e h = step (decLt j (length (row n (distances n d) limit order u)))
     where

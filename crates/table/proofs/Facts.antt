@@ -9,28 +9,30 @@ use Rattle.network.specs.Row.{rank, sortsBefore, rankedBefore, fullRow, row}
 use Rattle.stations.specs.Inner.{firstOr}
 use Rattle.stations.specs.Outcome.{turnedAway, given}
 use Rattle.stations.specs.Topology.{noLink, padded, contents, held, zeros, seen, networkIn, networkOf}
-use Rattle.soundness.specs.Apart.{apart}
-use Rattle.soundness.specs.Sound.{within, inLimits, wellLinked, uncrowded, none?, connected, isNoLink, unusedZero, slotted, sound}
+use Rattle.soundness.specs.Sound.{within, inLimits, wellLinked, uncrowded, isNoLink, unusedZero, slotted, sound}
 use Rattle.topology.specs.Written.{joinedOver}
-use Rattle.order.specs.Calls.{modeOf, wrongRanks, unreadyRanks, atFirst, judging, checking}
-use Rattle.order.specs.Table.{answers, link, twoCosts, T-topology}
-use Rattle.rows.specs.Bytes.{rowBytes, headerBytes, rowOf, rowsBytes, tableBytes, rowStart}
-use Rattle.table.specs.Listed.{kindIn, destinationIn, countIn, limitIn, rankIn, orderIn, inShortestPathMode}
+use Rattle.order.specs.Calls.{modeOf, reachedCount, wrongRanks, ranksAfter, unreadyRanks, atFirst, judging, checking}
+use Rattle.order.specs.Table.{answers, link, twoCosts, T-topology, cutOff, twoParts}
+use Rattle.rows.specs.Bytes.{rankOrNone, rowBytes, headerBytes, rowOf, rowsBytes, tableBytes, rowStart}
+use Rattle.table.specs.Listed.{kindIn, destinationIn, countIn, limitIn, rankIn, byRank, orderIn, inShortestPathMode}
 use Rattle.table.specs.Calls.{unlessRefused, filling, soundHeader, soundRanks, differing, wrongBytes, tableJudging, tableChecking}
-use Rattle.table.specs.Facts.{holds, lone, slope, F-links, F-topology, F-falling, none, one, two, room, filled, checked, formed, FilledHold, CheckedHold, FormedHold}
-use Rattle.table.specs.Facts.{lone-table, T-table-0, T-table-1, T-table-2, T-table-free, F-table, F-table-1, F-table-falling, slope-table-0, slope-table-2, slope-turned}
+use Rattle.table.specs.Facts.{holds, lone, slope, F-links, F-topology, F-falling, none, one, two, room}
+use Rattle.table.specs.Facts.{filled, checked, formed, FilledHold, CheckedHold, FormedHold}
+use Rattle.table.specs.Facts.{lone-table, T-table-0, T-table-1, T-table-2, T-table-free, F-table, F-table-1, F-table-falling}
+use Rattle.table.specs.Facts.{slope-table-0, slope-table-2, slope-turned, cut-table-0, cut-table-free, cut-table-3, parts-table-0, parts-table-2}
 
 pub filled-hold : FilledHold
 unfolding numbersFrom below keep every any leastBy insert sort member distinct sameNumbers wins
     size idOf arcsOf greatestCost arcsAmong linked soundCost soundLink samePair pairsDiffer soundLinks
     absent distanceIn through of-distance.atFirst round rounds distances
     reached leadsInto ready candidate rank sortsBefore rankedBefore fullRow row
-    turnedAway given noLink padded contents held zeros seen networkIn networkOf apart
-    within inLimits wellLinked uncrowded none? connected isNoLink unusedZero slotted sound
-    joinedOver modeOf wrongRanks unreadyRanks atFirst judging checking answers link twoCosts T-topology
-    rowBytes headerBytes rowOf rowsBytes tableBytes rowStart unlessRefused filling
+    turnedAway given noLink padded contents held zeros seen networkIn networkOf
+    within inLimits wellLinked uncrowded isNoLink unusedZero slotted sound
+    joinedOver modeOf reachedCount wrongRanks ranksAfter unreadyRanks atFirst judging checking answers link twoCosts T-topology cutOff twoParts
+    rankOrNone rowBytes headerBytes rowOf rowsBytes tableBytes rowStart unlessRefused filling
     holds lone slope F-links F-topology F-falling none one two room filled
     lone-table T-table-0 T-table-1 T-table-2 T-table-free F-table F-table-1 F-table-falling slope-table-0 slope-table-2
+    cut-table-0 cut-table-free cut-table-3 parts-table-0 parts-table-2
 filled-hold = tt
 
 pub checked-hold : CheckedHold
@@ -38,13 +40,14 @@ unfolding numbersFrom below keep every any leastBy insert sort member distinct s
     size idOf arcsOf greatestCost arcsAmong linked soundCost soundLink samePair pairsDiffer soundLinks
     absent distanceIn through of-distance.atFirst round rounds distances
     reached leadsInto ready candidate candidatesInTurn holdsEachOnce firstIs othersInTurn accepted rank sortsBefore rankedBefore fullRow row
-    firstOr noLink padded contents held zeros seen networkIn networkOf apart
-    within inLimits wellLinked uncrowded none? connected isNoLink unusedZero slotted sound
-    joinedOver atFirst answers link twoCosts T-topology
-    rowBytes headerBytes rowOf rowsBytes tableBytes rowStart
-    kindIn destinationIn countIn limitIn rankIn orderIn soundHeader soundRanks differing wrongBytes tableChecking tableJudging
+    firstOr noLink padded contents held zeros seen networkIn networkOf
+    within inLimits wellLinked uncrowded isNoLink unusedZero slotted sound
+    joinedOver atFirst answers link twoCosts T-topology cutOff twoParts
+    rankOrNone rowBytes headerBytes rowOf rowsBytes tableBytes rowStart
+    kindIn destinationIn countIn limitIn rankIn byRank orderIn soundHeader soundRanks differing wrongBytes tableChecking tableJudging
     holds lone slope F-links F-topology F-falling none one two checked
     lone-table T-table-0 T-table-1 T-table-2 T-table-free F-table F-table-1 F-table-falling slope-table-0 slope-table-2 slope-turned
+    cut-table-0 cut-table-free cut-table-3 parts-table-0 parts-table-2
 checked-hold = tt
 
 pub formed-hold : FormedHold
@@ -52,6 +55,8 @@ unfolding numbersFrom below keep every any leastBy member distinct sameNumbers
     size arcsOf greatestCost arcsAmong linked
     absent distanceIn through of-distance.atFirst round rounds distances
     reached leadsInto shortestNextHops ready candidate candidatesInTurn holdsEachOnce firstIs othersInTurn accepted
-    firstOr noLink padded contents held seen networkIn networkOf link twoCosts T-topology rowStart destinationIn rankIn orderIn inShortestPathMode
+    firstOr noLink padded contents held seen networkIn networkOf link twoCosts T-topology cutOff twoParts
+    rowStart destinationIn rankIn byRank orderIn inShortestPathMode
     holds slope none one two T-table-0 T-table-free F-table slope-table-0 slope-table-2 formed
+    cut-table-0 cut-table-free cut-table-3 parts-table-2
 formed-hold = tt

@@ -3,23 +3,24 @@
 -- Assumes nothing.
 use Prim.Native.Nat.{ℕ, _≤_, _<_}
 use mathlib.Core.List.{List, append-nil}
-use mathlib.Core.Path.{_≡_, refl, _∙_}
+use mathlib.Core.Path.{_≡_, refl, ap, _∙_}
 use native.Mathlib.Omega.{arith}
 use borrow.Author.Tests.{ne-eqb, le-ltb}
 use lib.Dec.{T}
-use lib.ListN.{length}
+use lib.ListN.{length, take}
 use lib.Seq.{drop-length}
 use Rattle.network.specs.Order.{free}
 use Rattle.network.specs.Theorems.Order.{Accepted}
 use Rattle.stations.specs.declared.Topology.{Topology}
 use Rattle.stations.specs.Outcome.{answer, turnedAway, given}
-use Rattle.stations.specs.Topology.{contents, networkIn, networkOf}
+use Rattle.stations.specs.Topology.{padded, contents, networkIn, networkOf}
 use Rattle.stations.proofs.Given.{given-exact}
 use Rattle.soundness.specs.Sound.{sound}
 use Rattle.soundness.proofs.Sound.{sound-exact}
 use Rattle.order.specs.declared.Mode.the-variants as mode
-use Rattle.order.specs.Calls.{checking}
-use Rattle.order.proofs.Orders.{checks-exact}
+use Rattle.order.specs.Calls.{modeOf, reachedCount, orderBytes, checking}
+use Rattle.order.specs.Theorems.{upToN}
+use Rattle.order.proofs.Orders.{part-is, checks}
 use Rattle.order.proofs.Verdicts.{checks-each}
 use Rattle.rows.specs.Bytes.{tableBytes}
 use Rattle.table.specs.Calls.{unlessRefused, filling}
@@ -28,13 +29,9 @@ use Rattle.table.proofs.Bytes.{bytes-exact}
 use Rattle.table.proofs.Verdicts.{table-long, tables-exact}
 
 module _ (t : Topology) (d : ℕ) (order : List ℕ) where
-  -- the bytes that filling writes
+  -- the bytes that filling writes for the reached routers in their order
   abbrev itsTable : List ℕ
   itsTable = tableBytes (networkOf t) d (t .limit) order
-
-  goes-on : checking t d mode.Free order ≡ answer 0 0 → (buffer : List ℕ) → filling t d order buffer ≡ given itsTable buffer
-  unfolding filling unlessRefused
-  goes-on e buffer = rw e
 
   -- they are a table, which the order and the topology's K give
   stated : T (sound t) → TableIs (networkOf t) d (t .limit) order itsTable
@@ -51,11 +48,25 @@ module _ (t : Topology) (d : ℕ) (order : List ℕ) where
         bytes = stated s;
       }
 
+-- once checking the order's bytes answers 0, the table of its reached ranks is given
+goes-on : (t : Topology) (d : ℕ) (bytes : List ℕ) → checking t d mode.Free bytes ≡ answer 0 0 → (buffer : List ℕ) →
+    filling t d bytes buffer ≡ given (itsTable t d (take (reachedCount (networkOf t) d) bytes)) buffer
+unfolding filling unlessRefused
+goes-on t d bytes e buffer = rw e
+
+-- where they are an accepted order and then 255, these are the order
+fills : (t : Topology) → T (sound t) → (d : ℕ) → d < t .routers → (order : List ℕ) → Accepted (networkOf t) d free order → (buffer : List ℕ) →
+    filling t d (upToN t order) buffer ≡ given (itsTable t d order) buffer
+unfolding modeOf orderBytes padded
+fills t s d place order a buffer =
+    goes-on t d (upToN t order) (checks t s d place mode.Free order a) buffer
+    ∙ ap (λ (part : List ℕ). given (itsTable t d part) buffer) (part-is t s d place mode.Free order a)
+
 pub fills-well : FillsWell
 fills-well t s d place order a buffer room =
     let bytes = itsTable t d order in
     let long = table-long t s (stated t d order s) in
-    let left = goes-on t d order (checks-exact t s d place .in-free order .1 a) buffer in
+    let left = fills t s d place order a buffer in
     let w = given-exact bytes buffer in
     let fits : length bytes ≤ length buffer = omega arith in
     let g = gives t d order s place a in
@@ -75,8 +86,9 @@ fill-refuses t d order buffer =
       not-accepted = λ number at some e. rw (e, ne-eqb number 0 some);
       no-room = λ e short.
           let s = checks-each t d order 0 .in-free .says-0 .0 e .1 .is-sound in
-          let long = table-long t s (stated t d order s) in
-          rw (goes-on t d order e buffer, ← long) (given-exact (itsTable t d order) buffer .short (omega arith));
+          let part = take (reachedCount (networkOf t) d) order in
+          let long = table-long t s (stated t d part s) in
+          rw (goes-on t d order e buffer, ← long) (given-exact (itsTable t d part) buffer .short (omega arith));
     }
 
 -- the network does not depend on K
@@ -98,7 +110,6 @@ limited-sound t limit s least most =
       limit-most = most;
       linked = w .linked;
       neighbours = w .neighbours;
-      paths = w .paths;
       ids-unused = w .ids-unused;
       links-unused = w .links-unused;
       id-slots = w .id-slots;
@@ -117,5 +128,5 @@ given-is-filled t s table d limit order g buffer e =
     let n = same-network t limit in
     let a : Accepted (networkOf u) d free order = rw n (g .in-free) in
     let bytes : table ≡ tableBytes (networkOf u) d limit order = rw n (bytes-exact (networkOf t) d limit (g .limit-most) order table .1 (g .bytes)) in
-    goes-on u d order (checks-exact u (limited-sound t limit s (g .limit-least) (g .limit-most)) d (g .place) .in-free order .1 a) buffer
+    fills u (limited-sound t limit s (g .limit-least) (g .limit-most)) d (g .place) order a buffer
     ∙ rw (← bytes) (whole table buffer e)

@@ -13,19 +13,22 @@ use lib.ListN.{length, getD, take, drop, length-map, length-drop, List·getD-eq-
 use lib.Seq.{length-take-le, getD-take, getD-drop, ext-getD, take-nil}
 use Rattle.network.specs.Lists.{Pairwise, nothing, then, keep, sort}
 use Rattle.network.specs.Network.{Arc, Network, size, arcsOf, WellFormed}
-use Rattle.network.specs.Distance.{distances}
-use Rattle.network.specs.Order.{free}
-use Rattle.network.specs.Row.{rankedBefore, fullRow, row}
+use Rattle.network.specs.Distance.{PathTo, along, distances}
+use Rattle.network.specs.Order.{Mode, free}
+use Rattle.network.specs.Theorems.Order.{Accepted}
+use Rattle.network.specs.Row.{rank, rankedBefore, fullRow, row}
 use Rattle.network.specs.Forwarding.{Forwarding}
-use Rattle.network.proofs.Lists.{mem-take}
+use Rattle.network.proofs.Lists.{empty, mem-take}
 use Rattle.network.proofs.Order.{acceptance-exact}
+use Rattle.network.proofs.Pigeon.{member?}
+use Rattle.network.proofs.Rank.{rank-most, rank-in, rank-is-turn}
 use Rattle.network.proofs.Row.{full-row-exact}
 use Rattle.stations.specs.Topology.{networkOf}
 use Rattle.soundness.proofs.Sound.{sound-networks}
 use Rattle.topology.specs.Written.{joinedOver}
 use Rattle.rows.specs.Bytes.{rowStart}
 use Rattle.table.specs.Listed.{destinationIn, rankIn, placesIn, arcsTo, entriesIn, listed, forwardingBy, orderIn}
-use Rattle.table.specs.Theorems.{TableIs, TablesList, AcceptedList, TablesCarry}
+use Rattle.table.specs.Theorems.{TableIs, TablesList, RowsByPath, AcceptedList, TablesCarry}
 use Rattle.table.proofs.Bytes.{row-few}
 use Rattle.table.proofs.Accepting.{ranks-ordered}
 use Rattle.table.proofs.Verdicts.{start-of, accepted-given}
@@ -122,6 +125,42 @@ tables-list t good table d limit order g =
       forwards = ap₂ forwarding (is .destination) (fun-ext rows);
       ordered = same;
       mode-is = rw (is .destination) at mode;
+    }
+
+-- a place that ranks before the end of an order stands in it
+pub held-before : (order : List ℕ) (v : ℕ) → rank order v < length order → List·Memᴰ v order
+held-before order v h = step (member? v order)
+  where
+    step : Dec (List·Memᴰ v order) → List·Memᴰ v order
+    step (yes m) = m
+    step (no out) = absurd (omega (arith, rank-is-turn v .1 order out))
+
+-- A router with no path has no row: an entry would be ranked, and so have a path, and the router one along it.
+pub no-path-row : (n : Network) → WellFormed n → (d : ℕ) → d < size n → {mode : Mode} {order : List ℕ} → Accepted n d mode order → (limit u : ℕ) →
+    (PathTo n d u → ⊥) → row n (distances n d) limit order u ≡ []
+unfolding row
+no-path-row n wf d inside {order = order} a limit u out =
+    empty _
+    (λ b m.
+    let (arc, lower) = full-row-exact n wf d inside order u .holds b .0 (mem-take limit (fullRow n (distances n d) order u) m) in
+    out (along b arc (a .only (b .to) (held-before order (b .to) (omega (arith, lower, rank-most order u))))))
+
+pub rows-by-path : RowsByPath
+rows-by-path t good table d limit order g u h =
+    let n = networkOf t in
+    let s = sound-networks t good in
+    let inside : d < size n = omega (arith, s .routers, g .place) in
+    let r = g .bytes .rows u (omega (arith, s .routers)) in
+    let acc = g .in-free in
+    record {
+      unreached = λ out.
+          let none = ap (λ (arcs : List Arc). length arcs) (no-path-row n (s .well-formed) d inside acc limit u out) in
+          record {
+            no-rank = r .rank-is .unreached (λ m. out (acc .only u m));
+            no-entries = r .count ∙ none;
+            all-none = λ j l. r .padding j (omega (arith, none)) l;
+          };
+      reached = λ path. let m = acc .all u path in (r .rank-is .reached m, rank-in order u m);
     }
 
 pub accepted-list : AcceptedList

@@ -4,8 +4,8 @@ use Prim.Native.Nat.{ℕ}
 use mathlib.Core.Bool.{Bool, cond, not, _&&_}
 use mathlib.Core.List.{List}
 use lib.Dec.{eqb, ltb}
-use lib.ListN.{length, getD}
-use Rattle.network.specs.Lists.{below, keep}
+use lib.ListN.{length, getD, take}
+use Rattle.network.specs.Lists.{below, keep, every}
 use Rattle.network.specs.Network.{Network}
 use Rattle.network.specs.Order.{free, accepted}
 use Rattle.stations.specs.declared.Answer.{Answer}
@@ -15,28 +15,31 @@ use Rattle.stations.specs.Outcome.{answer, Outcome, turnedAway, given}
 use Rattle.stations.specs.Topology.{networkOf}
 use Rattle.soundness.specs.Sound.{sound, within}
 use Rattle.order.specs.declared.Mode.the-variants as mode
-use Rattle.order.specs.Calls.{atFirst, checking}
-use Rattle.rows.specs.Bytes.{tableBytes, tableLength}
-use Rattle.table.specs.Listed.{kindIn, destinationIn, countIn, limitIn, orderIn}
+use Rattle.order.specs.Calls.{reachedCount, atFirst, checking}
+use Rattle.rows.specs.Bytes.{rankOrNone, tableBytes, tableLength}
+use Rattle.table.specs.Listed.{kindIn, destinationIn, countIn, limitIn, rankIn, orderIn}
 
 -- a refusal leaves the buffer as it was; number 0 goes on to the next test
 unfoldable pub unlessRefused : Answer → List ℕ → Outcome → Outcome
 unlessRefused a buffer next = cond (eqb (a .number) 0) next (turnedAway (a .number) (a .at) buffer)
 
--- 14, 15, and 17 to 20 in free mode, each over the whole order; then 24 at 4 + 19N; else the table for the topology's K, the rest of a longer buffer
--- staying
+-- 14, 15, and 17 to 20 in free mode, each over the whole order; then 24 at 4 + 19N; else the table for the topology's K and the reached ranks of the order,
+-- the rest of a longer buffer staying
 unfoldable pub filling : Topology → ℕ → List ℕ → List ℕ → Outcome
 filling t d order buffer =
-    unlessRefused (checking t d mode.Free order) buffer (given (tableBytes (networkOf t) d (t .limit) order) buffer)
+    unlessRefused (checking t d mode.Free order) buffer
+    (given (tableBytes (networkOf t) d (t .limit) (take (reachedCount (networkOf t) d) order)) buffer)
 
 -- 21: the header is sound: kind 16, destination below N, count N, K 1 to 16
 unfoldable pub soundHeader : ℕ → List ℕ → Bool
 soundHeader count table =
     eqb (kindIn table) 16 && ltb (destinationIn table) count && eqb (countIn table) count && within mostNextHops (limitIn table)
 
--- 21: the ranks form an order accepted in free mode
+-- 21: the ranks form an order accepted in free mode: each router has its rank in it, and one that it does not hold has none (02, #107)
 unfoldable pub soundRanks : Network → ℕ → List ℕ → Bool
-soundRanks n count table = accepted n (destinationIn table) free (orderIn count table)
+soundRanks n count table =
+    accepted n (destinationIn table) free (orderIn count table)
+    && every (λ u. eqb (rankIn table u) (rankOrNone (orderIn count table) u)) (below count)
 
 -- the offsets below the first list's length at which the two differ
 unfoldable pub differing : List ℕ → List ℕ → List ℕ

@@ -9,8 +9,8 @@ use lib.ListN.{replicate, set, take}
 use Rattle.network.specs.Lists.{every, sameNumbers}
 use Rattle.stations.specs.declared.Topology.{Topology}
 use Rattle.stations.specs.Topology.{held, zeros, networkOf}
-use Rattle.order.specs.Table.{answers, link, twoCosts, T-topology}
-use Rattle.table.specs.Listed.{orderIn, inShortestPathMode}
+use Rattle.order.specs.Table.{answers, link, twoCosts, T-topology, cutOff, twoParts}
+use Rattle.table.specs.Listed.{byRank, orderIn, inShortestPathMode}
 use Rattle.table.specs.Calls.{filling, tableChecking}
 
 pub data Fact : Type 0 where
@@ -20,6 +20,8 @@ pub data Fact : Type 0 where
   checks : Topology → List ℕ → ℕ → ℕ → Fact
   -- the ranks of a table for so many routers form this order
   orders : ℕ → List ℕ → List ℕ → Fact
+  -- the same as bytes, 255 at the ranks that no place has
+  by-rank : ℕ → List ℕ → List ℕ → Fact
   -- whether a table is in shortest-path mode
   in-mode : Topology → List ℕ → Bool → Fact
 
@@ -28,6 +30,7 @@ holds (fills t d order buffer number at bytes) =
     answers (filling t d order buffer .answer) number at && sameNumbers (filling t d order buffer .buffer) bytes
 holds (checks t table number at) = answers (tableChecking t table) number at
 holds (orders count table order) = sameNumbers (orderIn count table) order
+holds (by-rank count table bytes) = sameNumbers (byRank count table) bytes
 holds (in-mode t table shortest) = Bool·beq (inShortestPathMode (networkOf t) table) shortest
 
 -- one router, no links
@@ -93,6 +96,23 @@ slope-table-2 = 16 ∷ 2 ∷ 3 ∷ 3 ∷ one 1 2 (two 2 0 2 (none 0 []))
 unfoldable pub slope-turned : List ℕ
 slope-turned = 16 ∷ 0 ∷ 3 ∷ 3 ∷ none 0 (one 1 0 (two 2 0 1 []))
 
+-- 02, #107: tables where routers have no path to the destination. In `cutOff`, for destination 0, T's rows and one with no rank, in either mode; for
+-- destination 3 only that router has a rank. In `twoParts`, for destinations 0 and 2, the one pair or the other has ranks.
+unfoldable pub cut-table-0 : List ℕ
+cut-table-0 = 16 ∷ 0 ∷ 4 ∷ 3 ∷ none 0 (one 1 0 (two 2 1 0 (none 255 [])))
+
+unfoldable pub cut-table-free : List ℕ
+cut-table-free = 16 ∷ 0 ∷ 4 ∷ 3 ∷ none 0 (two 2 0 2 (one 1 0 (none 255 [])))
+
+unfoldable pub cut-table-3 : List ℕ
+cut-table-3 = 16 ∷ 3 ∷ 4 ∷ 3 ∷ none 255 (none 255 (none 255 (none 0 [])))
+
+unfoldable pub parts-table-0 : List ℕ
+parts-table-0 = 16 ∷ 0 ∷ 4 ∷ 3 ∷ none 0 (one 1 0 (none 255 (none 255 [])))
+
+unfoldable pub parts-table-2 : List ℕ
+parts-table-2 = 16 ∷ 2 ∷ 4 ∷ 3 ∷ none 255 (none 255 (none 0 (one 1 2 [])))
+
 -- 01, Two networks by hand: F's rows for d = 0, with K = 16 and with K = 1
 unfoldable pub F-table : List ℕ
 F-table = 16 ∷ 0 ∷ 6 ∷ 16 ∷ none 0 (two 2 0 2 (one 1 0 (two 4 1 4 (one 3 2 (two 5 4 3 [])))))
@@ -128,9 +148,22 @@ filled =
     ∷ fills T-topology 0 (0 ∷ 1 ∷ 1 ∷ []) (room 61) 18 2 (room 61)
     ∷ fills T-topology 0 (1 ∷ 0 ∷ 2 ∷ []) (room 61) 19 0 (room 61)
     ∷ fills (F-topology 16) 0 (0 ∷ 5 ∷ 1 ∷ 2 ∷ 3 ∷ 4 ∷ []) [] 20 1 []
+    ∷ fills cutOff 0 (0 ∷ 1 ∷ 2 ∷ 255 ∷ []) (room 80) 0 80 cut-table-0
+    ∷ fills cutOff 0 (0 ∷ 2 ∷ 1 ∷ 255 ∷ []) (room 80) 0 80 cut-table-free
+    ∷ fills cutOff 3 (3 ∷ 255 ∷ 255 ∷ 255 ∷ []) (room 81) 0 80 (cut-table-3 ++ (170 ∷ []))
+    ∷ fills twoParts 0 (0 ∷ 1 ∷ 255 ∷ 255 ∷ []) (room 80) 0 80 parts-table-0
+    ∷ fills twoParts 2 (2 ∷ 3 ∷ 255 ∷ 255 ∷ []) (room 80) 0 80 parts-table-2
+    ∷ fills cutOff 0 (0 ∷ 1 ∷ 2 ∷ 255 ∷ []) (room 79) 24 80 (room 79)
+    ∷ fills cutOff 0 (0 ∷ 1 ∷ 2 ∷ []) (room 80) 17 3 (room 80)
+    ∷ fills cutOff 0 (0 ∷ 1 ∷ 2 ∷ 3 ∷ []) (room 80) 18 3 (room 80)
+    ∷ fills cutOff 0 (0 ∷ 1 ∷ 255 ∷ 2 ∷ []) (room 80) 18 2 (room 80)
+    ∷ fills cutOff 3 (0 ∷ 255 ∷ 255 ∷ 255 ∷ []) (room 80) 19 0 (room 80)
+    ∷ fills cutOff 0 (0 ∷ 1 ∷ 3 ∷ 255 ∷ []) (room 80) 20 2 (room 80)
     ∷ []
 
--- Tables that are accepted, whatever the topology's K; then 14, and 21 by its length, by the header and the ranks, and by a byte of each kind.
+-- Tables that are accepted, whatever the topology's K; then 14, and 21 by its length, by the header and the ranks, and by a byte of each kind. Then the same
+-- where routers have no path (02, #107): a rank for such a router, one past N, one that another has; none for a reached router, or one too high; and a byte
+-- of each kind in a row without a rank.
 unfoldable pub checked : List Fact
 checked =
     checks T-topology T-table-0 0 0
@@ -168,6 +201,26 @@ checked =
     ∷ checks T-topology (set T-table-0 60 0) 21 60
     ∷ checks T-topology (set T-table-0 7 0) 21 7
     ∷ checks T-topology (set (set T-table-0 60 0) 44 1) 21 44
+    ∷ checks cutOff cut-table-0 0 0
+    ∷ checks cutOff cut-table-free 0 0
+    ∷ checks cutOff cut-table-3 0 0
+    ∷ checks twoParts parts-table-0 0 0
+    ∷ checks twoParts parts-table-2 0 0
+    ∷ checks cutOff (set cut-table-0 62 3) 21 0
+    ∷ checks cutOff (set cut-table-0 62 200) 21 0
+    ∷ checks cutOff (set cut-table-0 62 2) 21 0
+    ∷ checks cutOff (set cut-table-0 43 255) 21 0
+    ∷ checks cutOff (set cut-table-0 43 3) 21 0
+    ∷ checks cutOff (set (set cut-table-0 43 255) 62 2) 21 0
+    ∷ checks twoParts (set parts-table-2 5 1) 21 0
+    ∷ checks twoParts cut-table-0 21 0
+    ∷ checks cutOff parts-table-0 21 0
+    ∷ checks T-topology (set T-table-0 43 255) 21 0
+    ∷ checks cutOff (set cut-table-0 61 16) 21 61
+    ∷ checks cutOff (set cut-table-0 63 1) 21 63
+    ∷ checks cutOff (set cut-table-0 64 0) 21 64
+    ∷ checks cutOff (set cut-table-0 79 0) 21 79
+    ∷ checks cutOff (set cut-table-3 6 1) 21 6
     ∷ []
 
 -- The order that a table's ranks form, and its mode.
@@ -180,6 +233,15 @@ formed =
     ∷ in-mode T-topology T-table-free false
     ∷ in-mode slope slope-table-0 true
     ∷ in-mode slope slope-table-2 true
+    ∷ orders 4 cut-table-0 (0 ∷ 1 ∷ 2 ∷ [])
+    ∷ orders 4 cut-table-free (0 ∷ 2 ∷ 1 ∷ [])
+    ∷ orders 4 cut-table-3 (3 ∷ [])
+    ∷ orders 4 parts-table-2 (2 ∷ 3 ∷ [])
+    ∷ by-rank 4 cut-table-0 (0 ∷ 1 ∷ 2 ∷ 255 ∷ [])
+    ∷ by-rank 4 cut-table-3 (3 ∷ 255 ∷ 255 ∷ 255 ∷ [])
+    ∷ in-mode cutOff cut-table-0 true
+    ∷ in-mode cutOff cut-table-free false
+    ∷ in-mode twoParts parts-table-2 true
     ∷ []
 
 -- The three statements: every fact of the lists holds, by computing it.

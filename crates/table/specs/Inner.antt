@@ -1,24 +1,33 @@
--- What the private functions ask; no open contract rests on it.
+-- What the private functions ask, and what they find; no open contract rests on it.
 -- Assumes nothing.
 use Prim.Native.Nat.{ℕ}
-use mathlib.Core.Bool.{_&&_}
+use mathlib.Core.Bool.{cond}
 use mathlib.Core.List.{List}
 use mathlib.Core.Path.{_≡_}
 use lib.Dec.{T}
 use lib.ListN.{length, take}
+use Rattle.network.specs.Network.{Network}
+use Rattle.network.specs.Order.{free}
+use Rattle.network.specs.Theorems.Order.{Accepted}
 use Rattle.stations.specs.declared.Topology.{Topology}
+use Rattle.stations.specs.Inner.{firstOr}
 use Rattle.stations.specs.Topology.{networkOf}
-use Rattle.soundness.specs.Sound.{sound}
 use Rattle.arcs.specs.declared.Arcs.{Arcs}
-use Rattle.arcs.specs.Arcs.{Laid}
+use Rattle.order.specs.Calls.{orderBytes}
+use Rattle.order.specs.Proposed.{Measured}
 use Rattle.rows.specs.Bytes.{tableLength}
-use Rattle.table.specs.Listed.{orderIn}
-use Rattle.table.specs.Calls.{soundHeader, soundRanks}
+use Rattle.table.specs.Listed.{destinationIn, byRank, orderIn}
+use Rattle.table.specs.Calls.{soundHeader, soundRanks, wrongBytes}
 
--- a table whose length, header and ranks were tested, and the order that its ranks form
-pub record Started (t : Topology) (a : Arcs) (table order : List ℕ) : Type 0 where
-  pub on-sound : T (sound t)
-  pub holds : Laid t a
+-- a table whose length and header were tested, the distances to its destination, and the order that its ranks form, which is accepted in free mode
+pub record Started (t : Topology) (a : Arcs) (ds table order : List ℕ) : Type 0 where
+  pub measured : Measured t a (destinationIn table) ds
   pub long : length table ≡ tableLength (t .routers)
-  pub passes : T (soundHeader (t .routers) table && soundRanks (networkOf t) (t .routers) table)
-  pub order-is : take (t .routers) order ≡ orderIn (t .routers) table
+  pub header : T (soundHeader (t .routers) table)
+  pub in-free : Accepted (networkOf t) (destinationIn table) free (orderIn (t .routers) table)
+  pub order-is : take (t .routers) order ≡ byRank (t .routers) table
+  pub bytes-are : byRank (t .routers) table ≡ orderBytes (t .routers) (orderIn (t .routers) table)
+
+-- the first wrong byte, the length where there is none, and 0 where the ranks are not those of the order that they form
+unfoldable pub firstWrong : Network → ℕ → List ℕ → ℕ
+firstWrong n count table = cond (soundRanks n count table) (firstOr (length table) (wrongBytes n count table)) 0

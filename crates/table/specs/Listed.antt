@@ -3,7 +3,7 @@
 use Prim.Native.Nat.{ℕ, _+_}
 use mathlib.Core.Bool.{Bool}
 use mathlib.Core.List.{List, map}
-use lib.Dec.{eqb}
+use lib.Dec.{eqb, ltb}
 use lib.ListN.{getD, take, drop}
 use Rattle.network.specs.Lists.{below, keep}
 use Rattle.network.specs.Network.{Arc, Network, size, arcsOf}
@@ -64,10 +64,14 @@ forwardingBy l =
       choose = λ states u. firstLive states (l .entries u);
     }
 
--- 01, Rows and tables: the order that the ranks of a table for so many routers form. At each rank stands the place whose row has it; where none has,
--- the number of routers, which is no place.
+-- 01, Rows and tables: the order that the ranks of a table for so many routers form. At each rank stands the lowest place whose row has it; where none
+-- has, 255 (02, #107).
+unfoldable pub byRank : ℕ → List ℕ → List ℕ
+byRank count table = map (λ r. firstOr 255 (keep (λ u. eqb (rankIn table u) r) (below count))) (below count)
+
+-- 02, #107: the places in it, by rank. Where the ranks are sound they are the reached routers, and 255 is no place.
 unfoldable pub orderIn : ℕ → List ℕ → List ℕ
-orderIn count table = map (λ r. firstOr count (keep (λ u. eqb (rankIn table u) r) (below count))) (below count)
+orderIn count table = keep (λ u. ltb u count) (byRank count table)
 
 -- 01, Rows and tables: a table is in shortest-path mode if its order is accepted in that mode
 unfoldable pub inShortestPathMode : Network → List ℕ → Bool

@@ -1,13 +1,13 @@
 -- What is proved of tables as bytes: what filling writes, which tables are accepted, what each answer means, and what an accepted table lists.
 -- Assumes nothing.
 use Prim.Native.Nat.{ℕ, _+_, _*_, _≤_, _<_}
-use mathlib.Core.List.{List, map}
+use mathlib.Core.List.{List, List·Memᴰ, map}
 use mathlib.Core.Logic.{_↔_, _≢_}
 use mathlib.Core.Path.{_≡_}
 use lib.Dec.{T}
 use lib.ListN.{length, getD, take, drop}
 use Rattle.network.specs.Network.{Arc, Network, size}
-use Rattle.network.specs.Distance.{distances}
+use Rattle.network.specs.Distance.{PathTo, distances}
 use Rattle.network.specs.Order.{shortest-path, free}
 use Rattle.network.specs.Row.{rank, row}
 use Rattle.network.specs.Routing.{routers}
@@ -19,14 +19,20 @@ use Rattle.stations.specs.Topology.{networkOf}
 use Rattle.soundness.specs.Sound.{sound}
 use Rattle.order.specs.declared.Mode.the-variants as mode
 use Rattle.order.specs.Calls.{checking}
+use Rattle.order.specs.Theorems.{upToN}
 use Rattle.rows.specs.Bytes.{tableBytes}
-use Rattle.table.specs.Listed.{listed, forwardingBy, orderIn, inShortestPathMode}
+use Rattle.table.specs.Listed.{listed, forwardingBy, byRank, orderIn, inShortestPathMode}
 use Rattle.table.specs.Calls.{filling, tableChecking}
+
+-- 02, #107: the rank byte of the place u: its rank in the order, which holds the reached routers, and 255 where the order does not hold it
+pub record RankAt (order : List ℕ) (u byte : ℕ) : Type 0 where
+  pub reached : List·Memᴰ u order → byte ≡ rank order u
+  pub unreached : (List·Memᴰ u order → ⊥) → byte ≡ 255
 
 -- 01, Rows and tables: the row of the place u, byte by byte: kind 17, its rank, its count, 16 bytes of places, unused ones 255
 pub record RowAt (n : Network) (d limit : ℕ) (order table : List ℕ) (u : ℕ) : Type 0 where
   pub kind : getD table (4 + 19 * u) 0 ≡ 17
-  pub rank-is : getD table (4 + 19 * u + 1) 0 ≡ rank order u
+  pub rank-is : RankAt order u (getD table (4 + 19 * u + 1) 0)
   pub count : getD table (4 + 19 * u + 2) 0 ≡ length (row n (distances n d) limit order u)
   pub entry : (j : ℕ) → j < length (row n (distances n d) limit order u) →
       getD table (4 + 19 * u + 3 + j) 0 ≡ getD (map (λ (a : Arc). a .to) (row n (distances n d) limit order u)) j 0
@@ -53,21 +59,21 @@ pub record GivenBy (t : Topology) (table : List ℕ) (d limit : ℕ) (order : Li
   pub in-free : Accepted (networkOf t) d free order
   pub bytes : TableIs (networkOf t) d limit order table
 
--- Filling for an order accepted in free mode succeeds at 4 + 19N where there is room. Its first bytes are then the table for the order and the
--- topology's K, which checking accepts; the rest stays.
+-- Filling for an order accepted in free mode, and then 255 up to N, succeeds at 4 + 19N where there is room. Its first bytes are then the table for the
+-- order and the topology's K, which checking accepts; the rest stays.
 pub record FilledWell (t : Topology) (d : ℕ) (order buffer : List ℕ) : Type 0 where
-  pub success : filling t d order buffer .answer ≡ answer 0 (4 + 19 * t .routers)
-  pub given : GivenBy t (take (4 + 19 * t .routers) (filling t d order buffer .buffer)) d (t .limit) order
-  pub rest : drop (4 + 19 * t .routers) (filling t d order buffer .buffer) ≡ drop (4 + 19 * t .routers) buffer
-  pub long : length (filling t d order buffer .buffer) ≡ length buffer
-  pub accepted : tableChecking t (take (4 + 19 * t .routers) (filling t d order buffer .buffer)) ≡ answer 0 0
+  pub success : filling t d (upToN t order) buffer .answer ≡ answer 0 (4 + 19 * t .routers)
+  pub given : GivenBy t (take (4 + 19 * t .routers) (filling t d (upToN t order) buffer .buffer)) d (t .limit) order
+  pub rest : drop (4 + 19 * t .routers) (filling t d (upToN t order) buffer .buffer) ≡ drop (4 + 19 * t .routers) buffer
+  pub long : length (filling t d (upToN t order) buffer .buffer) ≡ length buffer
+  pub accepted : tableChecking t (take (4 + 19 * t .routers) (filling t d (upToN t order) buffer .buffer)) ≡ answer 0 0
 
 abbrev pub FillsWell : Type 0
 FillsWell =
     (t : Topology) → T (sound t) → (d : ℕ) → d < t .routers → (order : List ℕ) → Accepted (networkOf t) d free order →
     (buffer : List ℕ) → 4 + 19 * t .routers ≤ length buffer → FilledWell t d order buffer
 
--- 01, Refusals, 14, 15, 17 to 20 and 24: what filling refuses, where it points, and that it leaves the buffer as it was. The first five are those of
+-- 01, Refusals, 14, 15, 17 to 20 and 24: what filling refuses, where it points, and that it leaves the buffer as it was. All but 24 are those of
 -- checking the order in free mode, which `order` spells out (`ChecksEach`); all else is `FillsWell`.
 pub record FillRefused (t : Topology) (d : ℕ) (order buffer : List ℕ) : Type 0 where
   pub not-accepted : (number at : ℕ) → number ≢ 0 → checking t d mode.Free order ≡ answer number at →
@@ -99,7 +105,7 @@ abbrev pub GivenIsFilled : Type 0
 GivenIsFilled =
     (t : Topology) → T (sound t) → (table : List ℕ) (d limit : ℕ) (order : List ℕ) → GivenBy t table d limit order →
     (buffer : List ℕ) → length buffer ≡ length table →
-    filling (withLimit t limit) d order buffer ≡ record { answer = answer 0 (length table); buffer = table }
+    filling (withLimit t limit) d (upToN t order) buffer ≡ record { answer = answer 0 (length table); buffer = table }
 
 -- 01, Refusals, 21: the header is sound, and the ranks are those of an order accepted in free mode
 pub record SoundStart (t : Topology) (table order : List ℕ) : Type 0 where
@@ -109,13 +115,19 @@ pub record SoundStart (t : Topology) (table order : List ℕ) : Type 0 where
   pub limit-least : 1 ≤ getD table 3 0
   pub limit-most : getD table 3 0 ≤ 16
   pub in-free : Accepted (networkOf t) (getD table 1 0) free order
-  pub ranks : (u : ℕ) → u < t .routers → getD table (4 + 19 * u + 1) 0 ≡ rank order u
+  pub ranks : (u : ℕ) → u < t .routers → RankAt order u (getD table (4 + 19 * u + 1) 0)
 
 -- 01, Rows and tables: the order that the ranks form is that one, also where other bytes are wrong, and the table's mode is by it.
 abbrev pub RanksOrdered : Type 0
 RanksOrdered =
     (t : Topology) → T (sound t) → (table order : List ℕ) → SoundStart t table order → (orderIn (t .routers) table ≡ order)
     × (T (inShortestPathMode (networkOf t) table) ↔ Accepted (networkOf t) (getD table 1 0) shortest-path order)
+
+-- 01, Order: an order is one byte per rank, the place. 02, #107: it holds the reached routers, then 255 up to N. The ranks of a table form these bytes of
+-- that order, also where other bytes are wrong.
+abbrev pub RanksInBytes : Type 0
+RanksInBytes =
+    (t : Topology) → T (sound t) → (table order : List ℕ) → SoundStart t table order → byRank (t .routers) table ≡ upToN t order
 
 -- 01, Refusals, 21: the byte at the offset is not what filling would give for the order and the header's K, and every earlier byte is
 pub record FirstWrong (t : Topology) (table order : List ℕ) (at : ℕ) : Type 0 where
@@ -138,12 +150,12 @@ pub record TableChecked (t : Topology) (table : List ℕ) (at : ℕ) : Type 0 wh
 abbrev pub TablesEach : Type 0
 TablesEach = (t : Topology) (table : List ℕ) (at : ℕ) → TableChecked t table at
 
--- An accepted table lists `network`'s ranks and rows for its order and K, place by place, so that routers that forward by it are `network`'s. The places
--- are those below N; past them it lists no entries, and `network` has no row. 01, Rows and tables: it is in shortest-path mode if and only if its order
--- is accepted in that mode.
+-- An accepted table lists `network`'s ranks, 255 where the order does not hold the router, and rows for its order and K, place by place, so that routers
+-- that forward by it are `network`'s. The places are those below N; past them it lists no entries, and `network` has no row. 01, Rows and tables: it is in
+-- shortest-path mode if and only if its order is accepted in that mode.
 pub record ListsRows (t : Topology) (table : List ℕ) (d limit : ℕ) (order : List ℕ) : Type 1 where
   pub destination : listed (networkOf t) table .destination ≡ d
-  pub ranks : (u : ℕ) → u < t .routers → listed (networkOf t) table .rank u ≡ rank order u
+  pub ranks : (u : ℕ) → u < t .routers → RankAt order u (listed (networkOf t) table .rank u)
   pub entries : (u : ℕ) → listed (networkOf t) table .entries u ≡ row (networkOf t) (distances (networkOf t) d) limit order u
   pub forwards : forwardingBy (listed (networkOf t) table) ≡ routers (networkOf t) d limit order
   pub ordered : orderIn (t .routers) table ≡ order
@@ -152,6 +164,22 @@ pub record ListsRows (t : Topology) (table : List ℕ) (d limit : ℕ) (order : 
 abbrev pub TablesList : Type 1
 TablesList =
     (t : Topology) → T (sound t) → (table : List ℕ) (d limit : ℕ) (order : List ℕ) → GivenBy t table d limit order → ListsRows t table d limit order
+
+-- 02, #107: in an accepted table a router with no path to the destination has rank byte 255, count 0 and 16 bytes of 255. The rank byte of one with a path
+-- is its rank in the order, below how many routers that holds.
+pub record UnreachedRow (table : List ℕ) (u : ℕ) : Type 0 where
+  pub no-rank : getD table (4 + 19 * u + 1) 0 ≡ 255
+  pub no-entries : getD table (4 + 19 * u + 2) 0 ≡ 0
+  pub all-none : (j : ℕ) → j < 16 → getD table (4 + 19 * u + 3 + j) 0 ≡ 255
+
+pub record ByPath (t : Topology) (table : List ℕ) (d : ℕ) (order : List ℕ) (u : ℕ) : Type 0 where
+  pub unreached : (PathTo (networkOf t) d u → ⊥) → UnreachedRow table u
+  pub reached : PathTo (networkOf t) d u → (getD table (4 + 19 * u + 1) 0 ≡ rank order u) × (rank order u < length order)
+
+abbrev pub RowsByPath : Type 0
+RowsByPath =
+    (t : Topology) → T (sound t) → (table : List ℕ) (d limit : ℕ) (order : List ℕ) → GivenBy t table d limit order →
+    (u : ℕ) → u < t .routers → ByPath t table d order u
 
 -- From the answer: the destination and K that give an accepted table are the header's, K from 1 to 16, and the order is the one that the ranks form.
 abbrev pub AcceptedGiven : Type 0

@@ -1,4 +1,5 @@
 // Tables (01, Rows and tables): filled for an order, and checked.
+use order::Mode;
 use rows::HEADER;
 use rows::ROW;
 use stations::Answer;
@@ -11,7 +12,7 @@ pub mod unchecked;
 ghost use mathlib.Core.Path.{_≡_};
 ghost use Rattle.table.specs.Calls.{filling, tableChecking};
 
-// Fills the table of a destination for an order accepted in free mode: refusals 14, 15, 17 to 20 and 24.
+// Fills the table of a destination for an order accepted in free mode, the reached routers and then 255 up to N: refusals 14, 15, 17 to 20 and 24.
 pub fn fill(t: Topology, destination: Place, order: &[u8], out: &mut [u8]) -> Answer
     ensures { λ r. ⌜ record { answer = r; buffer = now (out .exit) } ≡ filling t (destination .0) (now (order .entry)) (now (out .entry)) ⌝ }
 {
@@ -24,7 +25,8 @@ pub fn fill(t: Topology, destination: Place, order: &[u8], out: &mut [u8]) -> An
         return Answer { number: 15, at: d };
     }
     let a = arcs::unchecked::of(t);
-    let proposed = unchecked::judge(t, a, destination, order);
+    let ds = distances::unchecked::to(&a.count, &a.to, &a.back, n, destination);
+    let proposed = order::unchecked::judge(t, a, ds, destination, Mode::Free, order);
     if proposed.number != 0 {
         return proposed;
     }
@@ -35,8 +37,8 @@ pub fn fill(t: Topology, destination: Place, order: &[u8], out: &mut [u8]) -> An
             at: needed,
         };
     }
-    let ds = distances::unchecked::to(&a.count, &a.to, &a.back, n, destination);
-    rows::unchecked::fill(t, a, ds, destination, t.limit, order, out);
+    let reached = order::unchecked::reached_count(&ds, n);
+    rows::unchecked::fill(t, a, ds, destination, t.limit, &order[..reached], out);
     Answer {
         number: 0,
         at: needed,

@@ -1,10 +1,17 @@
 // Reading a table's bytes: its header, and where it differs from another.
+use rows::HEADER;
+use rows::ROW;
 use rows::TABLE;
 use stations::NEXT_HOPS;
 ghost use mathlib.Core.Path.{_≡_};
 ghost use Prim.Native.Nat.{_≤_};
+ghost use lib.Dec.{eqb};
 ghost use lib.ListN.{length};
+ghost use Rattle.network.specs.Lists.{below, every};
 ghost use Rattle.stations.specs.Inner.{firstOr};
+ghost use Rattle.stations.specs.Limits.{mostRouters};
+ghost use Rattle.rows.specs.Bytes.{tableLength};
+ghost use Rattle.table.specs.Listed.{rankIn};
 ghost use Rattle.table.specs.Calls.{soundHeader, differing};
 
 // Whether the header is sound for n routers: kind 16, destination below n, count n, K from 1 to 16.
@@ -38,6 +45,22 @@ pub(crate) fn room_for_table() -> [u8; TABLE]
     ensures { λ r. ⌜ 1220 ≡ length r ⌝ }
 {
     [0; TABLE]
+}
+
+// Whether two tables for n routers have the same rank bytes.
+pub(crate) fn ranks_agree(n: usize, table: &[u8], other: &[u8]) -> bool
+    requires { ⌜ (n ≤ mostRouters) × (tableLength n ≤ length (now table)) × (tableLength n ≤ length (now other)) ⌝ }
+    ensures { λ r. ⌜ r ≡ every (λ u. eqb (rankIn (now (table .entry)) u) (rankIn (now (other .entry)) u)) (below n) ⌝ }
+{
+    let mut u: usize = 0;
+    while u < n {
+        let at = HEADER + ROW * u + 1;
+        if table[at] != other[at] {
+            return false;
+        }
+        u += 1;
+    }
+    true
 }
 
 // The first offset at which two tables of one length differ; the length where there is none.

@@ -14,41 +14,22 @@ ghost use Prim.Native.Nat.{_≤_, _<_};
 ghost use lib.Dec.{T};
 ghost use lib.ListN.{length, take, drop};
 ghost use Rattle.network.specs.Order as «said-order»;
-ghost use Rattle.stations.specs.Inner.{firstOr};
 ghost use Rattle.stations.specs.Limits.{mostRouters};
 ghost use Rattle.stations.specs.Topology.{networkOf};
 ghost use Rattle.soundness.specs.Sound.{sound};
 ghost use Rattle.arcs.specs.Arcs.{Laid};
-ghost use Rattle.order.specs.declared.Mode.the-variants as «mode-of»;
-ghost use Rattle.order.specs.Calls.{modeOf, judging};
+ghost use Rattle.order.specs.Calls.{modeOf};
 ghost use Rattle.rows.specs.Bytes.{tableBytes, tableLength};
-ghost use Rattle.table.specs.Listed.{orderIn};
-ghost use Rattle.table.specs.Calls.{tableJudging, wrongBytes};
-ghost use Rattle.table.specs.Inner.{Started};
+ghost use Rattle.table.specs.Listed.{byRank};
+ghost use Rattle.table.specs.Calls.{tableJudging};
+ghost use Rattle.table.specs.Inner.{Started, firstWrong};
 
-// Whether an order is accepted in free mode, which needs no distances: refusals 17 to 20.
-pub(crate) fn judge(t: Topology, a: Arcs, destination: Place, order: &[u8]) -> Answer
-    requires { ⌜ T (sound t) × Laid t a × (destination .0 < t .routers) ⌝ }
-    ensures { λ r. ⌜ r ≡ judging t (destination .0) «mode-of».Free (now (order .entry)) ⌝ }
-{
-    let ds = order::unchecked::distances_for(
-        &a.count,
-        &a.to,
-        &a.back,
-        t.routers,
-        destination,
-        Mode::Free,
-    );
-    order::unchecked::judge(t, a, ds, destination, Mode::Free, order)
-}
-
-// The order that the ranks form, in the first n entries; n at a rank that no place has. The lowest place of a rank comes last, and stands.
+// The order that the ranks form, in the first n entries; 255 at a rank that no place has. The lowest place of a rank comes last, and stands.
 pub fn order_of(n: usize, table: &[u8]) -> [u8; ROUTERS]
     requires { ⌜ (n ≤ mostRouters) × (length (now table) ≡ tableLength n) ⌝ }
-    ensures { λ r. ⌜ take n r ≡ orderIn n (now (table .entry)) ⌝ }
+    ensures { λ r. ⌜ take n r ≡ byRank n (now (table .entry)) ⌝ }
 {
-    let none = n as u8;
-    let mut order = [none; ROUTERS];
+    let mut order = [255u8; ROUTERS];
     let mut u = n;
     while 0 < u {
         u -= 1;
@@ -60,18 +41,27 @@ pub fn order_of(n: usize, table: &[u8]) -> [u8; ROUTERS]
     order
 }
 
-// The first byte that filling would not give for the table's order and its header's K; the length where there is none.
-fn first_wrong(t: Topology, a: Arcs, table: &[u8], order: [u8; ROUTERS]) -> usize
-    requires { ⌜ Started t a (now table) order ⌝ }
-    ensures { λ r. ⌜ r ≡ firstOr (length (now (table .entry))) (wrongBytes (networkOf t) (t .routers) (now (table .entry))) ⌝ }
+// The first byte that filling would not give for the table's order and its header's K; the length where there is none, and 0 where a rank differs.
+fn first_wrong(
+    t: Topology,
+    a: Arcs,
+    ds: [u32; ROUTERS],
+    table: &[u8],
+    order: [u8; ROUTERS],
+) -> usize
+    requires { ⌜ Started t a ds (now table) order ⌝ }
+    ensures { λ r. ⌜ r ≡ firstWrong (networkOf t) (t .routers) (now (table .entry)) ⌝ }
 {
     let n = t.routers;
     let length = table.len();
     let destination = Place(table[1]);
     let limit = table[3];
-    let ds = distances::unchecked::to(&a.count, &a.to, &a.back, n, destination);
+    let reached = order::unchecked::reached_count(&ds, n);
     let mut room = reading::room_for_table();
-    rows::unchecked::fill(t, a, ds, destination, limit, &order[..n], &mut room);
+    rows::unchecked::fill(t, a, ds, destination, limit, &order[..reached], &mut room);
+    if !reading::ranks_agree(n, table, &room[..length]) {
+        return 0;
+    }
     reading::first_difference(table, &room[..length])
 }
 
@@ -91,12 +81,14 @@ pub fn check(t: Topology, a: Arcs, table: &[u8]) -> Answer
     if !reading::header_is_sound(n, table) {
         return Answer { number: 21, at: 0 };
     }
+    let destination = Place(table[1]);
     let order = order_of(n, table);
-    let proposed = judge(t, a, Place(table[1]), &order[..n]);
+    let ds = distances::unchecked::to(&a.count, &a.to, &a.back, n, destination);
+    let proposed = order::unchecked::judge(t, a, ds, destination, Mode::Free, &order[..n]);
     if proposed.number != 0 {
         return Answer { number: 21, at: 0 };
     }
-    let wrong = first_wrong(t, a, table, order);
+    let wrong = first_wrong(t, a, ds, table, order);
     if wrong < length {
         return Answer {
             number: 21,
@@ -126,5 +118,6 @@ pub fn build(t: Topology, a: Arcs, destination: Place, mode: Mode, out: &mut [u8
         mode,
         &mut order,
     );
-    rows::unchecked::fill(t, a, ds, destination, t.limit, &order[..n], out);
+    let reached = order::unchecked::reached_count(&ds, n);
+    rows::unchecked::fill(t, a, ds, destination, t.limit, &order[..reached], out);
 }

@@ -20,7 +20,6 @@ use Rattle.stations.specs.declared.Half.{Half}
 use Rattle.stations.specs.declared.Link.{Link}
 use Rattle.stations.specs.Topology.{seen}
 use Rattle.stations.proofs.Arcs.{ending, arcs-more, arcs-stay, ends-at}
-use Rattle.soundness.specs.Apart.{apart}
 use Rattle.records.specs.declared.Reading.{Reading}
 use Rattle.records.specs.declared.Record.{Record}
 use Rattle.records.specs.declared.Record.the-variants as record-of

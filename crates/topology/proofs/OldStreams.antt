@@ -2,29 +2,27 @@
 -- where a refusal points, and in the K that is held where no record 8 follows.
 -- Assumes nothing.
 use Prim.Native.Nat.{ℕ, zero, suc, _+_, _≤_, _<_}
-use mathlib.Core.Bool.{Bool, true, false, cond, not, _&&_, true≢false}
+use mathlib.Core.Bool.{Bool, true, false, cond, true≢false}
 use mathlib.Core.List.{List, [], _∷_, List·Memᴰ, List·Memᴰ·head, List·Memᴰ·tail, List·Memᴰ·cases-cons, List·Memᴰ·not-nil}
 use mathlib.Core.Logic.{_≢_, ⊎-elim}
 use mathlib.Core.Path.{_≡_, refl, sym, ap, _∙_}
 use native.Mathlib.Omega.{arith}
-use borrow.Author.Tests.{eq-eqb, lt-ltb, le-ltb}
-use lib.Dec.{T, eqb, ltb, leb}
+use borrow.Author.Tests.{lt-ltb, le-ltb}
+use lib.Dec.{eqb}
 use lib.ListN.{length, drop, drop-of-length-le}
 use lib.Seq.{take-append-seam}
-use Rattle.network.specs.Lists.{any, member}
 use Rattle.stations.specs.declared.Half.{Half}
 use Rattle.stations.specs.declared.Topology.{Topology}
 use Rattle.stations.specs.Outcome.{answer, turnedAway, given}
-use Rattle.stations.specs.Topology.{Contents, noLink, padded, held, zeros, networkIn}
-use Rattle.soundness.specs.Apart.{apart}
+use Rattle.stations.specs.Topology.{Contents, noLink, padded, held, zeros}
 use Rattle.soundness.specs.Sound.{within}
 use Rattle.records.specs.declared.Reading.{Reading}
 use Rattle.records.specs.declared.Record.{Record}
 use Rattle.records.specs.declared.Record.the-variants as record-of
-use Rattle.records.specs.Stream.{bodyLength, decoded, recordIn, records}
+use Rattle.records.specs.Stream.{bodyLength, records}
 use Rattle.records.specs.Halves.{Listing, halves}
 use Rattle.records.specs.Reading.{refusal, accepted, routerFault, repeated, crowded, halvesFault, fault, withRouter, withLink, withLimit, arrived, added}
-use Rattle.records.specs.Reading.{width, isEnd, joined, ended, unless, some?, inTurn, nothingListed, reading}
+use Rattle.records.specs.Reading.{width, isEnd, ended, unless, some?, inTurn, nothingListed, reading}
 use Rattle.records.specs.Theorems.{success, refused}
 use Rattle.records.proofs.InTurn.{next-router, next-link, next-half, next-limit, next-unknown, next-end, next-cut, goes-on}
 use Rattle.records.proofs.Stream.{records-drop, no-bytes}
@@ -73,57 +71,6 @@ records-cut = record {
   unknown = next-unknown;
 }
 
--- the same of both ways of a test
-either-way : {A : Type 0} (P : A → Type 0) (b : Bool) {x y : A} → P x → P y → P (cond b x y)
-either-way P true p q = p
-either-way P false p q = q
-
--- 13 is no record's fault
-abbrev Other : ℕ → Type 0
-Other number = number ≢ 13
-
-abbrev Never : Record → Type 0
-Never r = (p : Listing) → Other (fault p r)
-
-other : (number : ℕ) → T (not (eqb number 13)) → Other number
-other number t e = rw (eq-eqb number 13 e) at t
-
-never-router : (id : ℕ) → Never (record-of.Router id)
-unfolding fault routerFault
-never-router id p =
-    let ids = p .contents .ids in
-    either-way Other (member id ids) (other 3 tt) (either-way Other (leb 64 (length ids)) (other 4 tt) (other 0 tt))
-
-never-halves : (h : Half) (new : List Half) (p : Listing) → Other (halvesFault p h new)
-unfolding halvesFault
-never-halves h new p =
-    let n = length (p .contents .ids) in
-    either-way Other (not (ltb (h .from .0) n && ltb (h .to .0) n)) (other 5 tt)
-    (either-way Other (eqb (h .from .0) (h .to .0)) (other 6 tt)
-    (either-way Other (eqb (h .cost) 0) (other 7 tt)
-    (either-way Other (any (repeated p) new) (other 8 tt)
-    (either-way Other (ltb 512 (length (halves p) + length new)) (other 9 tt)
-    (either-way Other (any (λ k. crowded p (k .from .0)) new) (other 10 tt) (other 0 tt))))))
-
-never-limit : (k : ℕ) → Never (record-of.Limit k)
-unfolding fault
-never-limit k p = either-way Other (within 16 k) (other 0 tt) (other 16 tt)
-
-never-in : (s : List ℕ) → Never (recordIn s)
-unfolding recordIn decoded fault
-never-in [] = λ c. other 1 tt
-never-in (kind ∷ rest) =
-    either-way Never (ltb (length rest) (bodyLength kind)) (λ c. other 1 tt)
-    (either-way Never (eqb kind 1) (never-router _) (either-way Never (eqb kind 2) (never-halves _ _) (either-way Never (eqb kind 4) (never-halves _ _)
-    (either-way Never (eqb kind 8) (never-limit _) (either-way Never (eqb kind 3) (λ c. other 0 tt) (λ c. other 2 tt))))))
-
-never-among : (n : ℕ) (s : List ℕ) (r : Record) → List·Memᴰ r (records n s) → Never r
-unfolding records
-never-among n [] r m = absurd (List·Memᴰ·not-nil m)
-never-among zero (kind ∷ rest) r m =
-    ⊎-elim (λ e. rw e (never-in (kind ∷ rest))) (λ k. never-among (bodyLength kind) rest r k) (List·Memᴰ·cases-cons m)
-never-among (suc n) (b ∷ rest) r m = never-among n rest r m
-
 -- what is listed, with K 16
 sixteenIn : Listing → Listing
 sixteenIn p = record { contents = withLimit (p .contents) 16; lone = p .lone }
@@ -145,8 +92,7 @@ taken b (record-of.Refused number ∷ rs) = taken b rs
 
 -- what the two readings return
 data Moved : Bool → Reading → Reading → Type 0 where
-  on : {b : Bool} (number at : ℕ) → number ≢ 0 → number ≢ 13 → Moved b (refusal number at) (refusal number (at + 2))
-  apart-alike : {b : Bool} (place : ℕ) → Moved b (refusal 13 place) (refusal 13 place)
+  on : {b : Bool} (number at : ℕ) → number ≢ 0 → Moved b (refusal number at) (refusal number (at + 2))
   kept : (c : Contents) → Moved true (accepted c) (accepted c)
   limited : (c : Contents) → Moved false (accepted c) (accepted (withLimit c 16))
 
@@ -165,39 +111,35 @@ end-followed : {b : Bool} (c d : Contents) (at : ℕ) → Moved b (ended true at
 unfolding ended
 end-followed c d at =
     let turned : at + 2 + 1 ≡ at + 1 + 2 = omega arith in
-    rw turned (on 11 (at + 1) (λ e. omega arith) (λ e. omega arith))
+    rw turned (on 11 (at + 1) (λ e. omega arith))
 
 end-alike : {b : Bool} {p q : Listing} → Alike b p q → (at : ℕ) → Moved b (ended false at (p .contents)) (ended false (at + 2) (q .contents))
-unfolding sixteenIn withLimit ended joined apart networkIn
-end-alike (same p) at = cases (eqb (length (p .contents .ids)) 0) (apart (p .contents))
+unfolding sixteenIn ended
+end-alike (same p) at = cases (eqb (length (p .contents .ids)) 0)
   where
-    cases : (none : Bool) (places : List ℕ) →
-        Moved true (cond none (refusal 12 at) (joined (p .contents) places)) (cond none (refusal 12 (at + 2)) (joined (p .contents) places))
-    cases true places = on 12 at (λ e. omega arith) (λ e. omega arith)
-    cases false [] = kept (p .contents)
-    cases false (u ∷ us) = apart-alike u
-end-alike (but-limit p) at = cases (eqb (length (p .contents .ids)) 0) (apart (p .contents))
+    cases : (none : Bool) → Moved true (cond none (refusal 12 at) (accepted (p .contents))) (cond none (refusal 12 (at + 2)) (accepted (p .contents)))
+    cases true = on 12 at (λ e. omega arith)
+    cases false = kept (p .contents)
+end-alike (but-limit p) at = unfold withLimit in cases (eqb (length (p .contents .ids)) 0)
   where
-    cases : (none : Bool) (places : List ℕ) →
-        Moved false (cond none (refusal 12 at) (joined (p .contents) places))
-        (cond none (refusal 12 (at + 2)) (joined (withLimit (p .contents) 16) places))
-    cases true places = on 12 at (λ e. omega arith) (λ e. omega arith)
-    cases false [] = limited (p .contents)
-    cases false (u ∷ us) = apart-alike u
+    cases : (none : Bool) →
+        Moved false (cond none (refusal 12 at) (accepted (p .contents))) (cond none (refusal 12 (at + 2)) (accepted (withLimit (p .contents) 16)))
+    cases true = on 12 at (λ e. omega arith)
+    cases false = limited (p .contents)
 
-unless-moved : {b : Bool} {x y : Reading} (number at : ℕ) → number ≢ 13 → Moved b x y → Moved b (unless number at x) (unless number (at + 2) y)
+unless-moved : {b : Bool} {x y : Reading} (number at : ℕ) → Moved b x y → Moved b (unless number at x) (unless number (at + 2) y)
 unfolding unless
-unless-moved zero at h m = m
-unless-moved (suc number) at h m = on (suc number) at (λ e. omega arith) h
+unless-moved zero at m = m
+unless-moved (suc number) at m = on (suc number) at (λ e. omega arith)
 
 -- a record that is not the end, if the records after it are taken alike
-module _ {b : Bool} {p q : Listing} (a : Alike b p q) (r : Record) (n : Never r) (rs : List Record) (at : ℕ) where
+module _ {b : Bool} {p q : Listing} (a : Alike b p q) (r : Record) (rs : List Record) (at : ℕ) where
   more : {f : Bool} → isEnd r ≡ false → Moved f (inTurn (at + width r) (added p r) rs) (inTurn (at + width r + 2) (added q r) rs) →
       Moved f (inTurn at p (r ∷ rs)) (inTurn (at + 2) q (r ∷ rs))
   unfolding inTurn
   more e m =
       let swap : at + 2 + width r ≡ at + width r + 2 = omega arith in
-      rw (fault-alike a r, e, swap) (unless-moved (fault p r) at (n p) m)
+      rw (fault-alike a r, e, swap) (unless-moved (fault p r) at m)
 
 -- records after what is listed alike
 arrived-alike : (p : Listing) (h : Half) (ks : List Half) → Alike false (arrived p h ks) (arrived (sixteenIn p) h ks)
@@ -220,22 +162,16 @@ grown (but-limit p) (record-of.Limit k) = same _
 grown (but-limit p) record-of.End = but-limit _
 grown (but-limit p) (record-of.Refused number) = but-limit _
 
-turns : {b : Bool} {p q : Listing} → Alike b p q → (rs : List Record) → ((r : Record) → List·Memᴰ r rs → Never r) → (at : ℕ) →
-    Moved (taken b rs) (inTurn at p rs) (inTurn (at + 2) q rs)
+turns : {b : Bool} {p q : Listing} → Alike b p q → (rs : List Record) (at : ℕ) → Moved (taken b rs) (inTurn at p rs) (inTurn (at + 2) q rs)
 unfolding taken inTurn unless fault isEnd some?
-turns a [] never at = on 1 at (λ e. omega arith) (λ e. omega arith)
-turns a (record-of.Router id ∷ rs) never at =
-    more a _ (never _ (List·Memᴰ·head refl)) rs at refl (turns (grown a (record-of.Router id)) rs (λ r m. never r (List·Memᴰ·tail m)) _)
-turns a (record-of.Link h ∷ rs) never at =
-    more a _ (never _ (List·Memᴰ·head refl)) rs at refl (turns (grown a (record-of.Link h)) rs (λ r m. never r (List·Memᴰ·tail m)) _)
-turns a (record-of.Half h ∷ rs) never at =
-    more a _ (never _ (List·Memᴰ·head refl)) rs at refl (turns (grown a (record-of.Half h)) rs (λ r m. never r (List·Memᴰ·tail m)) _)
-turns a (record-of.Limit k ∷ rs) never at =
-    more a _ (never _ (List·Memᴰ·head refl)) rs at refl (turns (grown a (record-of.Limit k)) rs (λ r m. never r (List·Memᴰ·tail m)) _)
-turns a (record-of.Refused number ∷ rs) never at =
-    more a _ (never _ (List·Memᴰ·head refl)) rs at refl (turns (grown a (record-of.Refused number)) rs (λ r m. never r (List·Memᴰ·tail m)) _)
-turns a (record-of.End ∷ []) never at = end-alike a at
-turns a (record-of.End ∷ (r ∷ rs)) never at = end-followed _ _ at
+turns a [] at = on 1 at (λ e. omega arith)
+turns a (record-of.Router id ∷ rs) at = more a _ rs at refl (turns (grown a (record-of.Router id)) rs _)
+turns a (record-of.Link h ∷ rs) at = more a _ rs at refl (turns (grown a (record-of.Link h)) rs _)
+turns a (record-of.Half h ∷ rs) at = more a _ rs at refl (turns (grown a (record-of.Half h)) rs _)
+turns a (record-of.Limit k ∷ rs) at = more a _ rs at refl (turns (grown a (record-of.Limit k)) rs _)
+turns a (record-of.Refused number ∷ rs) at = more a _ rs at refl (turns (grown a (record-of.Refused number)) rs _)
+turns a (record-of.End ∷ []) at = end-alike a at
+turns a (record-of.End ∷ (r ∷ rs)) at = end-followed _ _ at
 
 -- an element behind another one
 behind : {x y : Record} {rs : List Record} → x ≢ y → List·Memᴰ x (y ∷ rs) → List·Memᴰ x rs
@@ -280,49 +216,37 @@ module _ (stream : List ℕ) where
 
   moved : Moved (taken false (records 0 stream)) (reading stream) (reading (8 ∷ 16 ∷ stream))
   unfolding reading
-  moved = rw front (turns (but-limit nothingListed) (records 0 stream) (never-among 0 stream) 0)
+  moved = rw front (turns (but-limit nothingListed) (records 0 stream) 0)
 
   moved-before : Moved (taken true (records 0 stream)) (readBefore stream) (reading (8 ∷ 16 ∷ stream))
   unfolding readBefore sixteenIn withLimit nothingListed
-  moved-before = rw front (turns (same _) (records 0 stream) (never-among 0 stream) 0)
+  moved-before = rw front (turns (same _) (records 0 stream) 0)
 
 -- what they return
 of-unlimited : {b : Bool} {x y : Reading} → Moved b x y → b ≡ false → (t : Topology) → x ≡ success t → y ≡ success (sixteen t)
 unfolding refusal accepted withLimit held
-of-unlimited (on number at some other) e t r = absurd (some (ap (λ (r : Reading). r .answer .number) r))
-of-unlimited (apart-alike place) e t r = absurd (omega (arith, ap (λ (r : Reading). r .answer .number) r))
+of-unlimited (on number at some) e t r = absurd (some (ap (λ (r : Reading). r .answer .number) r))
 of-unlimited (kept c) e t r = absurd (true≢false e)
 of-unlimited (limited c) e t r = ap (λ (r : Reading). success (sixteen (r .topology))) r
 
 of-limited : {b : Bool} {x y : Reading} → Moved b x y → b ≡ true → (t : Topology) → x ≡ success t → y ≡ success t
 unfolding refusal accepted
-of-limited (on number at some other) e t r = absurd (some (ap (λ (r : Reading). r .answer .number) r))
-of-limited (apart-alike place) e t r = absurd (omega (arith, ap (λ (r : Reading). r .answer .number) r))
+of-limited (on number at some) e t r = absurd (some (ap (λ (r : Reading). r .answer .number) r))
 of-limited (kept c) e t r = r
 of-limited (limited c) e t r = absurd (true≢false (sym e))
 
 of-same : {b : Bool} {x y : Reading} → Moved b x y → b ≡ true → (y .topology ≡ x .topology) × (y .answer .number ≡ x .answer .number)
 unfolding refusal accepted
-of-same (on number at some other) e = (refl, refl)
-of-same (apart-alike place) e = (refl, refl)
+of-same (on number at some) e = (refl, refl)
 of-same (kept c) e = (refl, refl)
 of-same (limited c) e = absurd (true≢false (sym e))
 
-of-apart : {b : Bool} {x y : Reading} → Moved b x y → (place : ℕ) → x ≡ refused 13 place → y ≡ refused 13 place
-unfolding refusal accepted
-of-apart (on number at some other) place r = absurd (other (ap (λ (r : Reading). r .answer .number) r))
-of-apart (apart-alike p) place r = r
-of-apart (kept c) place r = absurd (omega (arith, ap (λ (r : Reading). r .answer .number) r))
-of-apart (limited c) place r = absurd (omega (arith, ap (λ (r : Reading). r .answer .number) r))
-
-of-others : {b : Bool} {x y : Reading} → Moved b x y → (number at : ℕ) → number ≢ 0 → number ≢ 13 → x ≡ refused number at →
-    y ≡ refused number (at + 2)
+of-refusals : {b : Bool} {x y : Reading} → Moved b x y → (number at : ℕ) → number ≢ 0 → x ≡ refused number at → y ≡ refused number (at + 2)
 unfolding refusal accepted zeros noLink held padded
-of-others (on n p s o) number at some other r =
+of-refusals (on n p s) number at some r =
     rw (ap (λ (r : Reading). r .answer .number) r, ap (λ (r : Reading). r .answer .at) r)
-of-others (apart-alike p) number at some other r = absurd (other (sym (ap (λ (r : Reading). r .answer .number) r)))
-of-others (kept c) number at some other r = absurd (some (sym (ap (λ (r : Reading). r .answer .number) r)))
-of-others (limited c) number at some other r = absurd (some (sym (ap (λ (r : Reading). r .answer .number) r)))
+of-refusals (kept c) number at some r = absurd (some (sym (ap (λ (r : Reading). r .answer .number) r)))
+of-refusals (limited c) number at some r = absurd (some (sym (ap (λ (r : Reading). r .answer .number) r)))
 
 pub old-streams-read : OldStreamsRead
 old-streams-read = (
@@ -331,15 +255,13 @@ old-streams-read = (
     record {
       unlimited = λ none. of-unlimited (moved stream) (taken-none (records 0 stream) (λ k m. none (k, m)));
       limited = λ (k, m). of-limited (moved stream) (taken-some (records 0 stream) k m);
-      apart = of-apart (moved stream);
-      others = of-others (moved stream);
+      refusals = of-refusals (moved stream);
     },
     record {
       topology = of-same (moved-before stream) (taken-already (records 0 stream)) .0;
       number = of-same (moved-before stream) (taken-already (records 0 stream)) .1;
       returned = of-limited (moved-before stream) (taken-already (records 0 stream));
-      apart = of-apart (moved-before stream);
-      others = of-others (moved-before stream);
+      refusals = of-refusals (moved-before stream);
     },
   ),
 )

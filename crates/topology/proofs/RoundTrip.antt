@@ -18,10 +18,9 @@ use Rattle.stations.specs.declared.Link.{Link}
 use Rattle.stations.specs.declared.Topology.{Topology}
 use Rattle.stations.specs.Topology.{noLink, padded, contents, held, seen, networkOf}
 use Rattle.stations.proofs.Arcs.{arcs-listed}
-use Rattle.soundness.specs.Apart.{apart}
-use Rattle.soundness.specs.Sound.{connected, sound}
+use Rattle.soundness.specs.Sound.{sound}
 use Rattle.soundness.specs.Theorems.{Sound}
-use Rattle.soundness.proofs.Sound.{tested, none-fact, within-fact, routers-listed, links-listed, sound-exact}
+use Rattle.soundness.proofs.Sound.{within-fact, routers-listed, links-listed, sound-exact}
 use Rattle.records.specs.declared.Reading.{Reading}
 use Rattle.records.specs.Stream.{inBytes}
 use Rattle.records.specs.Halves.{firstHalf, secondHalf}
@@ -123,14 +122,13 @@ module _ (t : Topology) (s : T (sound t)) where
       }
 
   contents-good : GoodContents (contents t)
-  unfolding contents connected
+  unfolding contents
   contents-good =
       record {
         some = omega (arith, routers-are, f .routers-least);
         few = omega (arith, routers-are, f .routers-most);
         limit = within-fact 16 (t .limit) .1 (f .limit-least, f .limit-most);
         links = links-good;
-        together = none-fact (apart (contents t)) .0 (tested t s .connected);
       }
 
   id-fits : (i : ℕ) → List·Memᴰ i (contents t .ids) → i < 2 ^ 32

@@ -1,28 +1,21 @@
 -- The prover computes every fact from the definitions.
 -- Assumes nothing.
-use Rattle.network.specs.Lists.{numbersFrom, below, keep, every, any, leastBy, member, sameNumbers}
-use Rattle.network.specs.Network.{size, arcsOf, greatestCost, arcsAmong, linked}
-use Rattle.network.specs.Distance.{absent, distanceIn, through, atFirst, round, rounds, distances}
-use Rattle.network.specs.Order.{reached}
-use Rattle.stations.specs.Topology.{noLink, padded, contents, held, zeros, seen, networkIn}
-use Rattle.soundness.specs.Apart.{apart}
+use Rattle.network.specs.Lists.{keep, every, any, member, sameNumbers}
+use Rattle.stations.specs.Topology.{noLink, padded, contents, held, zeros}
 use Rattle.soundness.specs.Sound.{within}
 use Rattle.records.specs.Stream.{bigEndianOn, bigEndian, inBytes, bodyLength, halfIn, decoded, recordIn, records}
 use Rattle.records.specs.Halves.{firstHalf, secondHalf, linkHalves, halves, sameHalf, leaves, opposite, linkOf}
 use Rattle.records.specs.Reading.{refusal, accepted, routerFault, repeated, crowded, halvesFault, fault, withRouter, withLink, withLimit, arrived, added}
-use Rattle.records.specs.Reading.{width, isEnd, joined, ended, unless, some?, inTurn, nothingListed, reading}
+use Rattle.records.specs.Reading.{width, isEnd, ended, unless, some?, inTurn, nothingListed, reading}
 use Rattle.records.specs.Table.{one, two, three, T-stream}
 use Rattle.topology.specs.Written.{joinedOver, routerBytes, halfBody, halfBytes, linkBytes, limitBytes, written}
 use Rattle.topology.specs.Table.{holds, writes, facts, FactsHold}
 
 pub facts-hold : FactsHold
-unfolding numbersFrom below keep every any leastBy member
-    size arcsOf greatestCost arcsAmong linked
-    absent distanceIn through atFirst round rounds distances reached
-    noLink padded contents held zeros seen networkIn apart within
+unfolding keep every any member noLink padded contents held zeros within
     bigEndianOn bigEndian inBytes bodyLength halfIn decoded recordIn records
     linkHalves firstHalf secondHalf halves sameHalf leaves opposite linkOf
     refusal accepted routerFault repeated crowded halvesFault fault withRouter withLink withLimit arrived added
-    width isEnd joined ended unless some? inTurn nothingListed reading
+    width isEnd ended unless some? inTurn nothingListed reading
     sameNumbers one two three T-stream joinedOver routerBytes halfBody halfBytes linkBytes limitBytes written holds writes facts
 facts-hold = tt

@@ -14,12 +14,11 @@ use Rattle.network.proofs.Tests.{as-false, passes}
 use Rattle.network.proofs.Lists.{member-mem, pairwise-split}
 use Rattle.stations.specs.declared.Link.{Link}
 use Rattle.stations.specs.Topology.{Contents}
-use Rattle.soundness.specs.Apart.{apart}
 use Rattle.soundness.specs.Sound.{within}
 use Rattle.records.specs.declared.Record.{Record}
 use Rattle.records.specs.declared.Record.the-variants as record-of
 use Rattle.records.specs.Halves.{Listing}
-use Rattle.records.specs.Reading.{accepted, fault, withRouter, withLimit, added, width, isEnd, joined, ended, unless, some?, inTurn, nothingListed}
+use Rattle.records.specs.Reading.{accepted, fault, withRouter, withLimit, added, width, isEnd, ended, unless, some?, inTurn, nothingListed}
 use Rattle.records.proofs.NoFault.{NewRouter, router-passes}
 use Rattle.records.proofs.InTurn.{goes-on}
 use Rattle.topology.specs.Written.{joinedOver}
@@ -67,17 +66,15 @@ limit-taken : (k : ℕ) (rest : List Record) → T (within 16 k) →
 unfolding nothingListed fault added withLimit isEnd
 limit-taken k rest t = record { at = _; on = goes-on 0 nothingListed (record-of.Limit k) rest (passes (within 16 k) t 0 16) refl }
 
-end-taken : (at : ℕ) (c : Contents) → 0 < length (c .ids) → apart c ≡ [] →
-    inTurn at (record { contents = c; lone = [] }) (record-of.End ∷ []) ≡ accepted c
-unfolding inTurn unless fault isEnd some? ended joined
-end-taken at c some together = rw (ne-eqb (length (c .ids)) 0 (λ z. omega arith), together)
+end-taken : (at : ℕ) (c : Contents) → 0 < length (c .ids) → inTurn at (record { contents = c; lone = [] }) (record-of.End ∷ []) ≡ accepted c
+unfolding inTurn unless fault isEnd some? ended
+end-taken at c some = rw (ne-eqb (length (c .ids)) 0 (λ z. omega arith))
 
 pub record GoodContents (c : Contents) : Type 0 where
   pub some : 0 < length (c .ids)
   pub few : length (c .ids) ≤ 64
   pub limit : T (within 16 (c .limit))
   pub links : GoodLinks (c .ids) (c .links)
-  pub together : apart c ≡ []
 
 pub all-taken : (c : Contents) → GoodContents c → inTurn 0 nothingListed (recordsOf c) ≡ accepted c
 unfolding recordsOf
@@ -88,4 +85,4 @@ all-taken c g =
     let after-limit = limit-taken k (joinedOver routerRecords (c .ids) ++ links) (g .limit) in
     let after-routers = routers-taken k links (c .ids) [] (after-limit .at) (g .links .facts .ids-differ) (g .few) in
     let after-links = links-taken k (c .ids) end (c .links) (g .links) (c .links) [] (after-routers .at) refl in
-    after-limit .on ∙ after-routers .on ∙ after-links .on ∙ end-taken (after-links .at) c (g .some) (g .together)
+    after-limit .on ∙ after-routers .on ∙ after-links .on ∙ end-taken (after-links .at) c (g .some)

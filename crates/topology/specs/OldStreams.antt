@@ -54,26 +54,23 @@ abbrev pub sixteen : Topology → Topology
 sixteen t = record { routers = t .routers; links = t .links; limit = 16; id = t .id; link = t .link }
 
 -- What is read of `08 10` and the stream behind it. A stream without record 8 has K 16; of one that has a record 8 its own last K stands; what is
--- refused is refused with its number, at moved by 2 where it points into the stream. 13 points at a place.
+-- refused is refused with its number, at moved by 2.
 pub record OldRead (stream : List ℕ) : Type 0 where
   pub unlimited : (HasLimit stream → ⊥) → (t : Topology) → reading stream ≡ success t → reading (8 ∷ 16 ∷ stream) ≡ success (sixteen t)
   pub limited : HasLimit stream → (t : Topology) → reading stream ≡ success t → reading (8 ∷ 16 ∷ stream) ≡ success t
-  pub apart : (place : ℕ) → reading stream ≡ refused 13 place → reading (8 ∷ 16 ∷ stream) ≡ refused 13 place
-  pub others : (number at : ℕ) → number ≢ 0 → number ≢ 13 → reading stream ≡ refused number at →
-      reading (8 ∷ 16 ∷ stream) ≡ refused number (at + 2)
+  pub refusals : (number at : ℕ) → number ≢ 0 → reading stream ≡ refused number at → reading (8 ∷ 16 ∷ stream) ≡ refused number (at + 2)
 
 -- reading, but with K 16 before the first record, as K was before 02, #101
 unfoldable pub readBefore : List ℕ → Reading
 readBefore stream = inTurn 0 (record { contents = record { ids = []; links = []; limit = 16 }; lone = [] }) (records 0 stream)
 
 -- What is read of `08 10` and the stream behind it is what is so read of the stream, refusals at moved as above. Only K is as it was: before
--- 02, #105, a record 4 was refused with 2, and here it is read as now.
+-- 02, #105, a record 4 was refused with 2, and before #107 parts apart were refused, and here both are read as now.
 pub record AsBefore (stream : List ℕ) : Type 0 where
   pub topology : reading (8 ∷ 16 ∷ stream) .topology ≡ readBefore stream .topology
   pub number : reading (8 ∷ 16 ∷ stream) .answer .number ≡ readBefore stream .answer .number
   pub returned : (t : Topology) → readBefore stream ≡ success t → reading (8 ∷ 16 ∷ stream) ≡ success t
-  pub apart : (place : ℕ) → readBefore stream ≡ refused 13 place → reading (8 ∷ 16 ∷ stream) ≡ refused 13 place
-  pub others : (number at : ℕ) → number ≢ 0 → number ≢ 13 → readBefore stream ≡ refused number at → reading (8 ∷ 16 ∷ stream) ≡ refused number (at + 2)
+  pub refusals : (number at : ℕ) → number ≢ 0 → readBefore stream ≡ refused number at → reading (8 ∷ 16 ∷ stream) ≡ refused number (at + 2)
 
 abbrev pub OldStreamsRead : Type 0
 OldStreamsRead = Cut × ((stream : List ℕ) → OldRead stream × AsBefore stream)

@@ -21,7 +21,8 @@ unfoldable pub writes : List ℕ → List ℕ → Fact
 writes stream bytes = record { stream = stream; bytes = bytes }
 
 -- T, with the K of a stream that gives none; T with K 7; K behind the routers; K 16; an ID and a cost of different bytes; places as read, the second before the
--- first; costs that differ, the first half's sender first; halves whose costs agree; a link numbered at its second half, and a lone half
+-- first; costs that differ, the first half's sender first; halves whose costs agree; a link numbered at its second half, and a lone half;
+-- a router apart from two others
 unfoldable pub facts : List Fact
 facts =
     writes T-stream
@@ -36,6 +37,7 @@ facts =
     ∷ writes (two ++ (4 ∷ 1 ∷ 0 ∷ 0 ∷ 7 ∷ 4 ∷ 0 ∷ 1 ∷ 0 ∷ 7 ∷ 3 ∷ [])) (8 ∷ 3 ∷ two ++ (2 ∷ 1 ∷ 0 ∷ 0 ∷ 7 ∷ 3 ∷ []))
     ∷ writes (three ++ (4 ∷ 0 ∷ 1 ∷ 0 ∷ 5 ∷ 2 ∷ 1 ∷ 2 ∷ 0 ∷ 7 ∷ 4 ∷ 1 ∷ 0 ∷ 0 ∷ 6 ∷ 4 ∷ 2 ∷ 0 ∷ 0 ∷ 9 ∷ 3 ∷ []))
     (8 ∷ 3 ∷ three ++ (2 ∷ 1 ∷ 2 ∷ 0 ∷ 7 ∷ 4 ∷ 0 ∷ 1 ∷ 0 ∷ 5 ∷ 4 ∷ 1 ∷ 0 ∷ 0 ∷ 6 ∷ 3 ∷ []))
+    ∷ writes (three ++ (2 ∷ 0 ∷ 1 ∷ 0 ∷ 5 ∷ 3 ∷ [])) (8 ∷ 3 ∷ three ++ (2 ∷ 0 ∷ 1 ∷ 0 ∷ 5 ∷ 3 ∷ []))
     ∷ []
 
 -- The one statement: every fact of the list holds, by computing it.

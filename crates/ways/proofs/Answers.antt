@@ -16,10 +16,13 @@ use Rattle.stations.specs.declared.Answer.{Answer}
 use Rattle.stations.specs.declared.Topology.{Topology}
 use Rattle.stations.specs.Outcome.{answer, Outcome, turnedAway, given}
 use Rattle.soundness.specs.Sound.{sound}
+use Rattle.topology.specs.Written.{joinedOver}
 use Rattle.table.specs.Calls.{unlessRefused, tableChecking}
 use Rattle.packet.proofs.Tested.{Kind, kind}
 use Rattle.ways.specs.Calls.{pathsOf, pathsBytes, writingPaths}
 use Rattle.ways.specs.Theorems.{Passed, Says, says-14, says-15, says-21, says-25, says-24, says-0, PathsAnswer, RefusalsKeep, Written, PathsWritten}
+use Rattle.ways.specs.Theorems.{CutOffNoPath}
+use Rattle.ways.proofs.Right.{no-paths}
 use Rattle.ways.proofs.Bytes.{bytes-long, path-short, byte-place, byte-padding}
 
 module _ (t : Topology) (table : List ℕ) (u : ℕ) (buffer : List ℕ) where
@@ -136,3 +139,14 @@ pub paths-written : PathsWritten
 paths-written t table u buffer e =
     let (number, at, s) = one t table u buffer in
     stands t table u buffer s (sym (ap (λ (o : Outcome). o .answer .number) (outcome t table u buffer s)) ∙ e)
+
+-- no paths are no bytes, for which every buffer has room
+pub cut-off-no-path : CutOffNoPath
+unfolding pathsBytes joinedOver given
+cut-off-no-path t good table right u place out =
+    let none = no-paths t good table right u out in
+    record {
+      none = none;
+      writes-nothing = λ buffer.
+          on-passed t table u buffer (record { is-sound = good; place = place; accepted = right }) ∙ rw (none, le-ltb (length buffer) 0 (omega arith));
+    }

@@ -10,18 +10,18 @@ use Rattle.network.specs.Paths.{pathsAt, throughEach, pathsFrom}
 use Rattle.stations.specs.Inner.{firstOr}
 use Rattle.stations.specs.Outcome.{turnedAway, given}
 use Rattle.stations.specs.Topology.{noLink, padded, contents, held, zeros, seen, networkIn, networkOf}
-use Rattle.soundness.specs.Apart.{apart}
-use Rattle.soundness.specs.Sound.{within, inLimits, wellLinked, uncrowded, none?, connected, isNoLink, unusedZero, slotted, sound}
+use Rattle.soundness.specs.Sound.{within, inLimits, wellLinked, uncrowded, isNoLink, unusedZero, slotted, sound}
 use Rattle.topology.specs.Written.{joinedOver}
 use Rattle.order.specs.Calls.{atFirst}
-use Rattle.order.specs.Table.{answers, link, T-topology}
-use Rattle.rows.specs.Bytes.{rowBytes, headerBytes, rowOf, rowsBytes, tableBytes, rowStart}
-use Rattle.table.specs.Listed.{kindIn, destinationIn, countIn, limitIn, rankIn, placesIn, arcsTo, entriesIn, listed, orderIn}
+use Rattle.order.specs.Table.{answers, link, T-topology, cutOff}
+use Rattle.rows.specs.Bytes.{rankOrNone, rowBytes, headerBytes, rowOf, rowsBytes, tableBytes, rowStart}
+use Rattle.table.specs.Listed.{kindIn, destinationIn, countIn, limitIn, rankIn, placesIn, arcsTo, entriesIn, listed, byRank, orderIn}
 use Rattle.table.specs.Calls.{unlessRefused, soundHeader, soundRanks, differing, wrongBytes, tableJudging, tableChecking}
 use Rattle.table.specs.Facts as tables
-use Rattle.table.specs.Facts.{lone, lone-table, T-table-0, T-table-free, F-links, F-topology, F-table, F-table-1, room}
+use Rattle.table.specs.Facts.{lone, lone-table, T-table-0, T-table-free, F-links, F-topology, F-table, F-table-1, room, cut-table-0, cut-table-3}
 use Rattle.ways.specs.Calls.{pathsOf, pathBytes, pathsBytes, writingPaths}
-use Rattle.ways.specs.Facts.{writes, holds, one, two, three, four, five, F-5, written, twelve, twelve-table, WrittenHold, MostHold}
+use Rattle.ways.specs.Facts.{writes, holds, one, two, three, four, five, F-5, written}
+use Rattle.ways.specs.Facts.{twelve, twelve-table, WrittenHold, MostHold}
 
 pub written-hold : WrittenHold
 unfolding numbersFrom below keep every any leastBy insert sort member distinct sameNumbers wins
@@ -29,12 +29,12 @@ unfolding numbersFrom below keep every any leastBy insert sort member distinct s
     absent distanceIn through of-distance.atFirst round rounds distances
     reached leadsInto ready candidate candidatesInTurn holdsEachOnce firstIs othersInTurn accepted rank sortsBefore rankedBefore fullRow row
     pathsAt throughEach pathsFrom
-    firstOr turnedAway given noLink padded contents held zeros seen networkIn networkOf apart
-    within inLimits wellLinked uncrowded none? connected isNoLink unusedZero slotted sound
-    joinedOver atFirst answers link T-topology rowBytes headerBytes rowOf rowsBytes tableBytes rowStart
-    kindIn destinationIn countIn limitIn rankIn placesIn arcsTo entriesIn listed orderIn
+    firstOr turnedAway given noLink padded contents held zeros seen networkIn networkOf
+    within inLimits wellLinked uncrowded isNoLink unusedZero slotted sound
+    joinedOver atFirst answers link T-topology cutOff rankOrNone rowBytes headerBytes rowOf rowsBytes tableBytes rowStart
+    kindIn destinationIn countIn limitIn rankIn placesIn arcsTo entriesIn listed byRank orderIn
     unlessRefused soundHeader soundRanks differing wrongBytes tableJudging tableChecking
-    lone lone-table tables.none tables.one tables.two T-table-0 T-table-free F-links F-topology F-table F-table-1 room
+    lone lone-table tables.none tables.one tables.two T-table-0 T-table-free cut-table-0 cut-table-3 F-links F-topology F-table F-table-1 room
     pathsOf pathBytes pathsBytes writingPaths writes holds one two three four five F-5 written
 written-hold = tt
 
@@ -44,10 +44,10 @@ unfolding numbersFrom below keep every any leastBy insert sort member distinct s
     absent distanceIn through of-distance.atFirst round rounds distances
     reached leadsInto ready candidate candidatesInTurn holdsEachOnce firstIs othersInTurn accepted rank sortsBefore rankedBefore fullRow row
     pathsAt throughEach pathsFrom
-    firstOr turnedAway given noLink padded contents held seen networkIn networkOf apart
-    within inLimits wellLinked uncrowded none? connected isNoLink unusedZero slotted sound
-    joinedOver atFirst answers link rowBytes headerBytes rowOf rowsBytes tableBytes rowStart
-    kindIn destinationIn countIn limitIn rankIn placesIn arcsTo entriesIn listed orderIn
+    firstOr turnedAway given noLink padded contents held seen networkIn networkOf
+    within inLimits wellLinked uncrowded isNoLink unusedZero slotted sound
+    joinedOver atFirst answers link rankOrNone rowBytes headerBytes rowOf rowsBytes tableBytes rowStart
+    kindIn destinationIn countIn limitIn rankIn placesIn arcsTo entriesIn listed byRank orderIn
     unlessRefused soundHeader soundRanks differing wrongBytes tableJudging tableChecking
     pathsOf pathBytes pathsBytes writingPaths writes holds twelve twelve-table
 most-hold = (tt, tt)

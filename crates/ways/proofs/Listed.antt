@@ -15,12 +15,15 @@ use Rattle.network.specs.Forwarding.{Forwarding}
 use Rattle.network.specs.Routing.{validStates, routers}
 use Rattle.network.specs.Theorems.Forwarding.{Lawful}
 use Rattle.network.specs.Theorems.Paths.{PathRule}
+use Rattle.network.proofs.Pigeon.{member?}
+use Rattle.network.proofs.Rank.{rank-most, rank-is-turn}
 use Rattle.network.proofs.Routing.{entry-arc, routers-lawful}
 use Rattle.network.proofs.Paths.{paths-by-rule}
 use Rattle.stations.specs.declared.Topology.{Topology}
 use Rattle.stations.specs.Topology.{networkOf}
 use Rattle.stations.specs.Outcome.{answer}
 use Rattle.soundness.specs.Sound.{sound}
+use Rattle.soundness.proofs.Sound.{sound-exact}
 use Rattle.topology.specs.Written.{joinedOver}
 use Rattle.rows.specs.Bytes.{rowStart}
 use Rattle.table.specs.Listed.{destinationIn, placesIn, entriesIn, listed, forwardingBy}
@@ -70,10 +73,23 @@ module _ (t : Topology) (good : T (sound t)) (table : List ℕ) (right : tableCh
         carried (λ d es. PathRule (forwarding d es) (t .routers) u)
         (paths-by-rule (routers n (o .d) (o .limit) (o .order)) (rank (o .order)) _ law (t .routers) u (omega (arith, o .rank-below u inside)))
 
-    -- an entry is a place of lower rank
+    -- an entry is a place of lower rank: the order holds it, since it ranks before another place, and a place that the order does not hold has rank 255
     pub lower : (a : Arc) → List·Memᴰ a (entriesIn n table u) → (a .to < t .routers) × (rankByte table (a .to) < rankByte table u)
     lower a m =
         let k : List·Memᴰ a (rows u) = rw (o .entries-are u) at m in
         let leads = o .well-formed .sound u a (entry-arc n (o .well-formed) (o .d) (o .inside) (o .limit) (o .order) (o .in-free) u a k) .place in
         let there : a .to < t .routers = omega (arith, leads, o .routers-are) in
-        (there, omega (arith, o .rank-is (a .to) there, o .rank-is u inside, law .falls u a k))
+        (there, less there (member? (a .to) (o .order)) (member? u (o .order)) (law .falls u a k))
+      where
+        less : {v : ℕ} → v < t .routers → Dec (List·Memᴰ v (o .order)) → Dec (List·Memᴰ u (o .order)) → rank (o .order) v < rank (o .order) u →
+            rankByte table v < rankByte table u
+        less {v} there (no out) own falls = absurd (omega (arith, rank-is-turn v .1 (o .order) out, rank-most (o .order) u))
+        less {v} there (yes m) (yes k) falls = omega (arith, o .rank-is v there .reached m, o .rank-is u inside .reached k)
+        less {v} there (yes m) (no out) falls =
+            omega (
+              arith,
+              o .rank-is v there .reached m,
+              o .rank-is u inside .unreached out,
+              o .rank-below v there,
+              sound-exact t .0 good .routers-most,
+            )

@@ -2,7 +2,7 @@
 -- holds here. The schedule of a path is network's valid rows laid end to end.
 -- Assumes nothing.
 use Prim.Native.Nat.{ℕ, suc, pred, _+_, _*_, _<_}
-use mathlib.Core.List.{List, _∷_, _++_, List·Memᴰ, append-assoc}
+use mathlib.Core.List.{List, [], _∷_, _++_, List·Memᴰ, List·Memᴰ·not-nil, append-assoc}
 use mathlib.Core.Path.{_≡_, refl, sym, ap, _∙_, subst}
 use native.Mathlib.Omega.{arith}
 use lib.Dec.{T}
@@ -12,6 +12,7 @@ use Rattle.network.specs.Forwarding.{Packet, delivered-at, start}
 use Rattle.network.specs.Paths.{pathsFrom}
 use Rattle.network.specs.Routing.{routers, greatestHop, everyPath}
 use Rattle.network.specs.Theorems.Paths.{Earlier, RouterPath, EveryPath, visited}
+use Rattle.network.proofs.Pigeon.{member?}
 use Rattle.network.proofs.Sort.{pairwise-map}
 use Rattle.network.proofs.RouterPaths.{every-path-exact}
 use Rattle.stations.specs.declared.Topology.{Topology}
@@ -22,12 +23,12 @@ use Rattle.table.specs.Listed.{destinationIn, entriesIn, listed}
 use Rattle.table.specs.Calls.{tableChecking}
 use Rattle.packet.specs.Schedule.{rowsIn}
 use Rattle.packet.specs.Calls.{done, by, figures, walking}
-use Rattle.packet.specs.Theorems.{Lists, SoundSchedule}
-use Rattle.packet.proofs.Listed.{Over}
+use Rattle.packet.specs.Theorems.{Lists, SoundSchedule, Reached}
+use Rattle.packet.proofs.Listed.{Over, figure-reached}
 use Rattle.packet.proofs.Figures.{valid-states}
 use Rattle.packet.proofs.Passed.{walks-when, walks-only}
 use Rattle.packet.proofs.Rules.{mem-joined}
-use Rattle.packet.proofs.Schedules.{links-needed, joined, joined-long, rows-again}
+use Rattle.packet.proofs.Schedules.{joined, joined-long, rows-again}
 use Rattle.ways.specs.Calls.{pathsOf}
 use Rattle.ways.specs.Theorems.{PathIs, Sooner, PathsRight, PathsExact}
 use Rattle.ways.proofs.Listed.{forwarding, o, rows, carried}
@@ -99,9 +100,21 @@ module _ (t : Topology) (good : T (sound t)) (table : List ℕ) (right : tableCh
           ends = rw (x .destination-is) at (r .ends);
         }
 
+    -- a path down the rows goes along links
+    pub no-paths : (Reached t table u → ⊥) → pathsOf t table u ≡ []
+    no-paths out = same ∙ exact .only-reached (λ path. out (rw (x .destination-is) path))
+
     module _ (place : u < t .routers) where
-      figure-is : getD (figures t table) u 0 ≡ greatestHop n (x .d) (x .limit) (x .order) u
-      figure-is = x .figure-is u place
+      -- where a path is listed there is one along the links
+      listed-reached : {p : List ℕ} → List·Memᴰ p (pathsOf t table u) → Reached t table u
+      listed-reached m = step (member? u (x .order))
+        where
+          step : Dec (List·Memᴰ u (x .order)) → Reached t table u
+          step (yes k) = rw (x .destination-is) (x .given .in-free .only u k)
+          step (no out) = absurd (List·Memᴰ·not-nil (rw (no-paths (λ path. out (x .given .in-free .all u (rw (x .destination-is) at path)))) at m))
+
+      figure-is : Reached t table u → getD (figures t table) u 0 ≡ greatestHop n (x .d) (x .limit) (x .order) u
+      figure-is = figure-reached good x u place
 
       visited-is : (xs : List (List ℕ)) → visited (by t table) xs u ≡ visited (routers n (x .d) (x .limit) (x .order)) xs u
       unfolding listed destinationIn
@@ -110,12 +123,12 @@ module _ (t : Topology) (good : T (sound t)) (table : List ℕ) (right : tableCh
 
       -- the schedule of a path
       scheduled : (p : List ℕ) → List·Memᴰ p (pathsOf t table u) → (schedule : List ℕ) × (length schedule ≡ pred (t .routers) * t .links)
-          × ((q : Packet ℕ) × (walking t table u schedule ≡ done (delivered-at q))) × (visited (by t table) (rowsIn (t .links) schedule) u ≡ p)
+          × ((q : Packet ℕ) × (walking t table u schedule ≡ done (delivered-at q))) × (visited (by t table) (rowsIn (t .routers) (t .links) schedule) u ≡ p)
       scheduled p m =
           let (xs, many, valid, (q, w), v) = exact .walks .each-path p (rw same at m) (pred (t .routers)) (omega (arith, x .rank-below u place)) in
-          let wide : (states : List ℕ) → List·Memᴰ states xs → length states ≡ t .links = λ states k. valid-states n states (valid states k) .0 ∙ x .links-are in
+          let wide : (states : List ℕ) → List·Memᴰ states xs → length states ≡ t .links = λ row k. valid-states n row (valid row k) .0 ∙ x .links-are in
           let long : length (joined xs) ≡ pred (t .routers) * t .links = joined-long (t .links) xs wide ∙ ap (λ (k : ℕ). k * t .links) many in
-          let again = rows-again (t .links) xs wide (λ h. links-needed t good (omega arith)) in
+          let again = rows-again (t .links) (t .routers) xs wide many in
           let s : SoundSchedule t (joined xs) =
           record {
             whole-rows = record { rows = pred (t .routers); whole = long; enough = omega arith };
@@ -135,14 +148,14 @@ module _ (t : Topology) (good : T (sound t)) (table : List ℕ) (right : tableCh
             in-order = rw same (pairwise-map (λ p q k l. sooner p q) (exact .in-order));
             no-repeat = λ p m. exact .no-repeat p (rw same at m);
             in-network = λ p m. rw (← x .routers-are) (exact .in-network (rw (x .routers-are) place) p (rw same at m));
-            never-passed = λ p m. rw figure-is (exact .never-passed p (rw same at m));
-            longest-one =
-                let (p, m, long) = exact .longest-one (x .given .limit-least) (x .path u place) in
-                (p, rw same m, long ∙ ap suc (sym figure-is));
+            never-passed = λ p m. rw (figure-is (listed-reached m)) (exact .never-passed p (rw same at m));
+            longest-one = λ path.
+                let (p, m, long) = exact .longest-one (x .given .limit-least) (rw (x .destination-is) at path) in
+                (p, rw same m, long ∙ ap suc (sym (figure-is path)));
             each-walk = λ schedule q w.
                 let (inside, s, is) = walks-only t table right u schedule (delivered-at q) w in
-                rw (visited-is (rowsIn (t .links) schedule), same)
-                (exact .walks .each-walk (rowsIn (t .links) schedule) q (sym (is ∙ x .walk-is (rowsIn (t .links) schedule) (start u))));
+                let xs = rowsIn (t .routers) (t .links) schedule in
+                rw (visited-is xs, same) (exact .walks .each-walk xs q (sym (is ∙ x .walk-is xs (start u))));
             each-path = scheduled;
           }
 

@@ -9,9 +9,9 @@ use Rattle.network.specs.Lists.{numbersFrom, below, every, sameNumbers}
 use Rattle.stations.specs.declared.Topology.{Topology}
 use Rattle.stations.specs.Topology.{held, zeros, networkOf}
 use Rattle.topology.specs.Written.{joinedOver}
-use Rattle.order.specs.Table.{answers, link, T-topology}
+use Rattle.order.specs.Table.{answers, link, T-topology, cutOff}
 use Rattle.rows.specs.Bytes.{tableBytes}
-use Rattle.table.specs.Facts.{lone, lone-table, T-table-0, T-table-free, F-topology, F-table, F-table-1, room}
+use Rattle.table.specs.Facts.{lone, lone-table, T-table-0, T-table-free, F-topology, F-table, F-table-1, room, cut-table-0, cut-table-3}
 use Rattle.ways.specs.Calls.{writingPaths}
 
 -- Writing the paths over a table from a start into a buffer answers a number, at, and leaves these bytes.
@@ -53,8 +53,9 @@ five u v w x y rest = u ∷ v ∷ w ∷ x ∷ y ∷ (replicate 59 255 ++ rest)
 unfoldable pub F-5 : List ℕ
 F-5 = four 5 4 2 0 (four 5 3 1 0 (five 5 3 1 2 0 (five 5 3 4 2 0 [])))
 
--- F, with a byte to spare too, T and one router alone; from the destination; K as the table has it; an order in free mode; then 14, 15, 21 and 24, each
--- beside what is tested later
+-- F, with a byte to spare too, T and one router alone; from the destination; K as the table has it; an order in free mode; of T with a fourth router that
+-- has no link (02, #107) nothing from a start with no path, in a buffer of 0 bytes too, and from others the paths of their own part; then 14, 15, 21 and
+-- 24, each beside what is tested later
 unfoldable pub written : List Fact
 written =
     writes (F-topology 16) F-table 5 (room 256) 0 256 F-5
@@ -66,6 +67,11 @@ written =
     ∷ writes T-topology T-table-0 2 (room 128) 0 128 (three 2 1 0 (two 2 0 []))
     ∷ writes T-topology T-table-free 1 (room 128) 0 128 (two 1 0 (three 1 2 0 []))
     ∷ writes lone lone-table 0 (room 64) 0 64 (one 0 [])
+    ∷ writes cutOff cut-table-0 3 (room 64) 0 0 (room 64)
+    ∷ writes cutOff cut-table-0 3 [] 0 0 []
+    ∷ writes cutOff cut-table-0 2 (room 128) 0 128 (three 2 1 0 (two 2 0 []))
+    ∷ writes cutOff cut-table-3 3 (room 64) 0 64 (one 3 [])
+    ∷ writes cutOff cut-table-3 0 (room 64) 0 0 (room 64)
     ∷ writes zeros T-table-0 3 (room 3) 14 0 (room 3)
     ∷ writes T-topology [] 3 [] 15 3 []
     ∷ writes T-topology T-table-0 255 (room 64) 15 255 (room 64)

@@ -16,7 +16,7 @@ use Rattle.soundness.specs.Sound.{sound}
 use Rattle.table.specs.Calls.{tableChecking}
 use Rattle.packet.specs.Schedule.{rowsIn}
 use Rattle.packet.specs.Calls.{done, by, figures, walking}
-use Rattle.packet.specs.Theorems.{OfAccepted, destinationByte, Lists}
+use Rattle.packet.specs.Theorems.{OfAccepted, destinationByte, Lists, Reached}
 use Rattle.ways.specs.Calls.{pathsOf, pathsPast, writingPaths}
 
 -- 02, 103, its rule: from the destination there is one path, itself; the paths from any other station are those through each entry of its row in turn,
@@ -61,14 +61,15 @@ pub record PathsRight (t : Topology) (table : List ℕ) (u : ℕ) : Type 0 where
   -- none has a repeated router, so each fits N places
   pub no-repeat : (p : List ℕ) → List·Memᴰ p (pathsOf t table u) → Distinct p
   pub in-network : (p : List ℕ) → List·Memᴰ p (pathsOf t table u) → (length p ≤ t .routers) × ((v : ℕ) → List·Memᴰ v p → v < t .routers)
-  -- 02, 103: the longest path has as many moves as the greatest hop count; a path has one station more than it has moves
+  -- 02, 103 and 107: no path has more moves than the greatest hop count, and from a reached start one has as many; a path has one station more than it
+  -- has moves
   pub never-passed : (p : List ℕ) → List·Memᴰ p (pathsOf t table u) → length p ≤ suc (getD (figures t table) u 0)
-  pub longest-one : (p : List ℕ) × List·Memᴰ p (pathsOf t table u) × (length p ≡ suc (getD (figures t table) u 0))
+  pub longest-one : Reached t table u → (p : List ℕ) × List·Memᴰ p (pathsOf t table u) × (length p ≡ suc (getD (figures t table) u 0))
   -- every walk that is delivered goes along one of them, and along each of them goes some walk that is delivered, by a schedule of N - 1 rows
   pub each-walk : (schedule : List ℕ) (q : Packet ℕ) → walking t table u schedule ≡ done (delivered-at q) →
-      List·Memᴰ (visited (by t table) (rowsIn (t .links) schedule) u) (pathsOf t table u)
+      List·Memᴰ (visited (by t table) (rowsIn (t .routers) (t .links) schedule) u) (pathsOf t table u)
   pub each-path : (p : List ℕ) → List·Memᴰ p (pathsOf t table u) → (schedule : List ℕ) × (length schedule ≡ pred (t .routers) * t .links)
-      × ((q : Packet ℕ) × (walking t table u schedule ≡ done (delivered-at q))) × (visited (by t table) (rowsIn (t .links) schedule) u ≡ p)
+      × ((q : Packet ℕ) × (walking t table u schedule ≡ done (delivered-at q))) × (visited (by t table) (rowsIn (t .routers) (t .links) schedule) u ≡ p)
 
 abbrev pub PathsExact : Type 0
 PathsExact = OfAccepted (λ t table. (u : ℕ) → u < t .routers → PathsRight t table u)
@@ -113,3 +114,12 @@ pub record Written (t : Topology) (table : List ℕ) (u : ℕ) (buffer : List �
 abbrev pub PathsWritten : Type 0
 PathsWritten =
     (t : Topology) (table : List ℕ) (u : ℕ) (buffer : List ℕ) → writingPaths t table u buffer .answer .number ≡ 0 → Written t table u buffer
+
+-- 02, 107: from a start with no path to the destination there is no path to list, and the call needs no bytes: it answers 0 at 0 and leaves the whole
+-- buffer, of whatever length.
+pub record NoPath (t : Topology) (table : List ℕ) (u : ℕ) : Type 0 where
+  pub none : pathsOf t table u ≡ []
+  pub writes-nothing : (buffer : List ℕ) → writingPaths t table u buffer ≡ record { answer = answer 0 0; buffer = buffer }
+
+abbrev pub CutOffNoPath : Type 0
+CutOffNoPath = OfAccepted (λ t table. (u : ℕ) → u < t .routers → (Reached t table u → ⊥) → NoPath t table u)

@@ -1,10 +1,10 @@
 -- A line is its first field and each other behind a space, so that it can be put field by field; no field is longer than its room.
 -- Assumes nothing.
-use Prim.Native.Nat.{ℕ, suc, _*_, _≤_, _<_}
+use Prim.Native.Nat.{ℕ, suc, _+_, _*_, _/_, _%_, _≤_, _<_}
 use mathlib.Core.List.{List, [], _∷_, _++_, map, append-assoc, append-nil}
 use mathlib.Core.Logic.{_≢_}
-use mathlib.Core.Path.{_≡_, refl, ap, sym}
-use native.Mathlib.Decide.{ℕ-discrete}
+use mathlib.Core.Path.{_≡_, refl, ap, sym, _∙_}
+use native.Mathlib.Decide.{ℕ-discrete, decLt}
 use native.Mathlib.Omega.{arith}
 use lib.ListN.{length, length-append}
 use Rattle.topology.specs.Written.{joinedOver}
@@ -12,7 +12,7 @@ use Rattle.text.specs.Fields.{space}
 use Rattle.text.specs.Hex.{none}
 use Rattle.text.specs.Lines.{newline}
 use Rattle.text.specs.Numbers.{numberText}
-use Rattle.text.proofs.Texts.{small-length}
+use Rattle.text.proofs.Texts.{more-digits, small-length}
 use Rattle.wording.specs.Listing.{spaced, rowFields, lineText}
 use Rattle.wording.specs.declared.Front.{Front}
 use Rattle.wording.specs.Inner.{mostLine, field, fieldsText, Short, rowText, frontText, lineOf, Row, Small}
@@ -45,11 +45,23 @@ line-fields f row = rw (spaced-first) (simp append-assoc)
 pub field-length : (v : ℕ) → v < 100 → length (field v) ≤ 3
 field-length v h = omega (arith, small-length v h)
 
-pub front-length : (f : Front) → Small f → length (frontText f) ≤ 11
+-- a byte of three digits: those of its tenth part, and the last
+pub byte-digits : (v : ℕ) → 100 ≤ v → v < 256 → field v ≡ field (v / 10) ++ ((48 + v % 10) ∷ [])
+byte-digits v h k = ap (λ (l : List ℕ). space ∷ l) (more-digits v (omega arith) (omega arith))
+
+pub byte-length : (v : ℕ) → v < 256 → length (field v) ≤ 4
+byte-length v h = cases (decLt v 100)
+  where
+    cases : Dec (v < 100) → length (field v) ≤ 4
+    cases (yes l) = omega (arith, field-length v l)
+    cases (no o) =
+        omega (arith, ap length (byte-digits v (omega arith) h) ∙ length-append (field (v / 10)) ((48 + v % 10) ∷ []), field-length (v / 10) (omega arith))
+
+pub front-length : (f : Front) → Small f → length (frontText f) ≤ 13
 unfolding frontText
 front-length f s =
     simp (length-append)
-    (omega (arith, small-length _ (s .destination), small-length _ (s .router), small-length _ (s .rank), small-length _ (s .hops)))
+    (omega (arith, small-length _ (s .destination), field-length _ (s .router), byte-length _ (s .rank), byte-length _ (s .hops)))
 
 -- fields of at most three bytes each
 pub fields-length : (vs : List ℕ) → Short vs → length (fieldsText vs) ≤ 3 * length vs

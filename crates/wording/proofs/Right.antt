@@ -1,19 +1,19 @@
--- The order that is built is the one by the rule, and its table is accepted; so the rank that a row has is the router's turn, the figure is the greatest
--- hop count, and the places are those of the row's entries.
+-- The order that is built is the one by the rule, and its table is accepted; so where there is a path the rank that a row has is the router's turn, the
+-- figure is the greatest hop count, and the places are those of the row's entries; where there is none both are 255, and the row is empty.
 -- Assumes nothing.
 use Prim.Native.Nat.{ℕ, _≤_, _<_}
-use mathlib.Core.List.{List, [], _∷_, _++_, map, append-assoc}
+use mathlib.Core.List.{List, [], _∷_, _++_, map, append-assoc, List·Memᴰ}
 use mathlib.Core.Path.{_≡_, refl, ap, _∙_}
 use native.Mathlib.Omega.{arith}
 use borrow.Author.Tests.{lt-ltb, le-ltb}
 use lib.Dec.{T}
-use lib.ListN.{length, getD, drop}
+use lib.ListN.{length, drop}
 use Rattle.network.specs.Network.{Arc}
-use Rattle.network.specs.Distance.{distances}
+use Rattle.network.specs.Distance.{PathTo, distances}
 use Rattle.network.specs.Order.{shortest-path, build}
 use Rattle.network.specs.Row.{rank, row}
-use Rattle.network.proofs.Below.{getD-below}
 use Rattle.network.proofs.Build.{built-by-rule}
+use Rattle.network.proofs.Rank.{rank-in}
 use Rattle.network.proofs.Tests.{as-true, as-false}
 use Rattle.stations.specs.declared.Topology.{Topology}
 use Rattle.stations.specs.Outcome.{answer, given, turnedAway}
@@ -23,18 +23,18 @@ use Rattle.soundness.proofs.Sound.{sound-networks}
 use Rattle.topology.specs.Written.{joinedOver}
 use Rattle.rows.specs.Bytes.{rowStart}
 use Rattle.table.specs.Listed.{rankIn, placesIn}
-use Rattle.table.proofs.Lists.{places-are}
+use Rattle.table.proofs.Lists.{places-are, no-path-row}
 use Rattle.table.proofs.Ordered.{at-rank}
-use Rattle.packet.specs.Calls.{figure, figures}
+use Rattle.packet.specs.Calls.{figureByte}
 use Rattle.packet.proofs.Figures.{figures-exact}
 use Rattle.text.specs.Numbers.{numberText}
 use Rattle.text.proofs.Texts.{one-digit, more-digits}
 use Rattle.wording.specs.declared.Front.{Front}
 use Rattle.wording.specs.Listing.{tableFor, lineFor, linesFor, allLines, listing}
 use Rattle.wording.specs.Inner.{field, fieldsText, lineOf, frontText, rowText}
-use Rattle.wording.specs.Theorems.{NumbersSpelled, JoinsInTurn, lineWith, LineIs, ListsRight, ListingRefuses, AllRight}
+use Rattle.wording.specs.Theorems.{NumbersSpelled, JoinsInTurn, lineWith, LineIs, LineByPath, ListsRight, ListingRefuses, AllRight}
 use Rattle.wording.proofs.Fields.{row-none, row-some, line-fields}
-use Rattle.wording.proofs.Tables.{given as its-given, accepted, ranks, hop-counts}
+use Rattle.wording.proofs.Tables.{given as its-given, accepted, its-path, figure-at, hop-counts, no-rank, no-count}
 
 pub numbers-spelled : NumbersSpelled
 numbers-spelled n = record { one = one-digit n; more = more-digits n }
@@ -71,17 +71,9 @@ module _ (t : Topology) (good : T (sound t)) (d : ℕ) (place : d < t .routers) 
         let g = its-given t good d place in
         places-are (networkOf t) (s .well-formed) d (t .limit) (g .limit-most) order table (g .bytes) u (omega (arith, s .routers))
 
-    its-rank : rankIn table u ≡ rank order u
-    unfolding rankIn rowStart
-    its-rank = its-given t good d place .bytes .rows u (omega (arith, sound-networks t good .routers)) .rank-is
-
-    its-figure : getD (figures t table) u 0 ≡ figure t table u
-    unfolding figures
-    its-figure = getD-below (figure t table) (t .routers) u 0 h
-
-    fields : lineFor t d table u ≡ lineWith d u (rankIn table u) (figure t table u) (rowText (map (λ a. a .to) entries) ++ (10 ∷ []))
+    fields : lineFor t d table u ≡ lineWith d u (rankIn table u) (figureByte t table u) (rowText (map (λ a. a .to) entries) ++ (10 ∷ []))
     unfolding lineFor lineOf
-    fields = rw (← places) (spread (record { destination = d; router = u; rank = rankIn table u; hops = figure t table u }) (placesIn table u))
+    fields = rw (← places) (spread (record { destination = d; router = u; rank = rankIn table u; hops = figureByte t table u }) (placesIn table u))
 
     empty-row : entries ≡ [] → rowText (map (λ a. a .to) entries) ≡ 32 ∷ 45 ∷ []
     empty-row e = rw e (row-none [] refl)
@@ -91,19 +83,25 @@ module _ (t : Topology) (good : T (sound t)) (d : ℕ) (place : d < t .routers) 
     unfolding fieldsText
     some-row a rest e = rw e (row-some (map (λ b. b .to) (a ∷ rest)) (λ z. omega arith) ∙ joined-entries (a ∷ rest))
 
-    line-is : LineIs t d order table u (lineFor t d table u)
-    line-is =
-        let exact = figures-exact t good table (accepted t good d place) u h in
+    module _ (path : PathTo (networkOf t) d u) where
+      held : List·Memᴰ u order
+      held = its-given t good d place .in-free .all u path
+
+      its-rank : rankIn table u ≡ rank order u
+      unfolding rankIn rowStart
+      its-rank = its-given t good d place .bytes .rows u (omega (arith, sound-networks t good .routers)) .rank-is .reached held
+
+    line-is : PathTo (networkOf t) d u → LineIs t d order table u (lineFor t d table u)
+    line-is path =
+        let exact = figures-exact t good table (accepted t good d place) u h (its-path t good d place u h path) in
+        let its-figure = figure-at t good d place u h in
         let (schedule, long, (w, walked, most)) = exact .reached in
         record {
           rank = rankIn table u;
-          rank-below = ranks t good d place u h;
-          turn =
-              rw its-rank
-              (at-rank order (its-given t good d place .in-free .once) u
-              (its-given t good d place .in-free .all u (sound-networks t good .paths d u place h)));
-          hops = figure t table u;
-          hops-below = hop-counts t good d place u h;
+          rank-below = rw (its-rank path) (rank-in order u (held path));
+          turn = rw (its-rank path) (at-rank order (its-given t good d place .in-free .once) u (held path));
+          hops = figureByte t table u;
+          hops-below = hop-counts t good d place u h path;
           never-passed = λ s v e. rw its-figure at (exact .never-passed s v e);
           reached = (schedule, w, walked, rw its-figure at most);
           entries = entries;
@@ -111,6 +109,15 @@ module _ (t : Topology) (good : T (sound t)) (d : ℕ) (place : d < t .routers) 
           if-empty = λ e. rw (empty-row e) at fields;
           if-not = λ a rest e. rw (some-row a rest e) at fields;
         }
+
+    unreached : (PathTo (networkOf t) d u → ⊥) → lineFor t d table u ≡ lineWith d u 255 255 (32 ∷ 45 ∷ 10 ∷ [])
+    unreached out =
+        let s = sound-networks t good in
+        let none = no-path-row (networkOf t) (s .well-formed) d (omega (arith, s .routers)) (its-given t good d place .in-free) (t .limit) u out in
+        rw (no-rank t good d place u h out, no-count t good d place u h out, empty-row none) at fields
+
+    line-by-path : LineByPath t d order table u (lineFor t d table u)
+    line-by-path = record { reached = line-is; unreached = unreached }
 
 -- the lines are given to a buffer that they fit
 fits : (t : Topology) → T (sound t) → (d : ℕ) → d < t .routers → (buffer : List ℕ) → length (linesFor t d) ≤ length buffer →
@@ -129,7 +136,7 @@ lists-right t good d place buffer =
       given = its-given t good d place;
       accepted = accepted t good d place;
       line = lineFor t d (tableFor t d);
-      lines = line-is t good d place;
+      lines = line-by-path t good d place;
       text = linesFor t d;
       text-is = refl;
       success = fits t good d place buffer;

@@ -1,14 +1,17 @@
--- The table of a destination is accepted, since the order that is built is; so its ranks and hop counts are below N, and its entries are places.
+-- The table of a destination is accepted, since the order that is built is; so its ranks and hop counts are below N where there is a path, and else 255, and
+-- its entries are places.
 -- Assumes nothing.
 use Prim.Native.Nat.{ℕ, _+_, _*_, _≤_, _<_}
-use mathlib.Core.List.{List, _++_}
-use mathlib.Core.Path.{_≡_, refl, _∙_}
+use mathlib.Core.List.{List, _++_, List·Memᴰ}
+use mathlib.Core.Path.{_≡_, refl, sym, _∙_}
 use native.Mathlib.Omega.{arith}
 use lib.Dec.{T}
 use lib.ListN.{length, getD, length-append, List·getD-append}
 use Rattle.network.specs.Lists.{below}
+use Rattle.network.specs.Distance.{PathTo}
 use Rattle.network.specs.Order.{shortest-path, build}
 use Rattle.network.proofs.Below.{length-below, below-lt, getD-below, length-map-below}
+use Rattle.network.proofs.Pigeon.{member?}
 use Rattle.stations.specs.declared.Topology.{Topology}
 use Rattle.stations.specs.Topology.{networkOf}
 use Rattle.soundness.specs.Sound.{sound}
@@ -20,12 +23,14 @@ use Rattle.order.proofs.Ranges.{getD-mem}
 use Rattle.rows.specs.Bytes.{rowStart}
 use Rattle.table.specs.Listed.{rankIn, placesIn}
 use Rattle.table.specs.Calls.{tableChecking}
-use Rattle.table.specs.Theorems.{GivenBy}
+use Rattle.table.specs.Theorems.{GivenBy, ByPath}
 use Rattle.table.proofs.Bytes.{bytes-exact}
 use Rattle.table.proofs.Calling.{built-free}
+use Rattle.table.proofs.Lists.{rows-by-path}
 use Rattle.table.proofs.Verdicts.{table-long, tables-exact}
-use Rattle.packet.specs.Calls.{figure, figures}
-use Rattle.packet.proofs.Listed.{Over, over}
+use Rattle.packet.specs.Calls.{figureByte, figures}
+use Rattle.packet.specs.Theorems.{Reached}
+use Rattle.packet.proofs.Listed.{Over, over, figure-unreached, ranks-tell}
 use Rattle.packet.proofs.Figures.{figures-exact}
 use Rattle.packet.proofs.Places.{places-long}
 use Rattle.hops.proofs.Whole.{whole-fits}
@@ -72,14 +77,57 @@ module _ (t : Topology) (good : T (sound t)) (d : ℕ) (place : d < t .routers) 
         small = λ i k. omega (arith, r .places _ (getD-mem (placesIn table u) i 0 k));
       }
 
-  pub ranks : (u : ℕ) → u < t .routers → rankIn table u < t .routers
-  unfolding rankIn rowStart
-  ranks u h = omega (arith, opened .rank-is u h, opened .rank-below u h)
+  -- the rank and the hop count of a place, by whether it has a path
+  module _ (u : ℕ) (h : u < t .routers) where
+    abbrev Path : Type 0
+    Path = PathTo (networkOf t) d u
 
-  pub hop-counts : (u : ℕ) → u < t .routers → figure t table u < t .routers
-  unfolding rankIn rowStart figures
-  hop-counts u h =
-      omega (arith, getD-below (figure t table) (t .routers) u 0 h, figures-exact t good table accepted u h .at-most-rank, ranks u h)
+    pub its-path : Path → Reached t table u
+    its-path path = rw (given .bytes .destination) path
+
+    path? : Dec Path
+    path? = step (member? u (build (networkOf t) d shortest-path))
+      where
+        step : Dec (List·Memᴰ u (build (networkOf t) d shortest-path)) → Dec Path
+        step (yes m) = yes (given .in-free .only u m)
+        step (no out) = no (λ path. out (given .in-free .all u path))
+
+    by-path : ByPath t table d (build (networkOf t) d shortest-path) u
+    by-path = rows-by-path t good table d (t .limit) _ given u h
+
+    pub figure-at : getD (figures t table) u 0 ≡ figureByte t table u
+    unfolding figures
+    figure-at = getD-below (figureByte t table) (t .routers) u 0 h
+
+    pub ranks : Path → rankIn table u < t .routers
+    unfolding rankIn rowStart
+    ranks path = ranks-tell t good table accepted u h .ranked .0 (its-path path)
+
+    pub hop-counts : Path → figureByte t table u < t .routers
+    unfolding rankIn rowStart
+    hop-counts path = omega (arith, figure-at, figures-exact t good table accepted u h (its-path path) .at-most-rank, ranks path)
+
+    module _ (out : Path → ⊥) where
+      pub no-rank : rankIn table u ≡ 255
+      unfolding rankIn rowStart
+      no-rank = by-path .unreached out .no-rank
+
+      pub no-count : figureByte t table u ≡ 255
+      no-count = sym figure-at ∙ figure-unreached good opened u h (λ path. out (rw (given .bytes .destination) at path))
+
+    rank-byte : rankIn table u < 256
+    rank-byte = step path?
+      where
+        step : Dec Path → rankIn table u < 256
+        step (yes path) = omega (arith, few-routers, ranks path)
+        step (no out) = omega (arith, no-rank out)
+
+    hops-byte : figureByte t table u < 256
+    hops-byte = step path?
+      where
+        step : Dec Path → figureByte t table u < 256
+        step (yes path) = omega (arith, few-routers, hop-counts path)
+        step (no out) = omega (arith, no-count out)
 
   pub lines-length : length (linesFor t d) ≤ mostLines
   unfolding linesFor lineFor lineOf
@@ -87,12 +135,12 @@ module _ (t : Topology) (good : T (sound t)) (d : ℕ) (place : d < t .routers) 
       let few = joined-most (lineFor t d table) mostLine (below (t .routers))
       (λ u m.
       let h = below-lt _ m in
-      line-length (record { destination = d; router = u; rank = rankIn table u; hops = figure t table u }) (placesIn table u)
+      line-length (record { destination = d; router = u; rank = rankIn table u; hops = figureByte t table u }) (placesIn table u)
       record {
         destination = omega (arith, few-routers, place);
         router = omega (arith, few-routers, h);
-        rank = omega (arith, few-routers, ranks u h);
-        hops = omega (arith, few-routers, hop-counts u h);
+        rank = rank-byte u h;
+        hops = hops-byte u h;
       }
       (entries u h)) in
       omega (arith, few, length-below (t .routers), few-routers)
@@ -101,11 +149,10 @@ module _ (t : Topology) (good : T (sound t)) (d : ℕ) (place : d < t .routers) 
   module _ (hops rest : List ℕ) (is : hops ≡ figures t table ++ rest) where
     counted : length (figures t table) ≡ t .routers
     unfolding figures
-    counted = length-map-below (figure t table) (t .routers)
+    counted = length-map-below (figureByte t table) (t .routers)
 
-    at-place : (u : ℕ) → u < t .routers → getD hops u 0 ≡ figure t table u
-    unfolding figures
-    at-place u h = rw is (List·getD-append (figures t table) rest 0 u (omega (arith, counted))) ∙ getD-below (figure t table) (t .routers) u 0 h
+    at-place : (u : ℕ) → u < t .routers → getD hops u 0 ≡ figureByte t table u
+    at-place u h = rw is (List·getD-append (figures t table) rest 0 u (omega (arith, counted))) ∙ figure-at u h
 
     pub listable : Listable table hops (t .routers) d
     unfolding rankIn rowStart
@@ -115,8 +162,8 @@ module _ (t : Topology) (good : T (sound t)) (d : ℕ) (place : d < t .routers) 
           routers = few-routers;
           long = long;
           counted = rw is (omega (arith, length-append (figures t table) rest, counted));
-          rank = λ u h. omega (arith, ranks u h, few-routers);
-          hop-count = λ u h. omega (arith, at-place u h, hop-counts u h, few-routers);
+          rank = rank-byte;
+          hop-count = λ u h. omega (arith, at-place u h, hops-byte u h);
           entries = λ u h. row-of t good table opened u h .few;
           row = entries;
         }

@@ -1,7 +1,7 @@
 -- Listings by hand, and what is refused, as a list: the call and what it answers. A new fact is one line. Texts are given byte by byte: 48 is `0`, 32
 -- the space, 45 `-` and 10 the line's end.
 -- Assumes nothing.
-use Prim.Native.Nat.{ℕ}
+use Prim.Native.Nat.{ℕ, _+_}
 use mathlib.Core.Bool.{Bool, _&&_}
 use mathlib.Core.List.{List, [], _∷_, _++_}
 use lib.Dec.{T}
@@ -9,7 +9,7 @@ use lib.ListN.{replicate}
 use Rattle.network.specs.Lists.{every, sameNumbers}
 use Rattle.stations.specs.declared.Topology.{Topology}
 use Rattle.stations.specs.Topology.{held, zeros}
-use Rattle.order.specs.Table.{answers, link, T-topology}
+use Rattle.order.specs.Table.{answers, link, T-topology, cutOff, twoParts, pair}
 use Rattle.table.specs.Facts.{lone, F-topology}
 use Rattle.wording.specs.Listing.{listing, allLines}
 
@@ -93,10 +93,46 @@ eleven-10 =
 unfoldable pub lone-0 : List ℕ
 lone-0 = 48 ∷ 32 ∷ 48 ∷ 32 ∷ 48 ∷ 32 ∷ 48 ∷ 32 ∷ 45 ∷ 10 ∷ []
 
+-- 02, #107: the line of a router that has no path to the destination, both of one digit: `255 255 -` behind them
+unfoldable pub noPath : ℕ → ℕ → List ℕ
+noPath d u = (48 + d) ∷ 32 ∷ (48 + u) ∷ 32 ∷ 50 ∷ 53 ∷ 53 ∷ 32 ∷ 50 ∷ 53 ∷ 53 ∷ 32 ∷ 45 ∷ 10 ∷ []
+
+-- the line of the destination itself, and that of a router whose one next hop it is
+unfoldable pub itself : ℕ → List ℕ
+itself d = (48 + d) ∷ 32 ∷ (48 + d) ∷ 32 ∷ 48 ∷ 32 ∷ 48 ∷ 32 ∷ 45 ∷ 10 ∷ []
+
+unfoldable pub next : ℕ → ℕ → List ℕ
+next d u = (48 + d) ∷ 32 ∷ (48 + u) ∷ 32 ∷ 49 ∷ 32 ∷ 49 ∷ 32 ∷ (48 + d) ∷ 10 ∷ []
+
+-- T with a fourth router that has no link: T's lines, each destination's with one more; and those for the fourth, which no other reaches
+unfoldable pub cutOff-3 : List ℕ
+cutOff-3 = noPath 3 0 ++ (noPath 3 1 ++ (noPath 3 2 ++ itself 3))
+
+unfoldable pub cutOff-all : List ℕ
+cutOff-all = T-0 ++ (noPath 0 3 ++ (T-1 ++ (noPath 1 3 ++ (T-2 ++ (noPath 2 3 ++ cutOff-3)))))
+
+-- two pairs of routers apart
+unfoldable pub twoParts-0 : List ℕ
+twoParts-0 = itself 0 ++ (next 0 1 ++ (noPath 0 2 ++ noPath 0 3))
+
+unfoldable pub twoParts-1 : List ℕ
+twoParts-1 = next 1 0 ++ (itself 1 ++ (noPath 1 2 ++ noPath 1 3))
+
+unfoldable pub twoParts-2 : List ℕ
+twoParts-2 = noPath 2 0 ++ (noPath 2 1 ++ (itself 2 ++ next 2 3))
+
+unfoldable pub twoParts-3 : List ℕ
+twoParts-3 = noPath 3 0 ++ (noPath 3 1 ++ (next 3 2 ++ itself 3))
+
+-- two routers without a link
+unfoldable pub pair-all : List ℕ
+pair-all = itself 0 ++ (noPath 0 1 ++ (noPath 1 0 ++ itself 1))
+
 unfoldable pub room : ℕ → List ℕ
 room n = replicate n 170
 
--- T's whole output, F's lines for destination 0, one router alone, eleven in a line; then 14, 15 and 24, each beside what is tested later, and a buffer with a byte to spare
+-- T's whole output, F's lines for destination 0, one router alone, eleven in a line; parts apart, whole and for a destination; then 14, 15 and 24, each beside
+-- what is tested later, and a buffer with a byte to spare
 unfoldable pub facts : List Fact
 facts =
     all T-topology (T-0 ++ (T-1 ++ T-2))
@@ -106,6 +142,12 @@ facts =
     ∷ lists (F-topology 16) 0 (room 66) 0 66 F-0
     ∷ lists (F-topology 1) 0 (room 60) 0 60 F-0-limited
     ∷ lists eleven 10 (room 125) 0 125 eleven-10
+    ∷ all cutOff cutOff-all
+    ∷ all twoParts (twoParts-0 ++ (twoParts-1 ++ (twoParts-2 ++ twoParts-3)))
+    ∷ all pair pair-all
+    ∷ lists cutOff 3 (room 53) 0 52 (cutOff-3 ++ (170 ∷ []))
+    ∷ lists cutOff 3 (room 51) 24 52 (room 51)
+    ∷ lists cutOff 4 (room 99) 15 4 (room 99)
     ∷ lists zeros 0 (room 3) 14 0 (room 3)
     ∷ lists zeros 5 [] 14 0 []
     ∷ lists T-topology 3 (room 99) 15 3 (room 99)

@@ -15,13 +15,13 @@ use Rattle.text.specs.Numbers.{numberText}
 use Rattle.wording.specs.declared.Front.{Front}
 use Rattle.wording.specs.Listing.{rowFields, lineText}
 
--- room for a line: four numbers of two digits, at most 16 entries, the space before each but the first, and the line's end
+-- room for a line: two numbers of two digits and two of three, at most 16 entries of two, the space before each but the first, and the line's end
 abbrev pub mostLine : ℕ
-mostLine = 60
+mostLine = 62
 
 -- room for the lines of a destination
 abbrev pub mostLines : ℕ
-mostLines = 3840
+mostLines = 3968
 
 -- a number behind a space
 abbrev pub field : ℕ → List ℕ
@@ -53,11 +53,12 @@ frontText f =
 unfoldable pub lineOf : Front → List ℕ → List ℕ
 lineOf f row = lineText (f .destination) (f .router) (f .rank) (f .hops) row
 
+-- places of one digit or two; rank and hops are bytes, 255 where there is no path
 pub record Small (f : Front) : Type 0 where
   pub destination : f .destination < 100
   pub router : f .router < 100
-  pub rank : f .rank < 100
-  pub hops : f .hops < 100
+  pub rank : f .rank < 256
+  pub hops : f .hops < 256
 
 -- the bytes of a table for so many routers, and the hop counts by place, as far as lines are made of them
 pub record Listable (table hops : List ℕ) (n d : ℕ) : Type 0 where
@@ -65,8 +66,8 @@ pub record Listable (table hops : List ℕ) (n d : ℕ) : Type 0 where
   pub routers : n ≤ mostRouters
   pub long : length table ≡ tableLength n
   pub counted : n ≤ length hops
-  pub rank : (u : ℕ) → u < n → rankIn table u < 100
-  pub hop-count : (u : ℕ) → u < n → getD hops u 0 < 100
+  pub rank : (u : ℕ) → u < n → rankIn table u < 256
+  pub hop-count : (u : ℕ) → u < n → getD hops u 0 < 256
   pub entries : (u : ℕ) → u < n → getD table (rowStart u + 2) 0 ≤ mostNextHops
   pub row : (u : ℕ) → u < n → Row (placesIn table u)
 

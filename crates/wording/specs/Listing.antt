@@ -13,7 +13,7 @@ use Rattle.soundness.specs.Sound.{sound}
 use Rattle.topology.specs.Written.{joinedOver}
 use Rattle.rows.specs.Bytes.{tableBytes}
 use Rattle.table.specs.Listed.{rankIn, placesIn}
-use Rattle.packet.specs.Calls.{figure}
+use Rattle.packet.specs.Calls.{figureByte}
 use Rattle.text.specs.Fields.{space}
 use Rattle.text.specs.Lines.{newline}
 use Rattle.text.specs.Numbers.{numberText}
@@ -39,9 +39,9 @@ lineText d u rank hops row =
 unfoldable pub tableFor : Topology → ℕ → List ℕ
 tableFor t d = tableBytes (networkOf t) d (t .limit) (build (networkOf t) d shortest-path)
 
--- the line of router u, by what the table lists
+-- the line of router u, by what the table lists; rank and greatest hop count are 255 where the table gives the router no rank (02, #107)
 unfoldable pub lineFor : Topology → ℕ → List ℕ → ℕ → List ℕ
-lineFor t d table u = lineText d u (rankIn table u) (figure t table u) (placesIn table u)
+lineFor t d table u = lineText d u (rankIn table u) (figureByte t table u) (placesIn table u)
 
 -- the lines of one destination: each router, by place
 unfoldable pub linesFor : Topology → ℕ → List ℕ

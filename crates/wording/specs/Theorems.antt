@@ -8,7 +8,7 @@ use lib.Dec.{T}
 use lib.ListN.{length, getD, drop}
 use Rattle.network.specs.Lists.{below}
 use Rattle.network.specs.Network.{Arc}
-use Rattle.network.specs.Distance.{distances}
+use Rattle.network.specs.Distance.{PathTo, distances}
 use Rattle.network.specs.Order.{shortest-path}
 use Rattle.network.specs.Row.{row}
 use Rattle.network.specs.Forwarding.{Walk, packetOf}
@@ -45,12 +45,12 @@ abbrev pub lineWith : ℕ → ℕ → ℕ → ℕ → List ℕ → List ℕ
 lineWith d u rank hops rest =
     numberText d ++ (32 ∷ (numberText u ++ (32 ∷ (numberText rank ++ (32 ∷ (numberText hops ++ rest))))))
 
--- 01, Two networks by hand: the line of router u for destination d, under an order and by a table. Its fields: the rank, u's turn in the order from 0;
--- the greatest hop count, the most hops made that a walk from u answers over all schedules, which some schedule reaches; the row, the places of its
--- entries, at most K, with one space before each; `-`, 45, if it is empty. A newline, 10, ends it.
+-- 01, Two networks by hand: the line of router u for destination d, to which it has a path, under an order and by a table. Its fields: the rank, u's
+-- turn in the order from 0; the greatest hop count, the most hops made that a walk from u answers over all schedules, which some schedule reaches; the
+-- row, the places of its entries, at most K, with one space before each; `-`, 45, if it is empty. A newline, 10, ends it.
 pub record LineIs (t : Topology) (d : ℕ) (order table : List ℕ) (u : ℕ) (line : List ℕ) : Type 0 where
   pub rank : ℕ
-  pub rank-below : rank < t .routers
+  pub rank-below : rank < length order
   pub turn : getD order rank 0 ≡ u
   pub hops : ℕ
   pub hops-below : hops < t .routers
@@ -62,6 +62,11 @@ pub record LineIs (t : Topology) (d : ℕ) (order table : List ℕ) (u : ℕ) (l
   pub if-not : (a : Arc) (rest : List Arc) → entries ≡ a ∷ rest →
       line ≡ lineWith d u rank hops (joinedOver (λ b. 32 ∷ numberText (b .to)) entries ++ (10 ∷ []))
 
+-- 02, #107: the line of a router that has a path to d, and that of one that has none: rank and greatest hop count 255, and the row empty
+pub record LineByPath (t : Topology) (d : ℕ) (order table : List ℕ) (u : ℕ) (line : List ℕ) : Type 0 where
+  pub reached : PathTo (networkOf t) d u → LineIs t d order table u line
+  pub unreached : (PathTo (networkOf t) d u → ⊥) → line ≡ lineWith d u 255 255 (32 ∷ 45 ∷ 10 ∷ [])
+
 -- The lines of a destination: each router's, by place, under the order by 01's rule in shortest-path mode and by the table that it and the topology's
 -- K give. They are written where there is room, the rest of the buffer staying, and refused with 24 at their length where there is not.
 pub record Lists (t : Topology) (d : ℕ) (buffer : List ℕ) : Type 0 where
@@ -71,7 +76,7 @@ pub record Lists (t : Topology) (d : ℕ) (buffer : List ℕ) : Type 0 where
   pub given : GivenBy t table d (t .limit) order
   pub accepted : tableChecking t table ≡ answer 0 0
   pub line : ℕ → List ℕ
-  pub lines : (u : ℕ) → u < t .routers → LineIs t d order table u (line u)
+  pub lines : (u : ℕ) → u < t .routers → LineByPath t d order table u (line u)
   pub text : List ℕ
   pub text-is : text ≡ joinedOver line (below (t .routers))
   pub success : length text ≤ length buffer →

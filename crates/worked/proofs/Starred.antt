@@ -17,22 +17,21 @@ use Rattle.network.proofs.Linked.{linked-well-formed}
 use Rattle.stations.specs.Inner.{firstOr}
 use Rattle.stations.specs.Outcome.{turnedAway, given}
 use Rattle.stations.specs.Topology.{noLink, padded, contents, held, zeros, seen, networkIn, networkOf}
-use Rattle.soundness.specs.Apart.{apart}
-use Rattle.soundness.specs.Sound.{within, inLimits, wellLinked, uncrowded, none?, connected, isNoLink, unusedZero, slotted, sound}
+use Rattle.soundness.specs.Sound.{within, inLimits, wellLinked, uncrowded, isNoLink, unusedZero, slotted, sound}
 use Rattle.records.specs.Stream.{bigEndianOn, bigEndian, bodyLength, halfIn, decoded, recordIn, records}
 use Rattle.records.specs.Halves.{firstHalf, secondHalf, linkHalves, halves, sameHalf, leaves, opposite, linkOf}
 use Rattle.records.specs.Reading.{refusal, accepted, routerFault, repeated, crowded, halvesFault, fault, withRouter, withLink, withLimit, arrived, added}
-use Rattle.records.specs.Reading.{width, isEnd, joined, ended, unless, some?, inTurn, nothingListed, reading}
+use Rattle.records.specs.Reading.{width, isEnd, ended, unless, some?, inTurn, nothingListed, reading}
 use Rattle.records.specs.Table.{T-stream}
 use Rattle.topology.specs.Written.{joinedOver}
-use Rattle.order.specs.Calls.{modeOf, building, wrongRanks, unreadyRanks, atFirst, judging, checking}
+use Rattle.order.specs.Calls.{modeOf, reachedCount, orderBytes, building, wrongRanks, ranksAfter, unreadyRanks, atFirst, judging, checking}
 use Rattle.order.specs.Table.{answers}
-use Rattle.rows.specs.Bytes.{rowBytes, headerBytes, rowOf, rowsBytes, tableBytes, rowStart}
-use Rattle.table.specs.Listed.{kindIn, destinationIn, countIn, limitIn, rankIn, placesIn, arcsTo, entriesIn, listed, orderIn}
+use Rattle.rows.specs.Bytes.{rankOrNone, rowBytes, headerBytes, rowOf, rowsBytes, tableBytes, rowStart}
+use Rattle.table.specs.Listed.{kindIn, destinationIn, countIn, limitIn, rankIn, placesIn, arcsTo, entriesIn, listed, byRank, orderIn}
 use Rattle.table.specs.Calls.{unlessRefused, filling, soundHeader, soundRanks, differing, wrongBytes, tableJudging, tableChecking}
 use Rattle.table.specs.Facts.{room}
 use Rattle.packet.specs.Schedule.{rowIn, rowCounts, rowsIn, soundLength, wrongStates}
-use Rattle.packet.specs.Calls.{tested, testedBy, testedOver, figure, figures, countingHops, walking}
+use Rattle.packet.specs.Calls.{tested, testedBy, testedOver, figure, figureByte, figures, countingHops, walking}
 use Rattle.worked.specs.Fact.{upBut, leftAt, callOf, samePaths, claimHolds, holds}
 use Rattle.worked.specs.Chain.{wrote, endsSo, byTable, byOrder, byReading, follows}
 use Rattle.worked.specs.Starred.{link, twoCosts, T-network, F-network, alone, slope, slope-stream, about, F-stream, alone-stream, from, F-schedule, starred, StarredHold}
@@ -46,17 +45,17 @@ unfolding numbersFrom below keep every any leastBy greatestBy ahead foremost ins
     candidatesInTurn holdsEachOnce firstIs othersInTurn of-order.accepted
     rank sortsBefore rankedBefore fullRow row
     hopTo hop walkOn walkEnd walk start longest up firstLive
-    firstOr turnedAway given noLink padded contents held zeros seen networkIn networkOf apart
-    within inLimits wellLinked uncrowded none? connected isNoLink unusedZero slotted sound
+    firstOr turnedAway given noLink padded contents held zeros seen networkIn networkOf
+    within inLimits wellLinked uncrowded isNoLink unusedZero slotted sound
     bigEndianOn bigEndian bodyLength halfIn decoded recordIn records
     linkHalves firstHalf secondHalf halves sameHalf leaves opposite linkOf
     refusal accepted routerFault repeated crowded halvesFault fault withRouter withLink withLimit arrived added
-    width isEnd joined ended unless some? inTurn nothingListed reading
-    T-stream joinedOver modeOf building wrongRanks unreadyRanks atFirst judging checking answers
-    rowBytes headerBytes rowOf rowsBytes tableBytes rowStart
-    kindIn destinationIn countIn limitIn rankIn placesIn arcsTo entriesIn listed orderIn
+    width isEnd ended unless some? inTurn nothingListed reading
+    T-stream joinedOver modeOf reachedCount orderBytes building wrongRanks ranksAfter unreadyRanks atFirst judging checking answers
+    rankOrNone rowBytes headerBytes rowOf rowsBytes tableBytes rowStart
+    kindIn destinationIn countIn limitIn rankIn placesIn arcsTo entriesIn listed byRank orderIn
     unlessRefused filling soundHeader soundRanks differing wrongBytes tableJudging tableChecking room
-    rowIn rowCounts rowsIn soundLength wrongStates tested testedBy testedOver figure figures countingHops walking
+    rowIn rowCounts rowsIn soundLength wrongStates tested testedBy testedOver figure figureByte figures countingHops walking
     upBut leftAt wrote endsSo byTable byOrder byReading follows
     link F-network F-stream alone-stream from F-schedule starred
 starred-hold = tt
@@ -81,10 +80,10 @@ pub streams-read : StreamsRead
 unfolding numbersFrom below keep every any leastBy member
     size arcsOf greatestCost arcsAmong linked
     absent distanceIn through of-distance.atFirst round rounds distances reached
-    noLink padded contents held zeros seen networkIn networkOf apart within
+    noLink padded contents held zeros seen networkIn networkOf within
     bigEndianOn bigEndian bodyLength halfIn decoded recordIn records
     linkHalves firstHalf secondHalf halves sameHalf leaves opposite linkOf
     refusal accepted routerFault repeated crowded halvesFault fault withRouter withLink withLimit arrived added
-    width isEnd joined ended unless some? inTurn nothingListed reading
+    width isEnd ended unless some? inTurn nothingListed reading
     T-stream link twoCosts T-network F-network alone slope F-stream alone-stream slope-stream
 streams-read = (refl, refl, refl, refl, refl)

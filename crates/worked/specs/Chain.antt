@@ -1,11 +1,12 @@
--- A starred fact: calls one after the other, each by its own definition, from the bytes of a stream on, and what the last of them is expected to give.
+-- A fact as the starred ones are: calls one after the other, each by its own definition, from the bytes of a stream on, and what the last of them is
+-- expected to give.
 -- Assumes nothing.
 use Prim.Native.Nat.{ℕ}
 use mathlib.Core.Bool.{Bool, false, _&&_}
 use mathlib.Core.List.{List}
 use lib.ListN.{length}
 use Rattle.network.specs.Lists.{sameNumbers}
-use Rattle.network.specs.Forwarding.{Walk, delivered-at, dropped-at, unfinished-at}
+use Rattle.network.specs.Forwarding.{Walk, delivered-at, dropped-at, unfinished-at, start}
 use Rattle.stations.specs.Outcome.{Outcome}
 use Rattle.stations.specs.declared.Topology.{Topology}
 use Rattle.records.specs.declared.Reading.{Reading}
@@ -18,6 +19,7 @@ use Rattle.table.specs.Listed.{placesIn}
 use Rattle.table.specs.Calls.{filling}
 use Rattle.table.specs.Facts.{room}
 use Rattle.packet.specs.Calls.{Said, done, refused, countingHops, walking}
+use Rattle.packet.specs.Lists.{Call, afterAll}
 use Rattle.worked.specs.Fact.{leftAt}
 
 -- Which end a walk is expected to have, at which station, after how many hops.
@@ -35,6 +37,8 @@ pub data Expected : Type 0 where
   counts : List ℕ → Expected
   -- a walk, by the table filled, from a start under the bytes of a schedule
   walks : ℕ → List ℕ → End → Expected
+  -- a list of calls, by the table filled, leaves the packet at a station with so many hops made; at first it is at place 0 with 0 hops made
+  leaves : List Call → ℕ → ℕ → Expected
 
 pub record Chain : Type 0 where
   pub stream : List ℕ
@@ -67,6 +71,7 @@ byOrder t d (lists u expected) order = byTable t d order (λ table. sameNumbers 
 byOrder t d (counts expected) order =
     byTable t d order (λ table. wrote (countingHops t table (room (t .routers))) (λ figures. sameNumbers figures expected))
 byOrder t d (walks u schedule expected) order = byTable t d order (λ table. endsSo expected (walking t table u schedule))
+byOrder t d (leaves calls station hops) order = byTable t d order (λ table. leftAt (afterAll t table calls (start 0)) station hops)
 
 -- on from what was read, which must not be refused
 unfoldable pub byReading : Reading → ℕ → Mode → Expected → Bool

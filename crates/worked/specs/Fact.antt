@@ -23,7 +23,7 @@ pub data Claim : Type 0 where
   order-is : List ℕ → Claim
   -- with the limit K, the places of the row of a router
   row-is : ℕ → ℕ → List ℕ → Claim
-  -- with the limit K, the greatest hop count of every place
+  -- with the limit K, the greatest hop count of every place, 0 where it has no path
   greatest-are : ℕ → List ℕ → Claim
   -- with the limit K, every path from a start
   paths-are : ℕ → ℕ → List (List ℕ) → Claim

@@ -1,3 +1,4 @@
 pub mod Fact
 pub mod Chain
 pub mod Starred
+pub mod Apart

@@ -12,7 +12,7 @@ use Rattle.stations.specs.declared.Answer.{Answer}
 use Rattle.soundness.specs.Sound.{sound}
 use Rattle.table.specs.Calls.{unlessRefused, tableChecking}
 use Rattle.table.proofs.Verdicts.{tables-each}
-use Rattle.packet.specs.Calls.{figure, figures, countingHops}
+use Rattle.packet.specs.Calls.{figureByte, figures, countingHops}
 use Rattle.forwarding.proofs.Returned.{passed-table}
 use Rattle.forwarding.proofs.greatest_hops.Statement.{statement}
 use Rattle.forwarding.proofs.greatest_hops.Tie as tie
@@ -31,7 +31,7 @@ module _ (c : tie.Else1) where
 
   long : let a = c .before .before .before .before .before .args in length (figures (a .t) (now (a .table))) ≡ a .t .routers
   unfolding figures
-  long = let a = c .before .before .before .before .before .args in length-map-below (figure (a .t) (now (a .table))) (a .t .routers)
+  long = let a = c .before .before .before .before .before .args in length-map-below (figureByte (a .t) (now (a .table))) (a .t .routers)
 
 returns-2 : tie.Need-returns-2
 unfolding countingHops unlessRefused given turnedAway

@@ -17,14 +17,14 @@ ghost use Rattle.table.specs.Listed.{placesIn};
 ghost use Rattle.table.specs.Calls.{tableChecking};
 ghost use Rattle.hops.specs.Inner.{RowOf, boundOf, Bounded, Figures};
 
-// The greatest hop count of every place, as far as it is known: a hop bound is a rank.
+// The greatest hop count of every place, as far as it is known: a hop bound is a rank, 255 where a place has none (02, #107).
 pub struct Bounds {
     pub by: [Rank; ROUTERS],
 }
 
 // One more than the greatest of the row's entries, 0 if there is none.
 fn greatest_of(table: &[u8], bounds: Bounds, u: usize) -> Rank
-    requires { ⌜ RowOf (now table) u × Bounded (bounds .by) ⌝ }
+    requires { ⌜ RowOf (now table) u × Bounded (now table) u (bounds .by) ⌝ }
     ensures { λ r. ⌜ r .0 ≡ greatestBy (λ v. suc (boundOf (bounds .by) v)) (placesIn (now (table .entry)) u) ⌝ }
 {
     let row = HEADER + ROW * u;
@@ -42,16 +42,20 @@ fn greatest_of(table: &[u8], bounds: Bounds, u: usize) -> Rank
     Rank(best)
 }
 
-// The greatest hop count of every place over an accepted table, from the lowest rank up: by then those of the row's entries are known.
+// The greatest hop count of every place over an accepted table, from the lowest rank up: by then those of the row's entries are known. The order ends where
+// no place has the rank.
 pub fn bounds_of(t: Topology, table: &[u8]) -> Bounds
     requires { ⌜ T (sound t) × (tableChecking t (now table) ≡ record { number = 0; at = 0 }) ⌝ }
     ensures { λ r. ⌜ Figures t (now (table .entry)) r ⌝ }
 {
     let order = table::unchecked::order_of(t.routers, table);
-    let mut by = [Rank(0); ROUTERS];
+    let mut by = [Rank(255); ROUTERS];
     let mut rank: usize = 0;
     while rank < t.routers {
         let u = order[rank] as usize;
+        if u == 255 {
+            return Bounds { by: by };
+        }
         by[u] = greatest_of(table, Bounds { by: by }, u);
         rank += 1;
     }

@@ -100,7 +100,8 @@ pub fn hop_by(t: Topology, a: Arcs, table: &[u8], states: &[u8], packet: Packet)
 // A walk by an accepted table: each hop takes the schedule's next row, until the packet is at the destination or dropped.
 pub fn walk_by(t: Topology, a: Arcs, table: &[u8], start: Place, schedule: &[u8]) -> Walked
     requires { ⌜ Checked t a (now table) × (start .0 < t .routers) × Scheduled t (now schedule) ⌝ }
-    ensures { λ r. ⌜ walkSays r ≡ done (network.walk (by t (now (table .entry))) (rowsIn (t .links) (now (schedule .entry))) (network.start (start .0))) ⌝ }
+    ensures { λ r. ⌜ walkSays r
+        ≡ done (network.walk (by t (now (table .entry))) (rowsIn (t .routers) (t .links) (now (schedule .entry))) (network.start (start .0))) ⌝ }
 {
     let home = table[1];
     let mut station = start.0;

@@ -43,10 +43,7 @@ pub fn is_whole(n: usize, links: usize, bytes: usize) -> bool
     ensures { λ r. ⌜ r ≡ soundLength n links bytes ⌝ }
 {
     if links == 0 {
-        if bytes != 0 {
-            return false;
-        }
-        return n <= 1;
+        return bytes == 0;
     }
     let mut at: usize = 0;
     let mut rows: usize = 0;

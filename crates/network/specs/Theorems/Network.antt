@@ -58,7 +58,7 @@ pub record Linked (ids : List ℕ) (ls : List Link) : Type 0 where
 abbrev pub LinkedExact : Type 0
 LinkedExact = (ids : List ℕ) (ls : List Link) → T (soundLinks ids ls) → Linked ids ls
 
--- 01, Refusals, 13: links go both ways, so where every router has a path to one place, every router has a path to every place.
+-- Links go both ways, so where every router has a path to one place, as in a topology in one piece, every router has a path to every place.
 abbrev pub LinkedConnected : Type 0
 LinkedConnected =
     (ids : List ℕ) (ls : List Link) → T (soundLinks ids ls) → (middle : ℕ) → ((u : ℕ) → u < length ids → PathTo (linked ids ls) middle u) → (d u : ℕ) → d < length ids → u < length ids → PathTo (linked ids ls) d u

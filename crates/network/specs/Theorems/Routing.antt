@@ -51,11 +51,11 @@ pub record HopRule (n : Network) (d limit : ℕ) (order states : List ℕ) (p : 
 abbrev pub HopsByRule : Type 0
 HopsByRule = OfTables (λ n d limit order. (states : List ℕ) (p : Packet ℕ) → HopRule n d limit order states p)
 
--- First-live obeys the laws, so the figures are exact.
+-- First-live obeys the laws, so the greatest hop counts are exact.
 abbrev pub RoutersLawful : Type 0
 RoutersLawful = OfTables (λ n d limit order. Lawful (routers n d limit order) (rank order) (λ states. T (validStates n states)))
 
--- Demand 3, for walks
+-- Demand 3, for walks: the greatest hop count of u is exact, and so it is 0 where u has no path to d
 abbrev pub RoutersExact : Type 0
 RoutersExact =
     OfTables (λ n d limit order. (u : ℕ) →
@@ -73,7 +73,7 @@ pub data WalkEnd (n : Network) (d limit : ℕ) (order : List ℕ) (xs : List (Li
 abbrev pub WalksEnd : Type 0
 WalksEnd = OfTables (λ n d limit order. (xs : List (List ℕ)) (u : ℕ) → rank order u ≤ length xs → WalkEnd n d limit order xs u)
 
--- Demand 3, hop by hop, from every station
+-- Demand 3, hop by hop, from every station: the bound is its greatest hop count, 0 where it has no path to d
 abbrev pub RoutersCalls : Type 0
 RoutersCalls = OfTables (λ n d limit order. CallsBounded (routers n d limit order) (callTests n d limit order) (greatestHop n d limit order))
 
@@ -89,7 +89,7 @@ abbrev pub RoutersNeverLoop : Type 0
 RoutersNeverLoop =
     OfTables (λ n d limit order. (xs : List (List ℕ)) (u : ℕ) → Distinct (u ∷ map (λ a. a .to) (route (routers n d limit order) xs u)))
 
--- 01, Packet, hop and schedule: for all places it is N bytes, place by place
+-- 01, Packet, hop and schedule: for all places the greatest hop counts are N, place by place
 abbrev pub FiguresByPlace : Type 0
 FiguresByPlace =
     (n : Network) (d limit : ℕ) (order : List ℕ) → (length (greatestHops n d limit order) ≡ size n)

@@ -2,6 +2,7 @@
 -- Assumes nothing.
 use Prim.Native.Nat.{_<_}
 use mathlib.Core.Bool.{true}
+use mathlib.Core.List.{[]}
 use mathlib.Core.Path.{_≡_, refl, sym, _∙_}
 use native.Mathlib.Omega.{arith}
 use borrow.Author.Needs.{needs}
@@ -12,10 +13,10 @@ use Rattle.network.specs.Order.{build}
 use Rattle.soundness.specs.Sound.{sound}
 use Rattle.stations.specs.Topology.{networkOf}
 use Rattle.stations.specs.Outcome.{given, turnedAway}
-use Rattle.order.specs.Calls.{building, modeOf}
+use Rattle.order.specs.Calls.{orderBytes, building, modeOf}
 use Rattle.distances.proofs.Slots.{laid-out}
 use Rattle.order.specs.Proposed.{Lent}
-use Rattle.order.proofs.Reached.{built-long}
+use Rattle.order.proofs.Orders.{order-long}
 use Rattle.order.proofs.build.Statement.{statement}
 use Rattle.order.proofs.build.Tie as tie
 
@@ -41,8 +42,8 @@ place : (c : tie.Else2) → let a = c .before .before .before .before .before .a
 place c = omega (arith, c .before .index .ensures)
 
 long : (c : tie.Else2) → let a = c .before .before .before .before .before .args in
-    length (build (networkOf (a .t1)) (a .destination .0) (modeOf (a .mode))) ≡ a .t1 .routers
-long c = built-long _ (passed (c .before .before)) _ (place c) _
+    length (orderBytes (a .t1 .routers) (build (networkOf (a .t1)) (a .destination .0) (modeOf (a .mode)))) ≡ a .t1 .routers
+long c = order-long _ (passed (c .before .before)) _ (place c) _ []
 
 returns-3 : tie.Need-returns-3
 unfolding building given turnedAway

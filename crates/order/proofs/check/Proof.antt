@@ -34,8 +34,8 @@ place c = omega (arith, c .before .before .index .ensures, c .if2 .left)
 of-requires : tie.Need-of-requires
 of-requires c κs = passed (c .before .before .before)
 
-distances-for-requires : tie.Need-distances-for-requires
-distances-for-requires c κs =
+to-requires : tie.Need-to-requires
+to-requires c κs =
     let o : tie.After-of = c .before .before .before .before in
     let e : tie.Else2 = o .before in
     ((_, laid-out _ _ (passed (e .before .before .before)) (o .of .ensures)), place e)
@@ -45,12 +45,7 @@ judge-requires c κs =
     let o : tie.After-of = c .before .before .before .before .before in
     let e : tie.Else2 = o .before in
     let s = passed (e .before .before .before) in
-    record {
-      is-sound = s;
-      holds = o .of .ensures;
-      place = place e;
-      for-mode = c .distances-for .ensures _ (laid-out _ _ s (o .of .ensures));
-    }
+    record { is-sound = s; holds = o .of .ensures; place = place e; settled = c .to .ensures _ (laid-out _ _ s (o .of .ensures)) }
 
 returns-3 : tie.Need-returns-3
 returns-3 c =
@@ -66,6 +61,6 @@ check-spec =
     (λ c κs. search needs)
     returns-2
     of-requires
-    distances-for-requires
+    to-requires
     judge-requires
     returns-3)

@@ -62,10 +62,10 @@ module _ (c : tie.After-put-lines) where
   needed : length itsLines ≡ c .put-lines .result
   needed = omega (arith, c .put-lines .ensures .after)
 
-  few : length itsLines ≤ 3840
+  few : length itsLines ≤ 3968
   few = lines-length (args .args .t) (passed (tested .before .before .before)) _ (place tested)
 
-  room : length (c .put-lines .last .1 .1 .1 .0) ≡ 3840
+  room : length (c .put-lines .last .1 .1 .1 .0) ≡ 3968
   room = put-length (c .put-lines .ensures) ∙ sym (c .before .before .before .room-for-lines .ensures)
 
   front : take (c .put-lines .result) (c .put-lines .last .1 .1 .1 .0) ≡ itsLines

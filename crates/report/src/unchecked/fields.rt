@@ -1,4 +1,4 @@
-// The fields of a line: numbers of one digit or two, a space before each.
+// The fields of a line: places, numbers of one digit or two, and bytes, a space before each.
 use text::unchecked::lines;
 ghost use Prim.Native.Nat.{_+_, _*_, _≤_, _<_};
 ghost use lib.ListN.{length};
@@ -12,6 +12,19 @@ pub(crate) fn put_field(out: &mut [u8], at: usize, n: u8) -> usize
 {
     out[at] = b' ';
     lines::put_small(out, at + 1, n)
+}
+
+// A space and a byte, of up to three digits.
+pub(crate) fn put_byte_field(out: &mut [u8], at: usize, n: u8) -> usize
+    requires { ⌜ at + 4 ≤ length (now out) ⌝ }
+    ensures { λ r. ⌜ Put (now (out .entry)) at (field n) r (now (out .exit)) ⌝ }
+{
+    if n < 100 {
+        return put_field(out, at, n);
+    }
+    let end = put_field(out, at, n / 10);
+    out[end] = b'0' + n % 10;
+    end + 1
 }
 
 // Numbers from an offset of the slice on; answers the offset after them.

@@ -2,17 +2,16 @@
 -- Assumes nothing.
 use Prim.Native.Nat.{_≤_}
 use mathlib.Core.Bool.{true}
-use mathlib.Core.Path.{_≡_, sym, _∙_, subst}
+use mathlib.Core.Path.{_≡_, sym, _∙_}
 use borrow.Author.Needs.{needs}
 use borrow.Author.Tests.{not-true, not-false}
-use lib.Dec.{T}
 use lib.ListN.{length}
 use Rattle.network.specs.Lists.{distinct}
 use Rattle.stations.specs.Topology.{contents}
 use Rattle.stations.specs.Inner.{Counted}
 use Rattle.stations.proofs.Machine.{ids-length}
 use Rattle.soundness.specs.Sound.{inLimits, sound}
-use Rattle.soundness.proofs.InTurn.{limits-counted, limits-some, links-fit, from-ids, from-zeros, past-limits}
+use Rattle.soundness.proofs.InTurn.{limits-counted, links-fit, from-ids, from-zeros, past-limits}
 use Rattle.soundness.proofs.is_sound.Statement.{statement}
 use Rattle.soundness.proofs.is_sound.Tie as tie
 
@@ -52,9 +51,7 @@ unfolding contents
 returns-2 c = sym (left-1 (c .before .before .before .before) ∙ rw (sym (c .before .ids-differ .ensures) ∙ not-true _ (c .if2 .taken)))
 
 links-fit-requires : tie.Need-links-fit-requires
-links-fit-requires c κs =
-    let s = c .before .before .before .before in
-    (counted s, subst T (sym (ids c)) tt, limits-some _ (limits s))
+links-fit-requires c κs = counted (c .before .before .before .before)
 
 returns-3 : tie.Need-returns-3
 returns-3 c =

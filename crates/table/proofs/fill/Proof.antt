@@ -1,27 +1,31 @@
 -- `table::fill` meets its contract: the tests are those of `filling`, in turn, and what the rows are filled with is the table's bytes.
 -- Assumes nothing.
-use Prim.Native.Nat.{_+_, _*_, _<_}
+use Prim.Native.Nat.{ℕ, _+_, _*_, _≤_, _<_}
 use mathlib.Core.Bool.{true}
-use mathlib.Core.Path.{_≡_, refl, sym, _∙_}
+use mathlib.Core.Path.{_≡_, refl, sym, ap, subst, _∙_}
 use native.Mathlib.Omega.{arith}
 use borrow.Author.Needs.{needs}
 use borrow.Author.Tests.{not-true, not-false, lt-ltb, le-ltb, ne-eqb}
 use denote.Ref.{now}
 use lib.Dec.{T}
-use lib.ListN.{length}
+use lib.ListN.{length, take}
+use Rattle.network.specs.Order.{free}
+use Rattle.network.specs.Theorems.Order.{Accepted}
 use Rattle.stations.specs.Outcome.{answer, given, turnedAway}
 use Rattle.stations.specs.Topology.{networkOf}
 use Rattle.soundness.specs.Sound.{sound}
 use Rattle.soundness.proofs.Sound.{sound-exact}
 use Rattle.order.specs.declared.Mode.the-variants as mode
-use Rattle.order.specs.Calls.{judging, checking}
+use Rattle.order.specs.Calls.{reachedCount, judging, checking}
+use Rattle.order.specs.Proposed.{Measured}
+use Rattle.order.proofs.Turn.{counts-reached}
 use Rattle.order.proofs.Decided.{unsound, outside, judged}
-use Rattle.distances.specs.Settled.{Settled}
 use Rattle.distances.proofs.Slots.{laid-out}
 use Rattle.rows.specs.Bytes.{tableBytes, rowStart}
+use Rattle.rows.specs.Keys.{Fillable}
 use Rattle.table.specs.Calls.{unlessRefused, filling}
 use Rattle.table.proofs.Bytes.{bytes-exact}
-use Rattle.table.proofs.Calling.{let-through, in-free, fillable}
+use Rattle.table.proofs.Calling.{let-through, in-free, free-long, fillable}
 use Rattle.table.proofs.Verdicts.{table-long}
 use Rattle.table.proofs.fill.Statement.{statement}
 use Rattle.table.proofs.fill.Tie as tie
@@ -52,78 +56,106 @@ of-requires c κs = passed (c .before .before)
 place : (c : tie.Else2) → let a = c .before .before .before .before .before .before .args in a .destination .0 < a .t .routers
 place c = omega (arith, c .before .index .ensures)
 
-judge-requires : tie.Need-judge-requires
-judge-requires c κs = (passed (c .before .before .before), c .of .ensures, place (c .before))
+-- from the distances back to the arcs, and what they are
+abbrev laid : tie.After-to → tie.After-of
+laid c = c .before .before .before .before .before
+
+to-requires : tie.Need-to-requires
+to-requires c κs =
+    let o : tie.After-of = c .before .before .before .before in
+    ((_, laid-out _ _ (passed (o .before .before .before)) (o .of .ensures)), place (o .before))
+
+measured : (c : tie.After-to) → let a = laid c .before .before .before .before .before .before .before .args in
+    Measured (a .t) (laid c .of .result) (a .destination .0) (c .to .result)
+measured c =
+    let o = laid c in
+    let s = passed (o .before .before .before) in
+    record { is-sound = s; holds = o .of .ensures; place = place (o .before); settled = c .to .ensures _ (laid-out _ _ s (o .of .ensures)) }
 
 -- what judging answered is what checking the order answers
-verdict : (c : tie.After-judge) → let a = c .before .before .before .before .before .before .before .before .args in
+verdict : (c : tie.After-judge) → let a = laid (c .before) .before .before .before .before .before .before .before .args in
     c .judge .result ≡ checking (a .t) (a .destination .0) mode.Free (now (a .order))
-verdict c = c .judge .ensures ∙ judged _ _ mode.Free _ (good (c .before .before .before .before)) (place (c .before .before))
+verdict c =
+    let o = laid (c .before) in
+    c .judge .ensures ∙ judged _ _ mode.Free _ (good (o .before .before .before)) (place (o .before))
 
 returns-3 : tie.Need-returns-3
 unfolding filling unlessRefused turnedAway
-returns-3 c =
-    rw (← verdict (c .before .before), ne-eqb _ _ (c .if3 .taken))
+returns-3 c = rw (← verdict (c .before .before), ne-eqb _ _ (c .if3 .taken))
 
-mul-needed : tie.Need-mul-needed
-mul-needed c = omega (arith, sound-exact _ .0 (passed (c .before .before .before .before .before .before)) .routers-most)
+-- from where judging let the order through back to the arcs
+abbrev arcs : tie.Else3 → tie.After-of
+arcs c = laid (c .before .before .before)
 
-add-needed : tie.Need-add-needed
-add-needed c = omega (arith, sound-exact _ .0 (passed (c .before .before .before .before .before .before)) .routers-most)
-
--- judging let the order through, so it is accepted, and its table has 4 + 19N bytes
+-- judging let the order through, so its reached ranks are accepted, and their table has 4 + 19N bytes
 module _ (c : tie.Else3) where
-  zero : let a = c .before .before .before .before .before .before .before .before .before .before .args in
+  few : arcs c .before .before .before .before .before .before .before .args .t .routers ≤ 64
+  few = sound-exact _ .0 (passed (arcs c .before .before .before)) .routers-most
+
+  zero : let a = arcs c .before .before .before .before .before .before .before .args in
       judging (a .t) (a .destination .0) mode.Free (now (a .order)) .number ≡ 0
   zero = rw (c .before .before .judge .ensures) at (c .if3 .left)
 
-  whole : let a = c .before .before .before .before .before .before .before .before .before .before .args in
+  whole : let a = arcs c .before .before .before .before .before .before .before .args in
       checking (a .t) (a .destination .0) mode.Free (now (a .order)) ≡ answer 0 0
-  whole = let-through _ (passed (c .before .before .before .before .before .before)) _ (place (c .before .before .before .before)) _ zero
+  whole = let-through _ (passed (arcs c .before .before .before)) _ (place (arcs c .before)) _ zero
 
-  long : let a = c .before .before .before .before .before .before .before .before .before .before .args in
-      length (tableBytes (networkOf (a .t)) (a .destination .0) (a .t .limit) (now (a .order))) ≡ 4 + 19 * a .t .routers
+  part-free : let a = arcs c .before .before .before .before .before .before .before .args in
+      Accepted (networkOf (a .t)) (a .destination .0) free (take (reachedCount (networkOf (a .t)) (a .destination .0)) (now (a .order)))
+  part-free = in-free _ (passed (arcs c .before .before .before)) _ (place (arcs c .before)) _ zero .0
+
+  long : let a = arcs c .before .before .before .before .before .before .before .args in
+      length (tableBytes (networkOf (a .t)) (a .destination .0) (a .t .limit) (take (reachedCount (networkOf (a .t)) (a .destination .0)) (now (a .order))))
+      ≡ 4 + 19 * a .t .routers
   long =
-      let a = c .before .before .before .before .before .before .before .before .before .before .args in
-      let s = passed (c .before .before .before .before .before .before) in
-      table-long (a .t) s (bytes-exact (networkOf (a .t)) (a .destination .0) (a .t .limit) (sound-exact (a .t) .0 s .limit-most) (now (a .order)) _ .0 refl)
+      let a = arcs c .before .before .before .before .before .before .before .args in
+      let s = passed (arcs c .before .before .before) in
+      table-long (a .t) s (bytes-exact (networkOf (a .t)) (a .destination .0) (a .t .limit) (sound-exact (a .t) .0 s .limit-most) _ _ .0 refl)
 
 returns-4 : tie.Need-returns-4
 unfolding filling unlessRefused given turnedAway
 returns-4 c = rw (whole (c .before), long (c .before), lt-ltb _ _ (c .if4 .taken))
 
-to-requires : tie.Need-to-requires
-to-requires c κs =
-    let e : tie.Else4 = c .before .before .before .before in
-    let p : tie.Else2 = e .before .before .before .before .before in
-    ((_, laid-out _ _ (passed (p .before .before)) (e .before .before .before .before .of .ensures)), place p)
+-- from the count of the reached ranks back to the last test
+abbrev tested : tie.After-reached-count → tie.Else4
+tested c = c .before .before
 
--- from the distances back to the last test, and what they are
-abbrev tested : tie.After-to → tie.Else4
-tested c = c .before .before .before .before .before
+reach : (c : tie.After-reached-count) → let a = arcs (tested c .before) .before .before .before .before .before .before .before .args in
+    c .reached-count .result ≡ reachedCount (networkOf (a .t)) (a .destination .0)
+reach c = c .reached-count .ensures ∙ counts-reached (measured (tested c .before .before .before .before))
 
-settled : (c : tie.After-to) →
-    let a = tested c .before .before .before .before .before .before .before .before .before .before .before .args in Settled (networkOf (a .t)) (a .destination .0) (c .to .result)
-settled c =
-    let e = tested c in
-    let p : tie.Else2 = e .before .before .before .before .before in
-    c .to .ensures _ (laid-out _ _ (passed (p .before .before)) (e .before .before .before .before .of .ensures))
+part-long : (c : tie.After-reached-count) → let a = arcs (tested c .before) .before .before .before .before .before .before .before .args in
+    length (take (c .reached-count .result) (now (a .order))) ≡ c .reached-count .result
+part-long c =
+    let e = tested c .before in
+    let o = arcs e in
+    let order = now (o .before .before .before .before .before .before .before .args .order) in
+    ap (λ (k : ℕ). length (take k order)) (reach c) ∙ free-long _ (passed (o .before .before .before)) _ (place (o .before)) (part-free e) ∙ sym (reach c)
 
 fill-requires : tie.Need-fill-requires
 unfolding rowStart
 fill-requires c κs =
-    let e : tie.Else3 = tested (c .before) .before in
-    let s = passed (e .before .before .before .before .before .before) in
-    let h = place (e .before .before .before .before) in (
-      fillable _ s _ h (e .before .before .before .of .ensures) (settled (c .before)) (sound-exact _ .0 s .limit-most) (in-free _ s _ h _ (zero e)),
-      tested (c .before) .if4 .left,
+    let r = c .before .before in
+    let e = tested r .before in
+    let o = arcs e in
+    let s = passed (o .before .before .before) in (
+      subst
+          (λ (k : ℕ). Fillable (o .before .before .before .before .before .before .before .args .t) (o .of .result) (e .before .before .before .to .result)
+          (o .before .before .before .before .before .before .before .args .destination .0)
+          (o .before .before .before .before .before .before .before .args .t .limit)
+          (take k (now (o .before .before .before .before .before .before .before .args .order))))
+          (sym (reach r))
+          (fillable _ s _ (place (o .before)) (o .of .ensures) (measured (e .before .before .before) .settled) (sound-exact _ .0 s .limit-most) (part-free e)),
+      tested r .if4 .left,
     )
 
 returns-5 : tie.Need-returns-5
 unfolding filling unlessRefused given turnedAway rowStart
 returns-5 c =
-    let b = tested (c .before .before .before .before) in
-    rw (c .before .before .fill .ensures, whole (b .before), long (b .before), le-ltb _ _ (b .if4 .left))
+    let f = c .before .before in
+    let r = f .before .before .before in
+    let b = tested r in
+    rw (f .fill .ensures, reach r, whole (b .before), long (b .before), le-ltb _ _ (b .if4 .left))
 
 pub fill-spec : {M : Type 1} → statement M
 fill-spec =
@@ -134,12 +166,14 @@ fill-spec =
     (λ c κs. search needs)
     returns-2
     of-requires
-    judge-requires
-    returns-3
-    mul-needed
-    add-needed
-    returns-4
     to-requires
+    (λ c κs. measured c)
+    returns-3
+    (λ c. omega (arith, few c))
+    (λ c. omega (arith, few c))
+    returns-4
+    (λ c κs. few (c .before .before))
+    (λ c. sym (part-long (c .before)))
     fill-requires
     (λ c. search needs)
     returns-5)

@@ -1,25 +1,39 @@
--- `order::proposal::unready_rank` meets its contract. The loop's invariant is `Checking`: the standings are right for the routers passed, and each
--- but the first was a candidate when placed.
+-- `order::proposal::unready_rank` meets its contract. The loop's invariant is `Checking`, for every topology that has these arcs: the standings are right
+-- for the routers passed, and each but the first was a candidate when placed.
 -- Assumes nothing.
-use Prim.Native.Nat.{_-_}
+use Prim.Native.Nat.{ℕ, _-_}
 use mathlib.Core.Bool.{true}
+use mathlib.Core.List.{List}
 use mathlib.Core.Path.{_≡_, sym, _∙_}
 use native.Mathlib.Omega.{arith}
+use borrow.Author.Count.{falls}
 use borrow.Author.Needs.{needs}
 use borrow.Author.Tests.{not-true, not-false}
 use lib.Dec.{leb}
-use lib.ListN.{getD}
+use lib.ListN.{length, getD, set, replicate}
+use Rattle.stations.specs.declared.Topology.{Topology}
+use Rattle.arcs.specs.declared.Arcs.{Arcs}
 use Rattle.distances.specs.Slots.{Slots}
+use Rattle.order.specs.declared.Mode.{Mode}
+use Rattle.order.specs.Inner.{Standing, Stepped, Begins}
+use Rattle.order.specs.Proposed.{LaidOut}
 use Rattle.order.proofs.Turn.{every-slot, slots, zeros-small, first-slots, first-room}
-use Rattle.order.proofs.Checking.{Checking, first-turn, place, has-room, unready, again, none-unready}
+use Rattle.order.proofs.Checking.{Checking, begins-short, first-turn, place, has-room, unready, again, none-unready}
 use Rattle.order.proofs.proposal.unready_rank.Statement.{statement}
 use Rattle.order.proofs.proposal.unready_rank.Tie as tie
 
+-- the standings once d is placed
+abbrev FirstOf : Topology → Arcs → ℕ → Mode → List ℕ → List ℕ → Type 0
+FirstOf t a d m ds keys =
+    (start : List ℕ) × Standing (a .count) (a .to) (a .cost) ds (replicate 64 0) m (t .routers) start
+    × Stepped (set start d 0) (a .to) (a .back) ds m d (getD (a .count) d 0) keys
+
 abbrev Inv-loop : tie.InvT-loop
-Inv-loop t d mode order a ds keys₀ count rank₀ keys rank = Checking t a d mode ds order keys rank
+Inv-loop d mode order a ds keys₀ count rank₀ keys rank =
+    (t : Topology) → LaidOut t a d mode ds → Begins t d order → FirstOf t a d mode ds keys₀ → Checking t a d mode ds order keys rank
 
 abbrev μ-loop : tie.MeasureT-loop
-μ-loop t d mode order a ds keys₀ count rank₀ keys rank = t .routers - rank
+μ-loop d mode order a ds keys₀ count rank₀ keys rank = length order - rank
 
 standings-requires : tie.Need-standings-requires Inv-loop μ-loop
 standings-requires c κs =
@@ -39,54 +53,59 @@ count-in-requires c κs =
     (first-slots g, first-room g (zeros-small g) (stands .standings .ensures))
 
 loop-holds : tie.Need-loop-holds Inv-loop μ-loop
-loop-holds c =
-    let (g, p) = start (stood c) .pre in first-turn g p (stood c .standings .ensures) (c .count-in .ensures)
+loop-holds c t g p (keys, stands, step) = first-turn g p stands step
 
-shared-slice-read-u : tie.Need-shared-slice-read-u Inv-loop μ-loop
-shared-slice-read-u c = omega (arith, c .before .before .before .loop .inv .proposed .long, c .before .if1 .taken)
+-- what holds before a turn, for the topology of the call
+before : (c : tie.At-loop Inv-loop μ-loop) →
+    let args = start (stood (c .before)) .args in
+    Checking (args .t) (args .t2) (args .d) (args .mode) (args .t3) (args .order .now) (c .loop .keys) (c .loop .rank)
+before c =
+    let (g, p) = start (stood (c .before)) .pre in
+    c .loop .inv _ g p (_, stood (c .before) .standings .ensures, c .before .count-in .ensures)
 
 -- the router of this turn
 at-place : (c : tie.After-shared-slice-known2 Inv-loop μ-loop) →
-    let args = start (stood (c .before .before .before .before)) .args in
-    let u = getD (args .order .now) (c .before .before .before .loop .rank) 0 in
+    let args = start (stood (c .before .before .before)) .args in
+    let u = getD (args .order .now) (c .before .before .loop .rank) 0 in
     Slots (args .t2 .to) (args .t2 .back) (args .t3) u (getD (args .t2 .count) u 0)
 at-place c =
-    let w = c .before .before .before .loop .inv in
-    slots (w .given) (place w (c .before .if1 .taken))
+    let w = before (c .before .before) in
+    slots (w .given) (place w (c .before .loop-test .taken))
 
 returns : tie.Need-returns Inv-loop μ-loop
 returns c =
     let here = c .before .before in
-    unready (here .before .before .before .loop .inv) (here .before .if1 .taken) (sym (c .before .is-candidate .ensures) ∙ not-true _ (c .if2 .taken))
+    unready (before (here .before .before)) (here .before .loop-test .taken) (sym (c .before .is-candidate .ensures) ∙ not-true _ (c .if1 .taken))
 
 -- from the test that it passed back to the router of the turn
-abbrev at : tie.Else2 Inv-loop μ-loop → tie.After-shared-slice-known2 Inv-loop μ-loop
+abbrev at : tie.Else1 Inv-loop μ-loop → tie.After-shared-slice-known2 Inv-loop μ-loop
 at c = c .before .before
 
-abbrev going : tie.Else2 Inv-loop μ-loop → tie.At-loop Inv-loop μ-loop
-going c = at c .before .before .before
+abbrev going : tie.Else1 Inv-loop μ-loop → tie.At-loop Inv-loop μ-loop
+going c = at c .before .before
 
-ready : (c : tie.Else2 Inv-loop μ-loop) →
+ready : (c : tie.Else1 Inv-loop μ-loop) →
     leb 17472 (getD (going c .loop .keys) (getD (start (stood (going c .before)) .args .order .now) (going c .loop .rank) 0) 0) ≡ true
-ready c = sym (c .before .is-candidate .ensures) ∙ not-false _ (c .if2 .left)
+ready c = sym (c .before .is-candidate .ensures) ∙ not-false _ (c .if1 .left)
 
 count-in-requires-2 : tie.Need-count-in-requires-2 Inv-loop μ-loop
 count-in-requires-2 c κs =
     let e = c .before .before .before .before .before .before in
-    (at-place (at e), has-room (going e .loop .inv) (at e .before .if1 .taken) (ready e))
+    (at-place (at e), has-room (before (going e)) (at e .before .loop-test .taken) (ready e))
 
 add-rank : tie.Need-add-rank Inv-loop μ-loop
 add-rank c =
     let e = c .before .before .before .before .before .before .before in
-    omega (arith, at e .before .if1 .taken, every-slot (going e .loop .inv .given) .most)
+    let (g, p) = start (stood (going e .before)) .pre in
+    omega (arith, at e .before .loop-test .taken, begins-short p, every-slot g .most)
 
 loop-again : tie.Need-loop-again Inv-loop μ-loop
-loop-again c =
+loop-again c t g p f =
     let e = c .before .before .before .before .before .before .before in
-    again (going e .loop .inv) (at e .before .if1 .taken) (ready e) (c .count-in2 .ensures)
+    again (going e .loop .inv t g p f) (at e .before .loop-test .taken) (ready e) (c .count-in2 .ensures)
 
 returns-2 : tie.Need-returns-2 Inv-loop μ-loop
-returns-2 c = none-unready (c .before .before .loop .inv) (c .if1 .left)
+returns-2 c = none-unready (before (c .before)) (c .loop-test .left)
 
 pub unready-rank-spec : {M : Type 1} → statement M
 unready-rank-spec =
@@ -99,7 +118,7 @@ unready-rank-spec =
     (λ c. omega (arith, first-slots (start (c .before) .pre .0) .few))
     count-in-requires
     loop-holds
-    shared-slice-read-u
+    (λ c. search needs)
     (λ c. omega (arith, at-place c .place))
     (λ c. omega (arith, at-place c .place))
     (λ c. at-place c .place)
@@ -109,6 +128,6 @@ unready-rank-spec =
     (λ c. omega (arith, at-place (at (c .before)) .few))
     count-in-requires-2
     add-rank
-    (λ c. search needs)
+    (λ c. let e = c .before .before .before .before .before .before .before in falls _ _ (at e .before .loop-test .taken))
     loop-again
     returns-2)

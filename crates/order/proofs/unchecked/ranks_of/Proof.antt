@@ -1,5 +1,5 @@
 -- `order::unchecked::ranks_of` meets its contract. The loop's invariant: each place that stands at a rank passed has its rank, and each that the
--- order does not hold has 0. The place of this turn stands at no rank before, so its rank is this one.
+-- order does not hold has 255. The place of this turn stands at no rank before, so its rank is this one.
 -- Assumes nothing.
 use Prim.Native.Nat.{ℕ, suc, _+_, _-_, _≤_, _<_}
 use mathlib.Core.List.{List, [], _∷_, _++_, List·Memᴰ, List·Memᴰ·head, List·Memᴰ·not-nil, List·Memᴰ·append-cases}
@@ -28,13 +28,13 @@ zeroth = record { 0 = 0 }
 abbrev Inv-loop : tie.InvT-loop
 Inv-loop order by₀ n rank₀ by rank =
     (rank ≤ n) × (length by ≡ 64) × ((v : ℕ) → List·Memᴰ v (take rank order) → getD by v zeroth .0 ≡ row.rank order v)
-    × ((v : ℕ) → v < 64 → (List·Memᴰ v order → ⊥) → getD by v zeroth .0 ≡ 0)
+    × ((v : ℕ) → v < 64 → (List·Memᴰ v order → ⊥) → getD by v zeroth .0 ≡ 255)
 
 abbrev μ-loop : tie.MeasureT-loop
 μ-loop order by₀ n rank₀ by rank = n - rank
 
 loop-holds : tie.Need-loop-holds Inv-loop μ-loop
-loop-holds c = (omega arith, refl, λ v m. absurd (List·Memᴰ·not-nil m), λ v h out. ap (λ (x : Rank). x .0) (getD-replicate 64 v zeroth zeroth h))
+loop-holds c = (omega arith, refl, λ v m. absurd (List·Memᴰ·not-nil m), λ v h out. ap (λ (x : Rank). x .0) (getD-replicate 64 v (record { 0 = 255 }) zeroth h))
 
 -- the place at rank r
 module _ (order : List ℕ) (ranked : Ranked order) (r : ℕ) (h : r < length order) where
@@ -65,10 +65,10 @@ module _ (order : List ℕ) (ranked : Ranked order) (r : ℕ) (h : r < length or
       (λ _. turn)
       (λ v apart m. ⊎-elim (passed v) (λ last. absurd (apart (List·Memᴰ·eq-of-singleton last))) (List·Memᴰ·append-cases (take r order) m)))
 
-  others-more : (by : List Rank) → length by ≡ 64 → ((v : ℕ) → v < 64 → (List·Memᴰ v order → ⊥) → getD by v zeroth .0 ≡ 0) →
-      (v : ℕ) → v < 64 → (List·Memᴰ v order → ⊥) → getD (set by (getD order r 0) (record { 0 = r })) v zeroth .0 ≡ 0
+  others-more : (by : List Rank) → length by ≡ 64 → ((v : ℕ) → v < 64 → (List·Memᴰ v order → ⊥) → getD by v zeroth .0 ≡ 255) →
+      (v : ℕ) → v < 64 → (List·Memᴰ v order → ⊥) → getD (set by (getD order r 0) (record { 0 = r })) v zeroth .0 ≡ 255
   others-more by long passed =
-      stored (λ v x. v < 64 → (List·Memᴰ v order → ⊥) → x .0 ≡ 0) by (getD order r 0) _ zeroth (omega (arith, place))
+      stored (λ v x. v < 64 → (List·Memᴰ v order → ⊥) → x .0 ≡ 255) by (getD order r 0) _ zeroth (omega (arith, place))
       (λ _ out. absurd (out held))
       (λ v apart. passed v)
 

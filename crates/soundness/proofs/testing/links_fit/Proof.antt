@@ -1,5 +1,4 @@
--- The loop's invariant: the links before `i` are sound and no two link one pair; tables have their pairs and each place's neighbours, at most 16. If
--- the links after them are sound too, the labels are those of `Labels` after the links before `i`.
+-- The loop's invariant: the links before `i` are sound and no two link one pair; tables have their pairs and each place's neighbours, at most 16.
 -- Assumes nothing.
 use Prim.Native.Nat.{ℕ, _+_, _*_, _-_, _≤_, _<_}
 use mathlib.Core.Bool.{false, not, and-false}
@@ -9,7 +8,6 @@ use mathlib.Core.Path.{_≡_, ap, sym, _∙_}
 use native.Mathlib.Omega.{arith}
 use borrow.Author.Needs.{needs}
 use borrow.Author.Tests.{leb-true, leb-false, eqb-true, eqb-false}
-use lib.Dec.{T}
 use lib.ListN.{length, take, getD}
 use Rattle.network.specs.Lists.{any}
 use Rattle.network.specs.Network.{Link, samePair}
@@ -19,44 +17,36 @@ use Rattle.stations.specs.declared.Topology.{Topology}
 use Rattle.stations.specs.Topology.{noLink, contents, seen}
 use Rattle.stations.proofs.Machine.{ids-length, links-length, cost-fits, back-fits}
 use Rattle.stations.proofs.Prefix.{map-more}
-use Rattle.soundness.specs.Sound.{wellLinked}
-use Rattle.soundness.proofs.InTurn.{links-fit, well-linked}
+use Rattle.soundness.proofs.InTurn.{links-fit}
 use Rattle.soundness.proofs.Turns.{Passing, passed, failed, none-passed, all-passed}
 use Rattle.soundness.proofs.Links.{links-sound, sound-grow, sound-passes, unsound-fails, pairs-apart, pairs-grow}
 use Rattle.soundness.proofs.Pairs.{Tabled, tabled-none, tabled-more}
 use Rattle.soundness.proofs.Crowds.{Tallied, tallied-none, tallied-more, all-uncrowded, crowded}
-use Rattle.soundness.proofs.Labels.{Asked, Turn, After, after-none, after-same, after-merged, after-all}
-use Rattle.soundness.proofs.Lowest.{one-joined}
 use Rattle.soundness.proofs.testing.links_fit.Statement.{statement}
 use Rattle.soundness.proofs.testing.links_fit.Tie as tie
 
 abbrev Inv-loop : tie.InvT-loop
-Inv-loop t n links linked₀ count₀ labels₀ i₀ linked count labels i =
+Inv-loop t n links linked₀ count₀ i₀ linked count i =
     let ls = map seen (take i (t .link)) in
     Passing (links-sound n) (t .link) (t .links) i × Passing pairs-apart (t .link) (t .links) i × Tabled linked ls × Tallied count ls
-    × (length (t .id) ≡ 64) × (T (wellLinked t) → After t i labels)
+    × (length (t .id) ≡ 64)
 
 abbrev μ-loop : tie.MeasureT-loop
-μ-loop t n links linked₀ count₀ labels₀ i₀ linked count labels i = links - i
-
-asked : (c : tie.Start Inv-loop μ-loop) → T (wellLinked (c .args .t1)) → Asked (c .args .t1)
-asked c well = record { counted = c .pre .0; well = well; slots = links-length (c .args .t1) _ (c .good .0) }
+μ-loop t n links linked₀ count₀ i₀ linked count i = links - i
 
 loop-holds : tie.Need-loop-holds Inv-loop μ-loop
 loop-holds c =
-    let s = c .before in
-    let long = links-length (s .args .t1) _ (s .good .0) in (
-      none-passed (sound-grow _) _ _ (omega (arith, long, s .pre .0 .links-fit)),
-      none-passed pairs-grow _ _ (omega (arith, long, s .pre .0 .links-fit)),
+    let long = links-length (c .args .t1) _ (c .good .0) in (
+      none-passed (sound-grow _) _ _ (omega (arith, long, c .pre .links-fit)),
+      none-passed pairs-grow _ _ (omega (arith, long, c .pre .links-fit)),
       tabled-none,
       tallied-none,
-      ids-length (s .args .t1) _ (s .good .0),
-      λ well. rw (c .separate .ensures) (after-none (asked s well)),
+      ids-length (c .args .t1) _ (c .good .0),
     )
 
 -- the topology, and the link of a turn
 abbrev topology : tie.In-loop Inv-loop μ-loop → Topology
-topology w = w .before .before .before .args .t1
+topology w = w .before .before .args .t1
 
 abbrev link-at : tie.In-loop Inv-loop μ-loop → Link
 link-at w = seen (getD (topology w .link) (w .before .loop .i) noLink)
@@ -98,9 +88,9 @@ sound-link c =
       second-listed = omega (arith, second-in c);
       ends-differ = λ e. c .before .before .before .before .if3 .left (omega arith);
       cost-least = omega (arith, eqb-false);
-      cost-most = omega (arith, cost-fits (topology w) _ (w .before .before .before .good .0) _ m);
+      cost-most = omega (arith, cost-fits (topology w) _ (w .before .before .good .0) _ m);
       back-least = omega (arith, eqb-false);
-      back-most = omega (arith, back-fits (topology w) _ (w .before .before .before .good .0) _ m);
+      back-most = omega (arith, back-fits (topology w) _ (w .before .before .good .0) _ m);
     }
 
 ends-are : (c : tie.Else5 Inv-loop μ-loop) →
@@ -131,7 +121,7 @@ refuse : (c : tie.Else5 Inv-loop μ-loop) (u : ℕ) → (link-at (turn c) .first
     16 ≤ getD (turn c .before .loop .count) u 0 → false ≡ links-fit (topology (turn c))
 refuse c u e many =
     let w = turn c .before in
-    let t = w .before .before .args .t1 in
+    let t = w .before .args .t1 in
     let h : u < t .routers = ⊎-elim (λ f. omega (arith, sound-link c)) (λ s. omega (arith, sound-link c)) e in
     let n = w .loop .inv .3 .at u (omega arith) in
     rw (sym (crowded t (omega arith) u (w .loop .i) noLink h (omega arith) (w .loop .inv .0 .long) e (omega (arith, n))), and-false)
@@ -142,53 +132,35 @@ returns-4 c =
     ⊎-elim (λ w. refuse l _ (inl (sym (ends-are l .0))) (w .taken)) (λ w. refuse l _ (inr (sym (ends-are l .1))) (leb-true _ _ (w .1 .taken)))
     (c .if7 .came)
 
--- the turn of a link that passes every test, as `Labels` has it
-labelling : (c : tie.Else5 Inv-loop μ-loop) → T (wellLinked (topology (turn c))) →
-    Turn (topology (turn c)) (turn c .before .loop .i) (ends-of c .before .index .result) (ends-of c .index2 .result)
-unfolding seen
-labelling c well =
-    let w = turn c in
-    record { asked = asked (w .before .before .before) well; within = w .loop-test .taken; first-end = ends-are c .0; second-end = ends-are c .1 }
-
 loop-again : tie.Need-loop-again Inv-loop μ-loop
 unfolding noLink
 loop-again c =
-    let e = c .before in
-    let p = e .before .before in
+    let p = c .before .before in
     let l = p .before in
     let w = turn l .before in
     let k = link-at (turn l) in
     let s = sound-link l in
     let (f, g) = ends-are l in
-    let h = w .loop .inv .5 in
     let within = turn l .loop-test .taken in
-    let more = map-more seen (w .before .before .args .t1 .link) (w .loop .i) noLink (omega (arith, within, w .loop .inv .0 .long)) in (
+    let differ = l .before .before .before .before .if3 .left in
+    let more = map-more seen (w .before .args .t1 .link) (w .loop .i) noLink (omega (arith, within, w .loop .inv .0 .long)) in (
       passed (sound-grow _) (w .loop .inv .0) within noLink (sound-passes _ _ s),
       passed pairs-grow (w .loop .inv .1) within noLink (ap not (sym (tabled l) ∙ p .if6 .left)),
       rw more (tabled-more (w .loop .inv .2) k (omega (arith, s)) (omega (arith, s)) f g),
       rw more
-          (tallied-more (w .loop .inv .3) k f g (ends l .0) (ends l .1) (l .before .before .before .before .if3 .left) (e .before .if7 .left) (leb-false _ _ (e .if8 .left))),
+          (tallied-more (w .loop .inv .3) k f g (ends l .0) (ends l .1) differ (c .before .if7 .left) (leb-false _ _ (c .if8 .left))),
       w .loop .inv .4,
-      λ well.
-          ⊎-elim (λ v. rw (v .2, v .1 .ensures) (after-merged (labelling l well) (h well)))
-          (λ v. rw (v .1) (after-same (labelling l well) (h well) (v .0 .left))) (c .if9 .came),
     )
 
 returns-5 : tie.Need-returns-5 Inv-loop μ-loop
 unfolding contents
 returns-5 c =
-    let w = c .before .before in
-    let left = c .before .loop-test .left in
-    let start = w .before .before in
-    let t = start .args .t1 in
+    let w = c .before in
+    let t = w .before .args .t1 in
     let e : w .loop .i ≡ t .links = omega (arith, w .loop .inv .0 .within) in
     let n = w .loop .inv .3 in
     let few = all-uncrowded t (omega arith) (λ u h. rw (← e) (omega (arith, n .at u (omega arith), n .most u (omega arith)))) in
-    let each = all-passed (w .loop .inv .0) left in
-    let pairs = all-passed (w .loop .inv .1) left in
-    let well = well-linked t _ (start .good .0) (start .pre .0) (start .pre .1) (sym each) (sym pairs) in
-    let labels = after-all (asked start well) left (w .loop .inv .0 .within) (w .loop .inv .5 well) in
-    rw (sym each, sym pairs, sym few) (one-joined (start .pre .0) well (w .loop .inv .4) (start .pre .2) labels _ (c .are-one .ensures))
+    rw (sym (all-passed (w .loop .inv .0) (c .loop-test .left)), sym (all-passed (w .loop .inv .1) (c .loop-test .left)), sym few)
 
 pub links-fit-spec : {M : Type 1} → statement M
 links-fit-spec =
@@ -196,7 +168,6 @@ links-fit-spec =
     (tie.spec
     Inv-loop
     μ-loop
-    (λ c κs. tt)
     loop-holds
     (λ c. search needs)
     (λ c. search needs)
@@ -225,11 +196,7 @@ links-fit-spec =
     (λ c. omega (arith, leb-false))
     (λ c. omega (arith, ends (c .before .before .before)))
     (λ c. ends (c .before .before .before) .1)
-    (λ c. ends (c .before .before .before) .0)
-    (λ c. ends (c .before .before .before) .1)
-    (λ c κs. tt)
     (λ c. search needs)
     (λ c. omega arith)
     loop-again
-    (λ c κs. omega arith)
     returns-5)

@@ -1,20 +1,23 @@
 -- `table::unchecked::build` meets its contract: the order that is built is accepted in free mode, so its table can be filled.
 -- Assumes nothing.
+use Prim.Native.Nat.{_-_, _≤_}
+use mathlib.Core.List.{append-assoc}
 use mathlib.Core.Path.{_≡_, refl, sym, ap, _∙_}
 use native.Mathlib.Omega.{arith}
 use borrow.Author.Needs.{needs}
-use lib.ListN.{length, take, length-append, length-drop}
+use lib.ListN.{length, take, drop, replicate, length-take}
 use lib.Seq.{take-at}
-use Rattle.network.specs.Order.{build}
-use Rattle.stations.specs.Topology.{networkOf}
+use Rattle.network.specs.Order.{free, build}
+use Rattle.network.specs.Theorems.Order.{Accepted}
+use Rattle.stations.specs.Topology.{padded, networkOf}
 use Rattle.soundness.proofs.Sound.{sound-exact}
 use Rattle.distances.specs.Settled.{Settled}
 use Rattle.distances.proofs.Slots.{laid-out}
-use Rattle.order.specs.Proposed.{Lent}
-use Rattle.order.specs.Calls.{modeOf}
-use Rattle.order.proofs.Reached.{built-long}
-use Rattle.order.proofs.Turn.{settled-serve}
-use Rattle.table.proofs.Calling.{fillable, built-free}
+use Rattle.order.specs.Proposed.{Lent, Measured}
+use Rattle.order.specs.Calls.{modeOf, reachedCount, orderBytes}
+use Rattle.order.proofs.Turn.{settled-serve, counts-reached}
+use Rattle.order.proofs.Orders.{few-reached}
+use Rattle.table.proofs.Calling.{free-long, fillable, built-free}
 use Rattle.table.proofs.unchecked.build.Statement.{statement}
 use Rattle.table.proofs.unchecked.build.Tie as tie
 
@@ -49,40 +52,63 @@ build-requires c κs =
 abbrev gone : tie.After-build → tie.After-to
 gone c = c .before .before .before .before .before .before .before .before .before .before
 
--- the first bytes are the order
-module _ (c : tie.After-build) where
-  long : let a = start (gone c) .args in length (build (networkOf (a .t1)) (a .destination .0) (modeOf (a .mode))) ≡ a .t1 .routers
-  long = let s = start (gone c) in built-long (s .args .t1) (s .pre .0) _ (s .pre .2) _
+-- from the count of the reached ranks back to the order
+abbrev built : tie.After-reached-count → tie.After-build
+built c = c .before .before .before
 
-  all : length (c .build .last .1 .1 .1 .1 .1 .1 .1 .1 .1 .0) ≡ 64
-  all =
-      ap length (c .build .ensures _ (laid (gone c)))
-      ∙ simp (length-append, length-drop, long) (omega (arith, sound-exact _ .0 (start (gone c) .pre .0) .routers-most))
+-- the first bytes are the order, as many as ranks are reached
+module _ (c : tie.After-reached-count) where
+  free-order : let a = start (gone (built c)) .args in
+      Accepted (networkOf (a .t1)) (a .destination .0) free (build (networkOf (a .t1)) (a .destination .0) (modeOf (a .mode)))
+  free-order = let s = start (gone (built c)) in built-free (s .args .t1) (s .pre .0) _ (s .pre .2) (s .args .mode)
 
-  front : let a = start (gone c) .args in
-      take (a .t1 .routers) (c .build .last .1 .1 .1 .1 .1 .1 .1 .1 .1 .0) ≡ build (networkOf (a .t1)) (a .destination .0) (modeOf (a .mode))
+  measured : let a = start (gone (built c)) .args in Measured (a .t1) (a .t2) (a .destination .0) (gone (built c) .to .result)
+  measured =
+      let s = start (gone (built c)) in
+      record { is-sound = s .pre .0; holds = s .pre .1; place = s .pre .2; settled = settled (gone (built c)) }
+
+  reach : let a = start (gone (built c)) .args in c .reached-count .result ≡ reachedCount (networkOf (a .t1)) (a .destination .0)
+  reach = c .reached-count .ensures ∙ counts-reached measured
+
+  long : let a = start (gone (built c)) .args in length (build (networkOf (a .t1)) (a .destination .0) (modeOf (a .mode))) ≡ c .reached-count .result
+  long = let s = start (gone (built c)) in free-long (s .args .t1) (s .pre .0) _ (s .pre .2) free-order ∙ sym reach
+
+  few : c .reached-count .result ≤ start (gone (built c)) .args .t1 .routers
+  few = let s = start (gone (built c)) in omega (arith, reach, few-reached (s .args .t1) (s .pre .0) _ (s .pre .2))
+
+  front : let a = start (gone (built c)) .args in
+      take (c .reached-count .result) (built c .build .last .1 .1 .1 .1 .1 .1 .1 .1 .1 .0) ≡ build (networkOf (a .t1)) (a .destination .0) (modeOf (a .mode))
+  unfolding orderBytes padded
   front =
-      let count = start (gone c) .args .t1 .routers in
-      ap (take count) (c .build .ensures _ (laid (gone c))) ∙ take-at _ _ count long
+      let a = start (gone (built c)) .args in
+      let order = build (networkOf (a .t1)) (a .destination .0) (modeOf (a .mode)) in
+      ap (take (c .reached-count .result))
+      (built c .build .ensures _ (laid (gone (built c)))
+      ∙ append-assoc order (replicate (a .t1 .routers - length order) 255) (drop (a .t1 .routers) (replicate 64 0)))
+      ∙ take-at order _ (c .reached-count .result) long
 
-array-share-prefix-order : tie.Need-array-share-prefix-order
-array-share-prefix-order c =
-    let b = c .before in omega (arith, all b, sound-exact _ .0 (start (gone b) .pre .0) .routers-most)
+  all : c .reached-count .result ≤ length (built c .build .last .1 .1 .1 .1 .1 .1 .1 .1 .1 .0)
+  all =
+      omega (
+        arith,
+        ap length front,
+        long,
+        length-take (c .reached-count .result) (built c .build .last .1 .1 .1 .1 .1 .1 .1 .1 .1 .0),
+      )
 
 slice-aggregate-fill : tie.Need-slice-aggregate-fill
-slice-aggregate-fill c = let b = c .before .before in sym (ap length (front b) ∙ long b)
+slice-aggregate-fill c = let r = c .before in sym (ap length (front r) ∙ long r)
 
 fill-requires : tie.Need-fill-requires
 fill-requires c κs =
-    let b = c .before .before .before in
-    let s = start (gone b) in (
-      rw (front b) (fillable _ (s .pre .0) _ (s .pre .2) (s .pre .1) (settled (gone b)) (sound-exact _ .0 (s .pre .0) .limit-most)
-          (built-free _ (s .pre .0) _ (s .pre .2) _)),
+    let r = c .before .before in
+    let s = start (gone (built r)) in (
+      rw (front r) (fillable _ (s .pre .0) _ (s .pre .2) (s .pre .1) (settled (gone (built r))) (sound-exact _ .0 (s .pre .0) .limit-most) (free-order r)),
       s .pre .3,
     )
 
 returns : tie.Need-returns
-returns c = let b = c .before .before .before .before .before .before in rw (← front b) (c .before .before .fill .ensures)
+returns c = let r = c .before .before .before .before .before in rw (← front r) (c .before .before .fill .ensures)
 
 pub build-spec : {M : Type 1} → statement M
 build-spec =
@@ -91,7 +117,8 @@ build-spec =
     to-requires
     (λ c. search needs)
     build-requires
-    array-share-prefix-order
+    (λ c κs. let s = start (gone (c .before .before)) in sound-exact _ .0 (s .pre .0) .routers-most)
+    all
     slice-aggregate-fill
     fill-requires
     (λ c. search needs)

@@ -1,47 +1,82 @@
--- `table::unchecked::first_wrong` meets its contract: the room is filled with what filling would give for the table's order and its header's K, and the
--- first difference is the first wrong byte.
+-- `table::unchecked::first_wrong` meets its contract: the room is filled with what filling would give for the table's order and its header's K, so its
+-- ranks are those of the order, and the first difference is the first wrong byte.
 -- Assumes nothing.
-use Prim.Native.Nat.{_+_, _*_, _≤_}
+use Prim.Native.Nat.{ℕ, _+_, _*_, _≤_}
+use mathlib.Core.List.{List}
 use mathlib.Core.Path.{_≡_, refl, sym, ap, _∙_}
 use native.Mathlib.Omega.{arith}
 use borrow.Author.Needs.{needs}
+use borrow.Author.Tests.{not-true, not-false}
 use denote.Ref.{now}
+use lib.Dec.{eqb}
 use lib.ListN.{length, getD, take, length-take}
-use lib.Seq.{length-take-le, take-at}
-use Rattle.stations.specs.Topology.{networkOf}
+use lib.Seq.{take-at, take-take}
+use Rattle.network.specs.Lists.{below, every}
+use Rattle.stations.specs.Topology.{padded, networkOf}
 use Rattle.soundness.proofs.Sound.{sound-exact}
-use Rattle.distances.specs.Settled.{Settled}
-use Rattle.distances.proofs.Slots.{laid-out}
+use Rattle.order.specs.Calls.{reachedCount, orderBytes}
+use Rattle.order.proofs.Turn.{counts-reached}
+use Rattle.order.proofs.Orders.{few-reached}
 use Rattle.rows.specs.Bytes.{tableBytes, rowStart}
-use Rattle.table.specs.Listed.{destinationIn, limitIn, orderIn}
-use Rattle.table.specs.Calls.{wrongBytes}
-use Rattle.table.specs.Theorems.{SoundStart}
-use Rattle.table.proofs.Accepting.{starts}
+use Rattle.table.specs.Listed.{destinationIn, limitIn, rankIn, orderIn}
+use Rattle.table.specs.Calls.{soundRanks, wrongBytes}
+use Rattle.table.specs.Inner.{firstWrong}
+use Rattle.table.specs.Theorems.{TableIs}
+use Rattle.table.proofs.Accepting.{header-limit}
 use Rattle.table.proofs.Bytes.{bytes-exact}
-use Rattle.table.proofs.Calling.{fillable, begins-with}
+use Rattle.table.proofs.Calling.{free-long, fillable, begins-with, ranks-same}
 use Rattle.table.proofs.Verdicts.{table-long}
 use Rattle.table.proofs.unchecked.first_wrong.Statement.{statement}
 use Rattle.table.proofs.unchecked.first_wrong.Tie as tie
 
 module _ (c : tie.Start) where
-  -- header and ranks are sound, and there are at most 64 routers
-  start : SoundStart (c .args .t) (now (c .args .table)) (orderIn (c .args .t .routers) (now (c .args .table)))
-  start = starts (c .args .t) (c .pre .on-sound) (now (c .args .table)) (c .pre .passes)
-
+  -- there are at most 64 routers, and the header's K is at most 16
   few : c .args .t .routers ≤ 64
-  few = sound-exact (c .args .t) .0 (c .pre .on-sound) .routers-most
+  few = sound-exact (c .args .t) .0 (c .pre .measured .is-sound) .routers-most
+
+  limit-most : getD (now (c .args .table)) 3 0 ≤ 16
+  limit-most = header-limit (c .args .t) (c .pre .measured .is-sound) (now (c .args .table)) (c .pre .header)
 
   long : length (now (c .args .table)) ≡ 4 + 19 * c .args .t .routers
   unfolding rowStart
   long = c .pre .long
 
-  fits : c .args .t .routers ≤ length (c .args .t4)
-  fits = begins-with (c .args .t .routers) (c .args .t4) (now (c .args .table)) (c .pre .order-is)
+  -- the order that the ranks form, and what filling would give for it
+  abbrev formed : List ℕ
+  formed = orderIn (c .args .t .routers) (now (c .args .table))
 
-  -- what filling would give is as long
-  its-long : length (tableBytes (networkOf (c .args .t)) (getD (now (c .args .table)) 1 0) (getD (now (c .args .table)) 3 0) (orderIn (c .args .t .routers) (now (c .args .table))))
-      ≡ 4 + 19 * c .args .t .routers
-  its-long = table-long (c .args .t) (c .pre .on-sound) (bytes-exact (networkOf (c .args .t)) _ _ (start .limit-most) _ _ .0 refl)
+  abbrev other : List ℕ
+  other = tableBytes (networkOf (c .args .t)) (getD (now (c .args .table)) 1 0) (getD (now (c .args .table)) 3 0) formed
+
+  its-bytes : TableIs (networkOf (c .args .t)) (getD (now (c .args .table)) 1 0) (getD (now (c .args .table)) 3 0) formed other
+  its-bytes = bytes-exact (networkOf (c .args .t)) _ _ limit-most formed other .0 refl
+
+  its-long : length other ≡ 4 + 19 * c .args .t .routers
+  its-long = table-long (c .args .t) (c .pre .measured .is-sound) its-bytes
+
+  -- it begins the order that is lent
+  reach : length formed ≡ reachedCount (networkOf (c .args .t)) (destinationIn (now (c .args .table)))
+  reach = free-long (c .args .t) (c .pre .measured .is-sound) _ (c .pre .measured .place) (c .pre .in-free)
+
+  fits : length formed ≤ c .args .t .routers
+  fits = omega (arith, reach, few-reached (c .args .t) (c .pre .measured .is-sound) _ (c .pre .measured .place))
+
+  part : take (length formed) (c .args .t5) ≡ formed
+  unfolding orderBytes padded
+  part =
+      sym (take-take (length formed) (c .args .t .routers) (c .args .t5) fits)
+      ∙ ap (take (length formed)) (c .pre .order-is ∙ c .pre .bytes-are)
+      ∙ take-at formed _ (length formed) refl
+
+  holds-order : length formed ≤ length (c .args .t5)
+  holds-order = omega (arith, fits, begins-with (c .args .t .routers) (c .args .t5) (now (c .args .table)) (c .pre .order-is))
+
+  -- the test of ranks goes by what filling would give
+  ranks : soundRanks (networkOf (c .args .t)) (c .args .t .routers) (now (c .args .table))
+      ≡ every (λ u. eqb (rankIn (now (c .args .table)) u) (rankIn other u)) (below (c .args .t .routers))
+  unfolding destinationIn
+  ranks =
+      ranks-same (c .args .t) (c .pre .measured .is-sound) (now (c .args .table)) other _ _ refl (c .pre .measured .place) (c .pre .in-free) its-bytes
 
 shared-slice-read-limit : tie.Need-shared-slice-read-limit
 shared-slice-read-limit c = omega (arith, long (c .before .before))
@@ -49,61 +84,67 @@ shared-slice-read-limit c = omega (arith, long (c .before .before))
 shared-slice-read-limit-2 : tie.Need-shared-slice-read-limit-2
 shared-slice-read-limit-2 c = omega (arith, long (c .before .before .before))
 
-to-requires : tie.Need-to-requires
-to-requires c κs =
-    let s : tie.Start = c .before .before .before .before .before .before .before in
-    ((_, laid-out _ _ (s .pre .on-sound) (s .pre .holds)), start s .destination)
+-- from the count of the reached ranks back to the start: it is as many as the order has
+abbrev begun : tie.After-reached-count → tie.Start
+begun c = c .before .before .before .before .before
 
--- from the distances back to the start
-abbrev begun : tie.After-to → tie.Start
-begun c = c .before .before .before .before .before .before .before .before
+counts : (c : tie.After-reached-count) → c .reached-count .result ≡ length (formed (begun c))
+counts c = c .reached-count .ensures ∙ counts-reached (begun c .pre .measured) ∙ sym (reach (begun c))
 
-settled : (c : tie.After-to) → let a = begun c .args in Settled (networkOf (a .t)) (getD (now (a .table)) 1 0) (c .to .result)
-settled c = c .to .ensures _ (laid-out _ _ (begun c .pre .on-sound) (begun c .pre .holds))
-
-array-share-prefix-order : tie.Need-array-share-prefix-order
-array-share-prefix-order c = fits (begun (c .before))
-
-slice-aggregate-fill : tie.Need-slice-aggregate-fill
-slice-aggregate-fill c = let s = begun (c .before .before) in sym (length-take-le _ _ (fits s))
+front : (c : tie.After-reached-count) → take (c .reached-count .result) (begun c .args .t5) ≡ formed (begun c)
+front c = ap (λ (k : ℕ). take k (begun c .args .t5)) (counts c) ∙ part (begun c)
 
 fill-requires : tie.Need-fill-requires
-unfolding rowStart
+unfolding rowStart destinationIn
 fill-requires c κs =
-    let s = begun (c .before .before .before) in
-    let d = settled (c .before .before .before) in (
-      rw (s .pre .order-is) (fillable _ (s .pre .on-sound) _ (start s .destination) (s .pre .holds) d (start s .limit-most) (start s .in-free)),
+    let r = c .before .before .before in
+    let s = begun r in
+    let m = s .pre .measured in (
+      rw (front r) (fillable _ (m .is-sound) _ (m .place) (m .holds) (m .settled) (limit-most s) (s .pre .in-free)),
       omega (arith, few s, c .before .before .room-for-table .ensures),
     )
 
 -- the room begins with what filling would give
 module _ (c : tie.After-fill) where
-  filled : let s = begun (c .before .before .before .before) in
-      take (length (now (s .args .table))) (c .fill .last .1 .1 .1 .1 .1 .1 .0)
-      ≡ tableBytes (networkOf (s .args .t)) (getD (now (s .args .table)) 1 0) (getD (now (s .args .table)) 3 0) (orderIn (s .args .t .routers) (now (s .args .table)))
+  abbrev counted : tie.After-reached-count
+  counted = c .before .before .before .before
+
+  filled : let s = begun counted in take (length (now (s .args .table))) (c .fill .last .1 .1 .1 .1 .1 .1 .0) ≡ other s
   filled =
-      let s = begun (c .before .before .before .before) in
-      ap (take (length (now (s .args .table)))) (rw (s .pre .order-is) at (c .fill .ensures)) ∙ take-at _ _ _ (its-long s ∙ sym (long s))
+      let s = begun counted in
+      ap (take (length (now (s .args .table)))) (rw (front counted) at (c .fill .ensures)) ∙ take-at _ _ _ (its-long s ∙ sym (long s))
 
-  as-long : let s = begun (c .before .before .before .before) in
-      length (take (length (now (s .args .table))) (c .fill .last .1 .1 .1 .1 .1 .1 .0)) ≡ length (now (s .args .table))
-  as-long = let s = begun (c .before .before .before .before) in ap length filled ∙ its-long s ∙ sym (long s)
+  as-long : let s = begun counted in length (take (length (now (s .args .table))) (c .fill .last .1 .1 .1 .1 .1 .1 .0)) ≡ length (now (s .args .table))
+  as-long = let s = begun counted in ap length filled ∙ its-long s ∙ sym (long s)
 
-array-share-prefix-room : tie.Need-array-share-prefix-room
-array-share-prefix-room c =
-    let f = c .before in
-    let s = begun (f .before .before .before .before) in
-    omega (arith, ap length (filled f), length-take (length (now (s .args .table))) (f .fill .last .1 .1 .1 .1 .1 .1 .0), its-long s, long s)
+  share : let s = begun counted in length (now (s .args .table)) ≤ length (c .fill .last .1 .1 .1 .1 .1 .1 .0)
+  share =
+      let s = begun counted in
+      omega (arith, as-long, length-take (length (now (s .args .table))) (c .fill .last .1 .1 .1 .1 .1 .1 .0))
 
-slice-aggregate-first-difference : tie.Need-slice-aggregate-first-difference
-slice-aggregate-first-difference c = sym (as-long (c .before .before))
+ranks-agree-requires : tie.Need-ranks-agree-requires
+unfolding rowStart
+ranks-agree-requires c κs =
+    let f = c .before .before in
+    let s = begun (counted f) in
+    (few s, omega (arith, long s), omega (arith, as-long f, long s))
 
-first-difference-requires : tie.Need-first-difference-requires
-first-difference-requires c κs = sym (as-long (c .before .before))
+-- what the test of ranks answers
+agrees : (c : tie.After-ranks-agree) → let s = begun (counted (c .before .before .before)) in
+    c .ranks-agree .result ≡ soundRanks (networkOf (s .args .t)) (s .args .t .routers) (now (s .args .table))
+agrees c =
+    let f = c .before .before .before in
+    rw (filled f) at (c .ranks-agree .ensures) ∙ sym (ranks (begun (counted f)))
 
 returns : tie.Need-returns
-unfolding wrongBytes destinationIn limitIn
-returns c = rw (filled (c .before .before .before)) at (c .first-difference .ensures)
+unfolding firstWrong
+returns c = rw (sym (agrees (c .before)) ∙ not-true _ (c .if1 .taken))
+
+returns-2 : tie.Need-returns-2
+unfolding firstWrong wrongBytes destinationIn limitIn
+returns-2 c =
+    let e : tie.Else1 = c .before .before in
+    rw (sym (agrees (e .before)) ∙ not-false _ (e .if1 .left)) (rw (filled (e .before .before .before .before)) at (c .first-difference .ensures))
 
 pub first-wrong-spec : {M : Type 1} → statement M
 first-wrong-spec =
@@ -111,13 +152,17 @@ first-wrong-spec =
     (tie.spec
     shared-slice-read-limit
     shared-slice-read-limit-2
-    to-requires
+    (λ c κs. few (c .before .before .before .before))
     (λ c κs. search needs)
-    array-share-prefix-order
-    slice-aggregate-fill
+    (λ c. let r = c .before in omega (arith, counts r, holds-order (begun r)))
+    (λ c. let r = c .before .before in sym (ap length (front r) ∙ sym (counts r)))
     (λ c. search needs)
     fill-requires
-    array-share-prefix-room
-    slice-aggregate-first-difference
-    first-difference-requires
-    returns)
+    (λ c. share (c .before))
+    (λ c. sym (as-long (c .before .before)))
+    ranks-agree-requires
+    returns
+    (λ c. share (c .before .before .before .before))
+    (λ c. sym (as-long (c .before .before .before .before .before)))
+    (λ c κs. sym (as-long (c .before .before .before .before .before)))
+    returns-2)

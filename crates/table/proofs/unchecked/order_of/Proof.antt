@@ -17,24 +17,24 @@ use Rattle.stations.specs.Inner.{firstOr}
 use Rattle.order.proofs.Runs.{down-none, down-more, down-all}
 use Rattle.distances.proofs.Stored.{stored}
 use Rattle.rows.specs.Bytes.{rowStart}
-use Rattle.table.specs.Listed.{rankIn, orderIn}
+use Rattle.table.specs.Listed.{rankIn, byRank}
 use Rattle.table.proofs.unchecked.order_of.Statement.{statement}
 use Rattle.table.proofs.unchecked.order_of.Tie as tie
 
--- the first of the places that has the rank r, or n
-abbrev first-with : ℕ → List ℕ → ℕ → List ℕ → ℕ
-first-with n table r us = firstOr n (keep (λ u. eqb (rankIn table u) r) us)
+-- the first of the places that has the rank r, or 255
+abbrev first-with : List ℕ → ℕ → List ℕ → ℕ
+first-with table r us = firstOr 255 (keep (λ u. eqb (rankIn table u) r) us)
 
 abbrev Inv-loop : tie.InvT-loop
-Inv-loop n table none order₀ u₀ order u =
-    (u ≤ n) × (length order ≡ 64) × ((r : ℕ) → r < n → getD order r 0 ≡ first-with n table r (numbersFrom u (n - u)))
+Inv-loop n table order₀ u₀ order u =
+    (u ≤ n) × (length order ≡ 64) × ((r : ℕ) → r < n → getD order r 0 ≡ first-with table r (numbersFrom u (n - u)))
 
 abbrev μ-loop : tie.MeasureT-loop
-μ-loop n table none order₀ u₀ order u = u
+μ-loop n table order₀ u₀ order u = u
 
 loop-holds : tie.Need-loop-holds Inv-loop μ-loop
 unfolding keep firstOr
-loop-holds c = (omega arith, refl, λ r h. rw (down-none) (getD-replicate {A = ℕ} 64 r (c .args .n) 0 (omega (arith, c .pre .0))))
+loop-holds c = (omega arith, refl, λ r h. rw (down-none) (getD-replicate {A = ℕ} 64 r 255 0 (omega (arith, c .pre .0))))
 
 mul-rank : tie.Need-mul-rank Inv-loop μ-loop
 mul-rank c = omega (arith, c .before .before .pre .0, c .before .loop .inv .0)
@@ -53,12 +53,12 @@ cast-rank : tie.Need-cast-rank Inv-loop μ-loop
 cast-rank c = omega (arith, c .shared-slice-known .given (4 + 19 * (c .before .before .loop .u - 1) + 1))
 
 -- a place more in front
-with-more : (n : ℕ) (table : List ℕ) (r u : ℕ) (us : List ℕ) → first-with n table r (u ∷ us) ≡ cond (eqb (rankIn table u) r) u (first-with n table r us)
+with-more : (table : List ℕ) (r u : ℕ) (us : List ℕ) → first-with table r (u ∷ us) ≡ cond (eqb (rankIn table u) r) u (first-with table r us)
 unfolding keep firstOr
-with-more n table r u us = cases (eqb (rankIn table u) r)
+with-more table r u us = cases (eqb (rankIn table u) r)
   where
-    cases : (b : Bool) → firstOr n (cond b (u ∷ keep (λ v. eqb (rankIn table v) r) us) (keep (λ v. eqb (rankIn table v) r) us))
-        ≡ cond b u (firstOr n (keep (λ v. eqb (rankIn table v) r) us))
+    cases : (b : Bool) → firstOr 255 (cond b (u ∷ keep (λ v. eqb (rankIn table v) r) us) (keep (λ v. eqb (rankIn table v) r) us))
+        ≡ cond b u (firstOr 255 (keep (λ v. eqb (rankIn table v) r) us))
     cases true = refl
     cases false = refl
 
@@ -73,10 +73,12 @@ loop-again c =
     let h = c .before .before .loop-test .taken in (
       omega (arith, at .loop .inv .0),
       simp length-set (at .loop .inv .1),
-      stored (λ r x. r < n → x ≡ first-with n table r (numbersFrom u (n - u))) (at .loop .order) (rankIn table u) u 0
+      stored (λ r x. r < n → x ≡ first-with table r (numbersFrom u (n - u))) (at .loop .order) (rankIn table u) u 0
           (omega (arith, at .loop .inv .1, at .before .pre .0))
-          (λ k. rw (down-more (at .loop .u) n h (at .loop .inv .0), with-more n table (rankIn table u) u passed, eq-eqb (rankIn table u) (rankIn table u) refl))
-          (λ r apart k. rw (down-more (at .loop .u) n h (at .loop .inv .0), with-more n table r u passed, ne-eqb (rankIn table u) r (λ e. apart (sym e))) (at .loop .inv .2 r k)),
+          (λ k. rw (down-more (at .loop .u) n h (at .loop .inv .0), with-more table (rankIn table u) u passed, eq-eqb (rankIn table u) (rankIn table u) refl))
+          (λ r apart k.
+          rw (down-more (at .loop .u) n h (at .loop .inv .0), with-more table r u passed, ne-eqb (rankIn table u) r (λ e. apart (sym e)))
+          (at .loop .inv .2 r k)),
     )
 
 loop-again-2 : tie.Need-loop-again-2 Inv-loop μ-loop
@@ -90,11 +92,13 @@ loop-again-2 c =
     let h = c .before .before .loop-test .taken in (
       omega (arith, at .loop .inv .0),
       at .loop .inv .1,
-      λ r k. rw (down-more (at .loop .u) n h (at .loop .inv .0), with-more n table r u passed, ne-eqb (rankIn table u) r (λ e. omega (arith, c .if1 .left))) (at .loop .inv .2 r k),
+      λ r k.
+          rw (down-more (at .loop .u) n h (at .loop .inv .0), with-more table r u passed, ne-eqb (rankIn table u) r (λ e. omega (arith, c .if1 .left)))
+          (at .loop .inv .2 r k),
     )
 
 returns : tie.Need-returns Inv-loop μ-loop
-unfolding orderIn
+unfolding byRank
 returns c =
     let at = c .before .loop in
     let n = c .before .before .args .n in
@@ -103,7 +107,7 @@ returns c =
     ext-getD 0 _ _ (long ∙ sym (length-map-below _ n))
     (λ r h. let k : r < n = omega arith in
     getD-take n (at .order) r 0 k
-    ∙ (at .inv .2 r k ∙ rw (down-all (at .u) n (c .loop-test .left)) (sym (getD-below (λ r. first-with n table r (below n)) n r 0 k))))
+    ∙ (at .inv .2 r k ∙ rw (down-all (at .u) n (c .loop-test .left)) (sym (getD-below (λ r. first-with table r (below n)) n r 0 k))))
 
 pub order-of-spec : {M : Type 1} → statement M
 order-of-spec =
@@ -111,7 +115,6 @@ order-of-spec =
     (tie.spec
     Inv-loop
     μ-loop
-    (λ c. search needs)
     loop-holds
     (λ c. search needs)
     mul-rank

@@ -1,7 +1,7 @@
 -- `hops::unchecked::counting::greatest_of` meets its contract. The loop's invariant: `best` is the greatest over the entries from `i` on.
 -- Assumes nothing.
 use Prim.Native.Nat.{ℕ, suc, max, _+_, _-_, _*_, _≤_, _<_}
-use mathlib.Core.List.{List}
+use mathlib.Core.List.{List, List·Memᴰ}
 use mathlib.Core.Path.{_≡_, refl}
 use native.Mathlib.Omega.{arith}
 use borrow.Author.Needs.{needs}
@@ -34,8 +34,8 @@ module _ (table : List ℕ) (u : ℕ) (r : RowOf table u) where
   unfolding greatestBy
   none-left by = rw (places-behind (whole-fits r) (getD table (4 + 19 * u + 2) 0) (omega arith)) refl
 
-  place-in : (i : ℕ) → i < length (placesIn table u) → getD table (4 + 19 * u + 3 + i) 0 < 64
-  place-in i h = r .places _ (rw (← place-at (whole-fits r) i (omega (arith, places-long (whole-fits r)))) (getD-mem (placesIn table u) i 0 h))
+  listed-at : (i : ℕ) → i < length (placesIn table u) → List·Memᴰ (getD table (4 + 19 * u + 3 + i) 0) (placesIn table u)
+  listed-at i h = rw (← place-at (whole-fits r) i (omega (arith, places-long (whole-fits r)))) (getD-mem (placesIn table u) i 0 h)
 
   -- one entry more
   turned : (by : List Rank) (i best : ℕ) → 0 < i → i ≤ length (placesIn table u) →
@@ -56,12 +56,16 @@ module _ (c : tie.In-loop Inv-loop μ-loop) where
   unfolding rowStart
   row-ends = omega (arith, places-long (whole-fits row-of), row-of .few, row-of .whole, c .before .loop .inv .0)
 
+  stands : List·Memᴰ (getD (c .before .before .before .args .table .now) (4 + 19 * c .before .before .before .args .u + 3 + (c .before .loop .i - 1)) 0)
+      (placesIn (c .before .before .before .args .table .now) (c .before .before .before .args .u))
+  stands = listed-at _ _ row-of (c .before .loop .i - 1) (omega (arith, c .loop-test .taken, c .before .loop .inv .0))
+
   leads : getD (c .before .before .before .args .table .now) (4 + 19 * c .before .before .before .args .u + 3 + (c .before .loop .i - 1)) 0 < 64
-  leads = place-in _ _ row-of (c .before .loop .i - 1) (omega (arith, c .loop-test .taken, c .before .loop .inv .0))
+  leads = row-of .places _ stands
 
   known : boundOf (c .before .before .before .args .t2 .by)
       (getD (c .before .before .before .args .table .now) (4 + 19 * c .before .before .before .args .u + 3 + (c .before .loop .i - 1)) 0) < 64
-  known = c .before .before .before .pre .1 .few _ leads
+  known = c .before .before .before .pre .1 .few _ stands
 
   best-next : greatestBy (over (c .before .before .before .args .t2 .by))
       (drop (c .before .loop .i - 1) (placesIn (c .before .before .before .args .table .now) (c .before .before .before .args .u)))

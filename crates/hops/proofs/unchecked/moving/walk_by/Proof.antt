@@ -4,8 +4,9 @@
 use Prim.Native.Nat.{_<_}
 use native.Mathlib.Omega.{arith}
 use borrow.Author.Needs.{needs}
+use Rattle.network.specs.Row.{rank}
+use Rattle.table.specs.Listed.{orderIn}
 use Rattle.packet.specs.Calls.{packetIn, walkSays}
-use Rattle.packet.specs.Theorems.{rankByte}
 use Rattle.hops.proofs.Steps.{few-routers, table-long, few-slots, link-slots, row-of, stops, goes}
 use Rattle.hops.proofs.Turns.{Reached, begins, ends, fits, part-long, halts, goes-on}
 use Rattle.hops.proofs.unchecked.moving.walk_by.Statement.{statement}
@@ -15,7 +16,7 @@ abbrev Inv-loop : tie.InvT-loop
 Inv-loop t table schedule a home station₀ hops₀ at₀ station hops at = Reached t table schedule station₀ station hops at
 
 abbrev μ-loop : tie.MeasureT-loop
-μ-loop t table schedule a home station₀ hops₀ at₀ station hops at = rankByte table station
+μ-loop t table schedule a home station₀ hops₀ at₀ station hops at = rank (orderIn (t .routers) table) station
 
 -- the station of a turn is a router
 station-in : (at : tie.At-loop Inv-loop μ-loop) → at .loop .station < 64

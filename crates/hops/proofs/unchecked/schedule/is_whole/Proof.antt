@@ -2,20 +2,18 @@
 -- links, no other number of rows is that long.
 -- Assumes nothing.
 use Prim.Native.Nat.{ℕ, suc, pred, _-_, _*_, _≤_, _<_}
-use mathlib.Core.Bool.{Bool, true, false}
+use mathlib.Core.Bool.{false}
 use mathlib.Core.Path.{_≡_, sym, _∙_}
-use native.Mathlib.Decide.{decLe}
+use native.Mathlib.Decide.{ℕ-discrete, decLe}
 use native.Mathlib.Nat.{mul-zero, zero-mul, suc-mul, le-of-mul-le-mul-right, lt-of-mul-lt-mul-right}
 use native.Mathlib.Numerals.{add-one}
 use native.Mathlib.Omega.{arith}
 use borrow.Author.Needs.{needs}
-use borrow.Author.Tests.{le-leb, lt-leb}
-use lib.Dec.{eqb, leb, eqb→eq, leb→le, le→leb}
-use Rattle.network.specs.Lists.{below, any}
-use Rattle.network.proofs.Tests.{as-true, as-false, eq-test}
-use Rattle.network.proofs.Lists.{mem-keep, keep-mem, any-some, some-any}
-use Rattle.network.proofs.Below.{mem-below, below-lt}
-use Rattle.packet.specs.Schedule.{rowCounts, soundLength}
+use borrow.Author.Tests.{le-leb, lt-leb, eq-eqb, ne-eqb}
+use lib.Dec.{eqb, leb}
+use Rattle.network.proofs.Tests.{as-true, as-false}
+use Rattle.packet.specs.Schedule.{soundLength}
+use Rattle.packet.proofs.Schedules.{counted, counts}
 use Rattle.hops.proofs.unchecked.schedule.is_whole.Statement.{statement}
 use Rattle.hops.proofs.unchecked.schedule.is_whole.Tie as tie
 
@@ -26,63 +24,46 @@ abbrev μ-loop : tie.MeasureT-loop
 μ-loop n links bytes at₀ rows₀ at rows = bytes - at
 
 module _ (n links bytes : ℕ) where
-  abbrev enough : ℕ → Bool
-  enough k = leb (pred n) k
-
-  abbrev long : ℕ → Bool
-  long k = eqb (k * links) bytes
-
-  -- enough rows are so long
-  whole : (k : ℕ) → k * links ≡ bytes → k ≤ bytes → pred n ≤ k → soundLength n links bytes ≡ true
-  unfolding soundLength rowCounts
-  whole k e few h =
-      as-true _ (some-any enough (rowCounts links bytes) (keep-mem long (below (suc bytes)) (mem-below (omega arith)) (eq-test e)) (le→leb _ _ h))
-
   -- no number of rows that is enough is so long
-  not-whole : ((k : ℕ) → k * links ≡ bytes → k ≤ bytes → pred n ≤ k → ⊥) → soundLength n links bytes ≡ false
-  unfolding soundLength rowCounts
-  not-whole none =
-      as-false (any enough (rowCounts links bytes))
-      (λ h.
-      let (k, m, l) = any-some enough (rowCounts links bytes) h in
-      let (in-below, e) = mem-keep long (below (suc bytes)) m in
-      none k (eqb→eq _ _ e) (omega (arith, below-lt (suc bytes) in-below)) (leb→le _ _ l))
+  not-whole : ((k : ℕ) → k * links ≡ bytes → pred n ≤ k → ⊥) → soundLength n links bytes ≡ false
+  not-whole none = as-false _ (λ s. let (e, h) = counted n links bytes s in none _ e h)
 
-  -- so many rows are so long, and no greater number is: what tests whether they are enough tests the length
-  counted : (rows : ℕ) → rows * links ≡ bytes → rows ≤ bytes → ((k : ℕ) → k * links ≡ bytes → k ≤ bytes → k ≤ rows) →
-      (a b : ℕ) → (a ≤ b → pred n ≤ rows) → (pred n ≤ rows → a ≤ b) → leb a b ≡ soundLength n links bytes
-  counted rows e few most a b to from = step (decLe a b)
+  -- with no links any number of rows is no bytes
+  empty : links ≡ 0 → eqb bytes 0 ≡ soundLength n links bytes
+  empty none = step (ℕ-discrete bytes 0)
     where
-      step : Dec (a ≤ b) → leb a b ≡ soundLength n links bytes
-      step (yes h) = le-leb a b h ∙ sym (whole rows e few (to h))
-      step (no h) = lt-leb a b (omega arith) ∙ sym (not-whole (λ k same l more. h (from (omega (arith, most k same l)))))
+      no-bytes : (k : ℕ) → k * links ≡ 0
+      no-bytes k = rw none (mul-zero k)
 
--- rows of no bytes have none
-no-bytes : (k links : ℕ) → links ≡ 0 → k * links ≡ 0
-no-bytes k links none = rw none (mul-zero k)
+      step : Dec (bytes ≡ 0) → eqb bytes 0 ≡ soundLength n links bytes
+      step (yes e) = eq-eqb bytes 0 e ∙ sym (as-true _ (counts n links bytes (pred n) (no-bytes (pred n) ∙ sym e) (omega arith)))
+      step (no some) = ne-eqb bytes 0 some ∙ sym (not-whole (λ k e h. some (sym e ∙ no-bytes k)))
+
+  -- so many rows are so long, and no greater number is: whether they are enough tests the length
+  enough : 0 < links → (rows : ℕ) → rows * links ≡ bytes → leb (n - 1) rows ≡ soundLength n links bytes
+  enough some rows e = step (decLe (n - 1) rows)
+    where
+      step : Dec (n - 1 ≤ rows) → leb (n - 1) rows ≡ soundLength n links bytes
+      step (yes h) = le-leb (n - 1) rows h ∙ sym (as-true _ (counts n links bytes rows e (omega arith)))
+      step (no few) =
+          lt-leb (n - 1) rows (omega arith)
+          ∙ sym (not-whole (λ k same h.
+          let most : k ≤ rows = le-of-mul-le-mul-right {m = k} {n = rows} {k = links} (omega arith) some in
+          few (omega arith)))
 
 returns : tie.Need-returns Inv-loop μ-loop
-returns c =
-    let args = c .before .before .args in
-    sym (not-whole (args .n) (args .links) (args .bytes)
-    (λ k e l h. c .if2 .taken (sym e ∙ no-bytes k (args .links) (c .before .if1 .taken))))
-
-returns-2 : tie.Need-returns-2 Inv-loop μ-loop
-returns-2 c =
-    let args = c .before .before .args in
-    counted (args .n) (args .links) (args .bytes) 0 (omega (arith, zero-mul (args .links))) (omega arith) (λ k e l. omega arith) (args .n) 1
-    (λ h. omega arith) (λ h. omega arith)
+returns c = let args = c .before .args in empty (args .n) (args .links) (args .bytes) (c .if1 .taken)
 
 loop-holds : tie.Need-loop-holds Inv-loop μ-loop
 loop-holds c = (sym (zero-mul (c .before .args .links)), omega arith, omega arith)
 
-returns-3 : tie.Need-returns-3 Inv-loop μ-loop
-returns-3 c =
+returns-2 : tie.Need-returns-2 Inv-loop μ-loop
+returns-2 c =
     let at = c .before .before in
     let args = at .before .before .args in
     let rows = at .loop .rows in
     sym (not-whole (args .n) (args .links) (args .bytes)
-    (λ k e l h.
+    (λ k e h.
     let more : rows < k = lt-of-mul-lt-mul-right (args .links) (omega arith) in
     let less : k < suc rows = lt-of-mul-lt-mul-right (args .links) (omega (arith, suc-mul rows (args .links))) in
     omega arith))
@@ -93,13 +74,10 @@ loop-again c =
     let links = at .before .before .args .links in
     (rw add-one (omega (arith, suc-mul (at .loop .rows) links)), omega arith, omega arith)
 
-returns-4 : tie.Need-returns-4 Inv-loop μ-loop
-returns-4 c =
+returns-3 : tie.Need-returns-3 Inv-loop μ-loop
+returns-3 c =
     let args = c .before .before .before .args in
-    let rows = c .before .loop .rows in
-    counted (args .n) (args .links) (args .bytes) rows (omega arith) (omega arith)
-    (λ k e l. le-of-mul-le-mul-right {m = k} {n = rows} {k = args .links} (omega arith) (omega arith))
-    (args .n - 1) rows (λ h. omega arith) (λ h. omega arith)
+    enough (args .n) (args .links) (args .bytes) (omega arith) (c .before .loop .rows) (omega arith)
 
 pub is-whole-spec : {M : Type 1} → statement M
 is-whole-spec =
@@ -108,13 +86,12 @@ is-whole-spec =
     Inv-loop
     μ-loop
     returns
-    returns-2
     loop-holds
     (λ c. search needs)
-    returns-3
+    returns-2
     (λ c. search needs)
     (λ c. search needs)
     (λ c. search needs)
     loop-again
     (λ c. search needs)
-    returns-4)
+    returns-3)

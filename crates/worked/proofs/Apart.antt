@@ -1,0 +1,59 @@
+-- The prover computes every fact from the definitions.
+-- Assumes nothing.
+use Rattle.network.specs.Lists.{numbersFrom, below, keep, every, any, leastBy, greatestBy, ahead, foremost, insert, sort, member, distinct, sameNumbers, wins}
+use Rattle.network.specs.Network.{size, idOf, arcsOf, greatestCost, arcsAmong, linked, soundCost, soundLink, samePair, pairsDiffer, soundLinks}
+use Rattle.network.specs.Distance as of-distance
+use Rattle.network.specs.Distance.{absent, distanceIn, through, round, rounds, distances}
+use Rattle.network.specs.Order as of-order
+use Rattle.network.specs.Order.{reached, shortestNextHops, leadsInto, ready, candidate, placedNeighbours, preferred, select, continued, placing, build}
+use Rattle.network.specs.Order.{candidatesInTurn, holdsEachOnce, firstIs, othersInTurn}
+use Rattle.network.specs.Row.{rank, sortsBefore, rankedBefore, fullRow, row}
+use Rattle.network.specs.Forwarding.{hopTo, hop, walkOn, walkEnd, walk, start, longest}
+use Rattle.network.specs.Routing.{up, firstLive}
+use Rattle.stations.specs.Inner.{firstOr}
+use Rattle.stations.specs.Outcome.{turnedAway, given}
+use Rattle.stations.specs.Topology.{noLink, padded, contents, held, zeros, seen, networkIn, networkOf}
+use Rattle.soundness.specs.Sound.{within, inLimits, wellLinked, uncrowded, isNoLink, unusedZero, slotted, sound}
+use Rattle.records.specs.Stream.{bigEndianOn, bigEndian, bodyLength, halfIn, decoded, recordIn, records}
+use Rattle.records.specs.Halves.{firstHalf, secondHalf, linkHalves, halves, sameHalf, leaves, opposite, linkOf}
+use Rattle.records.specs.Reading.{refusal, accepted, routerFault, repeated, crowded, halvesFault, fault, withRouter, withLink, withLimit, arrived, added}
+use Rattle.records.specs.Reading.{width, isEnd, ended, unless, some?, inTurn, nothingListed, reading}
+use Rattle.topology.specs.Written.{joinedOver}
+use Rattle.order.specs.Calls.{modeOf, reachedCount, orderBytes, building, wrongRanks, ranksAfter, unreadyRanks, atFirst, judging, checking}
+use Rattle.order.specs.Table.{answers}
+use Rattle.rows.specs.Bytes.{rankOrNone, rowBytes, headerBytes, rowOf, rowsBytes, tableBytes, rowStart}
+use Rattle.table.specs.Listed.{kindIn, destinationIn, countIn, limitIn, rankIn, placesIn, arcsTo, entriesIn, listed, byRank, orderIn}
+use Rattle.table.specs.Calls.{unlessRefused, filling, soundHeader, soundRanks, differing, wrongBytes, tableJudging, tableChecking}
+use Rattle.table.specs.Facts.{room}
+use Rattle.packet.specs.Schedule.{rowIn, rowCounts, rowsIn, soundLength, wrongStates}
+use Rattle.packet.specs.Calls.{tested, testedBy, testedOver, figure, figureByte, figures, countingHops, settingAt, hopping, walking}
+use Rattle.packet.specs.Lent.{afterSetting, afterHop, settingPacket, hoppingPacket}
+use Rattle.packet.specs.Lists.{after, afterAll}
+use Rattle.worked.specs.Fact.{leftAt}
+use Rattle.worked.specs.Chain.{wrote, endsSo, byTable, byOrder, byReading, follows}
+use Rattle.worked.specs.Starred.{from}
+use Rattle.worked.specs.Apart.{cutOff, twoParts, pair, threeUp, apart, ApartHold}
+
+pub apart-hold : ApartHold
+unfolding numbersFrom below keep every any leastBy greatestBy ahead foremost insert sort member distinct sameNumbers wins
+    size idOf arcsOf greatestCost arcsAmong linked soundCost soundLink samePair pairsDiffer soundLinks
+    absent distanceIn through of-distance.atFirst round rounds distances
+    reached shortestNextHops leadsInto ready candidate placedNeighbours preferred select continued placing build
+    candidatesInTurn holdsEachOnce firstIs othersInTurn of-order.accepted
+    rank sortsBefore rankedBefore fullRow row
+    hopTo hop walkOn walkEnd walk start longest up firstLive
+    firstOr turnedAway given noLink padded contents held zeros seen networkIn networkOf
+    within inLimits wellLinked uncrowded isNoLink unusedZero slotted sound
+    bigEndianOn bigEndian bodyLength halfIn decoded recordIn records
+    linkHalves firstHalf secondHalf halves sameHalf leaves opposite linkOf
+    refusal accepted routerFault repeated crowded halvesFault fault withRouter withLink withLimit arrived added
+    width isEnd ended unless some? inTurn nothingListed reading
+    joinedOver modeOf reachedCount orderBytes building wrongRanks ranksAfter unreadyRanks atFirst judging checking answers
+    rankOrNone rowBytes headerBytes rowOf rowsBytes tableBytes rowStart
+    kindIn destinationIn countIn limitIn rankIn placesIn arcsTo entriesIn listed byRank orderIn
+    unlessRefused filling soundHeader soundRanks differing wrongBytes tableJudging tableChecking room
+    rowIn rowCounts rowsIn soundLength wrongStates tested testedBy testedOver figure figureByte figures countingHops settingAt hopping walking
+    afterSetting afterHop settingPacket hoppingPacket after afterAll
+    leftAt wrote endsSo byTable byOrder byReading follows
+    from cutOff twoParts pair threeUp apart
+apart-hold = tt
