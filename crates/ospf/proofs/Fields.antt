@@ -1,24 +1,13 @@
--- A number of two or four bytes from an offset on is what the bytes at that offset and after it say.
+-- A field of an LSA or a link is the number that the bytes at its offset say.
 -- Assumes nothing.
-use Prim.Native.Nat.{ℕ, _+_, _≤_}
+use Prim.Native.Nat.{ℕ, _≤_}
 use mathlib.Core.List.{List}
 use mathlib.Core.Path.{_≡_, refl}
-use native.Mathlib.Nat.{add-assoc}
 use native.Mathlib.Omega.{arith}
-use lib.ListN.{length, getD, take, drop}
-use Rattle.records.specs.Stream.{bigEndianOn, bigEndian}
-use Rattle.records.proofs.Stream.{two-bytes}
+use lib.ListN.{length, getD}
+use Rattle.records.proofs.Stream.{two-at, four-at}
 use Rattle.ospf.specs.Lsa.{lsType, advertisingRouter, checksum, lengthField, linkCount, linkIn}
 use Rattle.ospf.specs.Theorems.{two, four, FieldsEach}
-
-module _ (s : List ℕ) (at : ℕ) where
-  pub two-at : at + 2 ≤ length s → bigEndian (take 2 (drop at s)) ≡ two s at
-  unfolding bigEndian bigEndianOn
-  two-at h = rw (two-bytes s at h) (omega arith)
-
-  pub four-at : at + 4 ≤ length s → bigEndian (take 4 (drop at s)) ≡ four s at
-  unfolding bigEndian bigEndianOn
-  four-at h = rw (two-bytes s at (omega arith), two-bytes s (at + 2) (omega arith), add-assoc at 2 1) (omega arith)
 
 pub fields-each : FieldsEach
 unfolding lsType advertisingRouter checksum lengthField linkCount

@@ -13,12 +13,12 @@ use lib.Dec.{T, eqb}
 use lib.ListN.{length, getD, take, drop}
 use lib.Seq.{getD-drop, drop-drop}
 use Rattle.records.specs.Stream.{bigEndian}
+use Rattle.records.proofs.Stream.{two-at}
 use Rattle.network.specs.Lists.{keep, leastBy}
 use Rattle.network.proofs.Least.{least-start}
 use Rattle.ospf.specs.Lsa.{RouterLink, linkIn, linkLength, wholeLink, withLink, linksIn, some?}
 use Rattle.ospf.specs.Neighbours.{allOf, pointToPoint, lowestTo}
 use Rattle.ospf.specs.Theorems.{two}
-use Rattle.ospf.proofs.Fields.{two-at}
 use Rattle.ospf.proofs.Links.{Here, from-whole, whole-says}
 
 module _ (id : ℕ) where

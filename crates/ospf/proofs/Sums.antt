@@ -12,9 +12,9 @@ use borrow.Author.Tests.{eqb-true, eqb-false, eq-eqb, ne-eqb, not-false}
 use lib.Dec.{eqb}
 use lib.ListN.{length, getD, take, drop, length-append, drop-of-length-le}
 use lib.Seq.{length-take-le, take-all, take-suc, drop-append-le}
+use Rattle.records.proofs.Stream.{two-at}
 use Rattle.ospf.specs.Lsa.{checksum, c0, c1, wrongSum}
 use Rattle.ospf.specs.Theorems.{two, Sums, RightSum}
-use Rattle.ospf.proofs.Fields.{two-at}
 use Rattle.ospf.proofs.Malformed.{neither}
 
 pub c0-next : (octets : List ℕ) (octet : ℕ) → c0 (octets ++ (octet ∷ [])) ≡ c0 octets + octet

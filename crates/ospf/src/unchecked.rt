@@ -9,6 +9,7 @@ use stations::ROUTERS;
 use stations::Topology;
 use stream::Reading;
 use stream::unchecked;
+use stream::unchecked::numbers;
 ghost use mathlib.Core.Path.{_≡_};
 ghost use Prim.Native.Nat.{_≤_};
 ghost use lib.ListN.{length};
@@ -37,7 +38,7 @@ pub fn first_wrong_sum(file: &[u8]) -> usize
 {
     let mut at: usize = 0;
     while at < file.len() {
-        let end = at + links::be16(file, at + 18) as usize;
+        let end = at + numbers::be16(file, at + 18) as usize;
         if sums::is_wrong(&file[at..end]) {
             return at;
         }
@@ -54,7 +55,7 @@ pub fn routers_of(file: &[u8]) -> Reading
     let mut t = unchecked::blank(DEFAULT_NEXT_HOPS);
     let mut at: usize = 0;
     while at < file.len() {
-        let id = links::be32(file, at + 8);
+        let id = numbers::be32(file, at + 8);
         let n = t.routers;
         let number = unchecked::router_fault(&t.id, n, id);
         if number != 0 {
@@ -62,7 +63,7 @@ pub fn routers_of(file: &[u8]) -> Reading
         }
         t.id[n] = id;
         t.routers = n + 1;
-        at += links::be16(file, at + 18) as usize;
+        at += numbers::be16(file, at + 18) as usize;
     }
     Reading {
         answer: Answer { number: 0, at: 0 },
@@ -82,7 +83,7 @@ pub fn with_halves(file: &[u8], t: Topology) -> Reading
     let mut at: usize = 0;
     let mut place: u8 = 0;
     while at < file.len() {
-        let end = at + links::be16(file, at + 18) as usize;
+        let end = at + numbers::be16(file, at + 18) as usize;
         let n = held.routers;
         let given = neighbours::given(&file[at..end], place, &held.id, n);
         let mut i: usize = 0;

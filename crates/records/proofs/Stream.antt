@@ -1,12 +1,13 @@
 -- The records of a stream. The record that the bytes begin with is cut short, or has no known kind, or is whole: then it is as wide as its kind says,
 -- the bytes have that many, and the records after it are those of the bytes after it.
 -- Assumes nothing.
-use Prim.Native.Nat.{ℕ, zero, suc, _+_, _-_, _<_, _≤_, zero-le}
+use Prim.Native.Nat.{ℕ, zero, suc, _+_, _*_, _-_, _<_, _≤_, zero-le}
 use mathlib.Core.Bool.{Bool, true, false, cond, _||_}
 use mathlib.Core.List.{List, [], _∷_}
 use mathlib.Core.Logic.{_≢_, _⊎_, inl, inr, ⊎-elim}
 use mathlib.Core.Path.{_≡_, refl, sym, ap, _∙_}
 use native.Mathlib.Decide.{decLt}
+use native.Mathlib.Nat.{add-assoc}
 use native.Mathlib.Numerals.{add-one, add-two}
 use native.Mathlib.Omega.{arith}
 use borrow.Author.Tests.{lt-ltb, le-ltb, ne-eqb}
@@ -16,12 +17,23 @@ use lib.Seq.{drop-cons}
 use Rattle.records.specs.declared.Record.{Record}
 use Rattle.records.specs.declared.Record.the-variants as record-of
 use Rattle.records.specs.Halves.{Listing}
-use Rattle.records.specs.Stream.{bigEndian, bodyLength, decoded, halfIn, recordIn, records}
+use Rattle.records.specs.Stream.{bigEndianOn, bigEndian, bodyLength, decoded, halfIn, recordIn, records}
 use Rattle.records.specs.Reading.{fault, width, some?}
 
 -- the bytes from at on, by the first two
 pub two-bytes : (s : List ℕ) (at : ℕ) → at + 2 ≤ length s → drop at s ≡ getD s at 0 ∷ getD s (at + 1) 0 ∷ drop (at + 2) s
 two-bytes s at h = rw (drop-cons s at 0 (omega arith), drop-cons s (suc at) 0 (omega arith), add-one, add-two)
+
+-- a number of two or four bytes from an offset on is what the bytes at that offset and after it say
+module _ (s : List ℕ) (at : ℕ) where
+  pub two-at : at + 2 ≤ length s → bigEndian (take 2 (drop at s)) ≡ getD s at 0 * 256 + getD s (at + 1) 0
+  unfolding bigEndian bigEndianOn
+  two-at h = rw (two-bytes s at h) (omega arith)
+
+  pub four-at : at + 4 ≤ length s →
+      bigEndian (take 4 (drop at s)) ≡ ((getD s at 0 * 256 + getD s (at + 1) 0) * 256 + getD s (at + 2) 0) * 256 + getD s (at + 3) 0
+  unfolding bigEndian bigEndianOn
+  four-at h = rw (two-bytes s at (omega arith), two-bytes s (at + 2) (omega arith), add-assoc at 2 1) (omega arith)
 
 -- the record that the bytes begin with, by its kind: cut short, or whole
 module _ (kind : ℕ) (rest : List ℕ) where

@@ -1,34 +1,19 @@
 // The records of a topology stream, one at a time.
 use super::Record;
 use super::taking;
+use super::unchecked::numbers;
 use stations::Half;
 use stations::Place;
 ghost use mathlib.Core.Path.{_≡_};
 ghost use Prim.Native.Nat.{_+_, _≤_, _<_};
 ghost use lib.ListN.{length, take, drop};
-ghost use Rattle.records.specs.Stream.{bigEndian, halfIn, recordIn};
+ghost use Rattle.records.specs.Stream.{halfIn, recordIn};
 ghost use Rattle.stream.specs.Reader.{taken};
 
 // A record, and the offset past it.
 pub(crate) struct Taken {
     pub found: Record,
     pub at: usize,
-}
-
-// The number in the two bytes from at, big-endian.
-fn be16(s: &[u8], at: usize) -> u16
-    requires { ⌜ at + 2 ≤ length (now s) ⌝ }
-    ensures { λ r. ⌜ r ≡ bigEndian (take 2 (drop at (now (s .entry)))) ⌝ }
-{
-    s[at] as u16 * 256 + s[at + 1] as u16
-}
-
-// The number in the four bytes from at, big-endian.
-fn be32(s: &[u8], at: usize) -> u32
-    requires { ⌜ at + 4 ≤ length (now s) ⌝ }
-    ensures { λ r. ⌜ r ≡ bigEndian (take 4 (drop at (now (s .entry)))) ⌝ }
-{
-    be16(s, at) as u32 * 65536 + be16(s, at + 2) as u32
 }
 
 // The half in the four bytes from at: from, to, cost.
@@ -39,7 +24,7 @@ fn half_at(s: &[u8], at: usize) -> Half
     Half {
         from: Place(s[at]),
         to: Place(s[at + 1]),
-        cost: be16(s, at + 2),
+        cost: numbers::be16(s, at + 2),
     }
 }
 
@@ -57,7 +42,7 @@ pub(crate) fn record_at(s: &[u8], at: usize) -> Record
         if left < 4 {
             return Record::Refused(1);
         }
-        return Record::Router(be32(s, body));
+        return Record::Router(numbers::be32(s, body));
     }
     if kind == 2 {
         if left < 4 {

@@ -1,4 +1,6 @@
-// The steps of `read`, for callers that take routers and halves from elsewhere. What a `requires` says callers prove, and no code tests.
+// The steps of `read`, for callers that take routers and halves from elsewhere, and numbers in bytes. What a `requires` says callers prove, and no code tests.
+pub mod numbers;
+
 use super::Reading;
 use super::taking;
 use soundness::unchecked;

@@ -1,26 +1,8 @@
 // The length of a router-LSA, and whether its links match it (RFC 2328, A.4.1 and A.4.2).
+use stream::unchecked::numbers;
 ghost use mathlib.Core.Path.{_≡_};
 ghost use mathlib.Core.Bool.{cond};
-ghost use Prim.Native.Nat.{_+_, _*_, _≤_};
-ghost use lib.ListN.{length, getD, take, drop};
-ghost use Rattle.records.specs.Stream.{bigEndian};
 ghost use Rattle.ospf.specs.Lsa.{linksIn, some?, malformed, lengthField};
-
-// The number in the two bytes from at, big-endian.
-pub(crate) fn be16(s: &[u8], at: usize) -> u16
-    requires { ⌜ at + 2 ≤ length (now s) ⌝ }
-    ensures { λ r. ⌜ r ≡ getD (now (s .entry)) at 0 * 256 + getD (now (s .entry)) (at + 1) 0 ⌝ }
-{
-    s[at] as u16 * 256 + s[at + 1] as u16
-}
-
-// The same of four bytes.
-pub(crate) fn be32(s: &[u8], at: usize) -> u32
-    requires { ⌜ at + 4 ≤ length (now s) ⌝ }
-    ensures { λ r. ⌜ r ≡ bigEndian (take 4 (drop at (now (s .entry)))) ⌝ }
-{
-    be16(s, at) as u32 * 65536 + be16(s, at + 2) as u32
-}
 
 // Whether the bytes are so many links and nothing else, each of a type from 1 to 4.
 fn are_links(s: &[u8], number: u16) -> bool
@@ -56,7 +38,7 @@ pub(crate) fn length_of(s: &[u8]) -> usize
     if s.len() < 24 {
         return 0;
     }
-    let length = be16(s, 18) as usize;
+    let length = numbers::be16(s, 18) as usize;
     if s.len() < length {
         return 0;
     }
@@ -66,7 +48,7 @@ pub(crate) fn length_of(s: &[u8]) -> usize
     if s[3] != 1 {
         return 0;
     }
-    let number = be16(s, 22);
+    let number = numbers::be16(s, 22);
     let body: usize = 24;
     if !are_links(&s[body..length], number) {
         return 0;

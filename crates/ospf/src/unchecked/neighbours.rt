@@ -1,8 +1,8 @@
 // The neighbours of a router by the links of its LSA (02, #106; RFC 2328, A.4.2): places, the lowest metrics, and the halves given.
-use super::links;
 use stations::Half;
 use stations::Place;
 use stations::ROUTERS;
+use stream::unchecked::numbers;
 ghost use mathlib.Core.Path.{_≡_};
 ghost use mathlib.Core.Bool.{false};
 ghost use mathlib.Core.List.{[], _∷_};
@@ -38,10 +38,10 @@ fn metric_to(s: &[u8], at: usize, id: u32) -> u32
     if s[at + 8] != 1 {
         return 65536;
     }
-    if links::be32(s, at) != id {
+    if numbers::be32(s, at) != id {
         return 65536;
     }
-    links::be16(s, at + 10) as u32
+    numbers::be16(s, at + 10) as u32
 }
 
 // The lowest metric of the links of type 1 to the router, 65,536 if there is none.
@@ -86,7 +86,7 @@ fn new_place<'a>(s: &'a [u8], at: usize, before: u16, ids: &'a [u32; ROUTERS], n
     if kind != 1 {
         return n;
     }
-    let id = links::be32(s, at);
+    let id = numbers::be32(s, at);
     let to = place_of(ids, n, id);
     let first: usize = 0;
     if is_named(&s[first..at], before, id) {
@@ -113,7 +113,7 @@ fn given_by<'a>(s: &'a [u8], number: u16, place: u8, ids: &'a [u32; ROUTERS], n:
     while before < number {
         let to = new_place(s, at, before, ids, n);
         if to < n {
-            let id = links::be32(s, at);
+            let id = numbers::be32(s, at);
             let cost = lowest_to(s, number, id) as u16;
             half[count] = Half {
                 from: Place(place),
@@ -136,8 +136,8 @@ pub(crate) fn given<'a>(lsa: &'a [u8], place: u8, ids: &'a [u32; ROUTERS], n: us
     requires { ⌜ (malformed (now lsa) ≡ false) × (n ≤ mostRouters) × (length (now ids) ≡ mostRouters) ⌝ }
     ensures { λ r. ⌜ (r .count ≤ n) × (length (r .half) ≡ mostRouters) × (take (r .count) (r .half) ≡ halvesOf (take n (now (ids .entry))) place (allOf (links (now (lsa .entry))))) ⌝ }
 {
-    let length = links::be16(lsa, 18) as usize;
-    let number = links::be16(lsa, 22);
+    let length = numbers::be16(lsa, 18) as usize;
+    let number = numbers::be16(lsa, 22);
     let body: usize = 24;
     given_by(&lsa[body..length], number, place, ids, n)
 }

@@ -1,5 +1,5 @@
 // The Fletcher sums of a router-LSA (RFC 2328, 12.1.7).
-use super::links;
+use stream::unchecked::numbers;
 ghost use mathlib.Core.Path.{_≡_};
 ghost use Prim.Native.Nat.{_≤_};
 ghost use lib.ListN.{length};
@@ -18,7 +18,7 @@ pub(crate) fn is_wrong(lsa: &[u8]) -> bool
         c1 = (c1 + c0) % 255;
         i += 1;
     }
-    if links::be16(lsa, 16) == 0 {
+    if numbers::be16(lsa, 16) == 0 {
         return true;
     }
     if c0 != 0 {

@@ -5,7 +5,7 @@ use native.Mathlib.Omega.{arith}
 use borrow.Author.Needs.{needs}
 use denote.Ref.{now}
 use Rattle.records.specs.Stream.{halfIn}
-use Rattle.records.proofs.Stream.{two-bytes}
+use Rattle.records.proofs.Stream.{two-bytes, two-at}
 use Rattle.stream.proofs.bytes.half_at.Statement.{statement}
 use Rattle.stream.proofs.bytes.half_at.Tie as tie
 
@@ -13,7 +13,7 @@ returns : tie.Need-returns
 unfolding halfIn
 returns c =
     let a = c .before .before .before .before .args in
-    rw (two-bytes (now (a .s)) (a .at) (omega arith)) (rw (c .be16 .ensures))
+    rw (two-bytes (now (a .s)) (a .at) (omega arith)) (rw (c .be16 .ensures, two-at (now (a .s)) (a .at + 2) (omega arith)))
 
 pub half-at-spec : {M : Type 1} → statement M
 half-at-spec =

@@ -4,9 +4,9 @@ use native.Mathlib.Nat.{add-assoc}
 use native.Mathlib.Omega.{arith}
 use borrow.Author.Needs.{needs}
 use denote.Ref.{now}
-use Rattle.ospf.proofs.Fields.{four-at}
-use Rattle.ospf.proofs.unchecked.links.be32.Statement.{statement}
-use Rattle.ospf.proofs.unchecked.links.be32.Tie as tie
+use Rattle.records.proofs.Stream.{four-at}
+use Rattle.stream.proofs.unchecked.numbers.be32.Statement.{statement}
+use Rattle.stream.proofs.unchecked.numbers.be32.Tie as tie
 
 returns : tie.Need-returns
 returns c =
