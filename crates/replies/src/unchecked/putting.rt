@@ -1,11 +1,14 @@
-// The line that a reply stands for, and the buffers lent.
+// The line that a reply stands for, a line of numbers, and the buffers lent.
 use forwarding::Packet;
 use requests::unchecked::holding::Reply;
 use text::unchecked::lines;
+ghost use mathlib.Core.List.{map};
 ghost use mathlib.Core.Path.{_≡_};
-ghost use Prim.Native.Nat.{_+_, _≤_};
+ghost use Prim.Native.Nat.{_+_, _*_, _≤_};
 ghost use lib.ListN.{length};
 ghost use Rattle.text.specs.Lines.{Put};
+ghost use Rattle.text.specs.Numbers.{numberText};
+ghost use Rattle.wording.specs.Listing.{spaced};
 ghost use Rattle.packet.specs.Calls.{packetIn};
 ghost use Rattle.requests.specs.Requests.{packetLine};
 ghost use Rattle.replies.specs.Calls.{mostRoom, mostAnswer};
@@ -28,6 +31,21 @@ pub fn room_for_answer() -> [u8; ANSWER]
     ensures { λ r. ⌜ mostAnswer ≡ length r ⌝ }
 {
     [0; ANSWER]
+}
+
+// Puts numbers, one space between, at the start of out, and answers how many bytes that is. There is room for 20 digits and a space each.
+pub fn put_numbers(out: &mut [u8], numbers: &[usize]) -> usize
+    requires { ⌜ (1 ≤ length (now numbers)) × (21 * length (now numbers) ≤ length (now out)) ⌝ }
+    ensures { λ r. ⌜ Put (now (out .entry)) 0 (spaced (map numberText (now (numbers .entry)))) r (now (out .exit)) ⌝ }
+{
+    let mut end = lines::put_number(out, 0, numbers[0]);
+    let mut i: usize = 1;
+    while i < numbers.len() {
+        out[end] = b' ';
+        end = lines::put_number(out, end + 1, numbers[i]);
+        i += 1;
+    }
+    end
 }
 
 // Puts a word and a packet.

@@ -34,7 +34,8 @@ pub fn gather(buffer: &mut [u8], count: usize, part: &[u8]) -> usize
     put(buffer, count, part)
 }
 
-fn put_number(out: &mut [u8], at: usize, n: usize) -> usize
+// Puts a number in decimal.
+pub fn put_number(out: &mut [u8], at: usize, n: usize) -> usize
     requires { ⌜ at + 20 ≤ length (now out) ⌝ }
     ensures { λ r. ⌜ Put (now (out .entry)) at (numberText n) r (now (out .exit)) ⌝ }
 {
