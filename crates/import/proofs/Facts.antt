@@ -9,11 +9,11 @@ use Rattle.records.specs.Reading.{ended, unless, nothingListed}
 use Rattle.topology.specs.Written.{joinedOver, routerBytes, halfBody, halfBytes, linkBytes, limitBytes, written}
 use Rattle.text.specs.Lines.{refusedWord, answerText, answerLine, wordLine}
 use Rattle.text.specs.Numbers.{lastDigits, numberText}
-use Rattle.ospf.specs.Lsa.{lsType, advertisingRouter, checksum, lengthField, linkCount, linkIn, linkLength, wholeLink, withLink as withNext, linksIn, some?, links}
-use Rattle.ospf.specs.Lsa.{malformed, c0, c1, wrongSum, lsasFrom, lsas, firstAt, firstMalformed, firstWrongSum}
-use Rattle.ospf.specs.Neighbours.{allOf, pointToPoint, lowestTo, once, neighboursOf, placeOf, halfTo, halvesOf}
+use Rattle.lsas.specs.Lsa.{lsType, advertisingRouter, checksum, lengthField, linkCount, linkIn, linkLength, wholeLink, withLink as withNext, linksIn, some?, links}
+use Rattle.lsas.specs.Lsa.{malformed, c0, c1, wrongSum, lsasFrom, lsas, firstAt, firstMalformed, firstWrongSum}
+use Rattle.neighbours.specs.Neighbours.{allOf, pointToPoint, lowestTo, once, neighboursOf, placeOf, halfTo, halvesOf}
 use Rattle.ospf.specs.Import.{idOf, routerIn, halfIn, halvesAt, halvesIn, placedIn, takenTo, atLast, importing}
-use Rattle.ospf.specs.Facts.{lsa-1, lsa-2, lsa-3, three}
+use Rattle.lsas.specs.Facts.{lsa-1, lsa-2, lsa-3, three}
 use Rattle.programs.specs.Output.{refusedLine}
 use Rattle.import.specs.Output.{streamOf, lineOf, output, complaint}
 use Rattle.import.specs.Facts.{holds, refused, facts, FactsHold}

@@ -6,11 +6,11 @@ use Rattle.records.specs.Stream.{bigEndianOn, bigEndian}
 use Rattle.records.specs.Halves.{firstHalf, secondHalf, linkHalves, halves, sameHalf, leaves, opposite, linkOf}
 use Rattle.records.specs.Reading.{refusal, accepted, routerFault, repeated, crowded, halvesFault, fault, withRouter, withLink, arrived, added}
 use Rattle.records.specs.Reading.{ended, unless, nothingListed}
-use Rattle.ospf.specs.Lsa.{lsType, advertisingRouter, checksum, lengthField, linkCount, linkIn, linkLength, wholeLink, withLink as linkBefore, linksIn}
-use Rattle.ospf.specs.Lsa.{some?, links, malformed, c0, c1, wrongSum, lsasFrom, lsas, firstAt, firstMalformed, firstWrongSum}
-use Rattle.ospf.specs.Neighbours.{allOf, pointToPoint, lowestTo, once, neighboursOf, placeOf, halfTo, halvesOf}
+use Rattle.lsas.specs.Lsa.{lsType, advertisingRouter, checksum, lengthField, linkCount, linkIn, linkLength, wholeLink, withLink as linkBefore, linksIn}
+use Rattle.lsas.specs.Lsa.{some?, links, malformed, c0, c1, wrongSum, lsasFrom, lsas, firstAt, firstMalformed, firstWrongSum}
+use Rattle.neighbours.specs.Neighbours.{allOf, pointToPoint, lowestTo, once, neighboursOf, placeOf, halfTo, halvesOf}
 use Rattle.ospf.specs.Import.{idOf, routerIn, halfIn, halvesAt, halvesIn, placedIn, takenTo, atLast, importing}
-use Rattle.ospf.specs.Facts.{lsa-1, lsa-2, lsa-3, lsa-4, three}
+use Rattle.lsas.specs.Facts.{lsa-1, lsa-2, lsa-3, lsa-4, three}
 use Rattle.imported.specs.Facts.{flatLinks, answersSo, holdsSo, holds, sealed, links-to, made, counted, alone, ring, facts, FactsHold}
 
 pub facts-hold : FactsHold

@@ -10,9 +10,9 @@ use Rattle.stations.specs.declared.Answer.{Answer}
 use Rattle.stations.specs.declared.Link.{Link}
 use Rattle.stations.specs.declared.Topology.{Topology}
 use Rattle.stations.specs.Topology.{contents}
-use Rattle.ospf.specs.Lsa.{c0, c1}
+use Rattle.lsas.specs.Lsa.{c0, c1}
 use Rattle.ospf.specs.Import.{importing}
-use Rattle.ospf.specs.Facts.{lsa-1, lsa-2, lsa-3, lsa-4, three}
+use Rattle.lsas.specs.Facts.{lsa-1, lsa-2, lsa-3, lsa-4, three}
 
 pub data Fact : Type 0 where
   -- importing a file answers this number and at

@@ -20,7 +20,7 @@ use Rattle.records.proofs.InTurn.{next-limit, next-end, goes-on}
 use Rattle.topology.specs.Written.{joinedOver, routerBytes, halfBytes}
 use Rattle.topology.proofs.Joined.{joined-behind}
 use Rattle.topology.proofs.Rewritten.{router-record, half-bytes, each-record}
-use Rattle.ospf.specs.Lsa.{Lsa, lsas}
+use Rattle.lsas.specs.Lsa.{Lsa, lsas}
 use Rattle.ospf.specs.Import.{Placed, idOf, routerIn, halfIn, halvesAt, halvesIn, placedIn}
 use Rattle.ospf.specs.Imported.{Taken, nothing, one-more, allHalves, streamOf, ImportReads}
 use Rattle.ospf.proofs.Plain.{Plain, router, half, no-end}

@@ -18,14 +18,14 @@ use Rattle.records.specs.Reading.{refusal, accepted, fault, added}
 use Rattle.records.specs.Theorems.{Bytes}
 use Rattle.records.proofs.Tables.{Tabled, Tallied, tabled-none, tallied-none}
 use Rattle.stream.proofs.Filled.{Filled}
-use Rattle.ospf.specs.Lsa.{malformed, Lsa, lsasFrom, lsas, firstMalformed}
-use Rattle.ospf.specs.Theorems.{two}
+use Rattle.lsas.specs.Lsa.{malformed, Lsa, lsasFrom, lsas, firstMalformed}
+use Rattle.lsas.specs.Theorems.{two}
 use Rattle.ospf.specs.Import.{Placed, idOf, routerIn, halfIn, halvesAt, halvesIn, placedIn, takenTo, atLast}
 use Rattle.ospf.specs.Imported.{Taken, nothing, one-more, AllWhole}
 use Rattle.ospf.specs.Inner.{asListed, routersTaken, allTaken}
-use Rattle.ospf.proofs.Malformed.{cut}
-use Rattle.ospf.proofs.Ends.{points-within}
-use Rattle.ospf.proofs.Walk.{Ahead, at-first, Lies}
+use Rattle.lsas.proofs.Malformed.{cut}
+use Rattle.lsas.proofs.Ends.{points-within}
+use Rattle.lsas.proofs.Walk.{Ahead, at-first, Lies}
 use Rattle.ospf.proofs.Turns.{taken-on, taken-off, after-taken, all-taken, first-fault, Outcome, done, failed, outcome}
 use Rattle.ospf.proofs.Plain.{Plain, taken-good, bytes-drop, bytes-take, half-plain, placed-plain}
 use Rattle.ospf.proofs.Listed.{listed-ids, router-ids}

@@ -1,16 +1,3 @@
-pub mod Facts
-pub mod Fields
-pub mod Links
-pub mod Sums
-pub mod Malformed
-pub mod Lsas
-pub mod Walk
-pub mod Ends
-pub mod Neighbours
-pub mod Halves
-pub mod Lowest
-pub mod Named
-pub mod Given
 pub mod Turns
 pub mod Plain
 pub mod Listed

@@ -9,7 +9,7 @@ use Rattle.records.specs.declared.Record.the-variants as record-of
 use Rattle.records.specs.Halves.{Listing, sameHalf, opposite}
 use Rattle.records.specs.Reading.{added, arrived, withRouter, withLink}
 use Rattle.network.specs.Lists.{keep}
-use Rattle.ospf.specs.Lsa.{Lsa}
+use Rattle.lsas.specs.Lsa.{Lsa}
 use Rattle.ospf.specs.Import.{Placed, idOf, routerIn, halfIn, halvesAt, halvesIn, placedIn}
 use Rattle.ospf.specs.Imported.{Taken, nothing, one-more}
 use Rattle.ospf.proofs.Plain.{Plain, router, half}

@@ -25,12 +25,12 @@ use Rattle.records.proofs.Halves.{total, one, total-append, total-none, adds-la
 use Rattle.records.proofs.Opposite.{same-places, Once, adds-half}
 use Rattle.records.proofs.Tables.{same-half}
 use Rattle.records.proofs.Kept.{Good, good-nothing, kept}
-use Rattle.ospf.specs.Lsa.{links, malformed, Lsa, lsas}
-use Rattle.ospf.specs.Neighbours.{allOf, neighboursOf, halfTo, halvesOf}
+use Rattle.lsas.specs.Lsa.{links, malformed, Lsa, lsas}
+use Rattle.neighbours.specs.Neighbours.{allOf, neighboursOf, halfTo, halvesOf}
 use Rattle.ospf.specs.Import.{Placed, idOf, routerIn, halfIn, halvesAt, halvesIn, placedIn, takenTo, atLast, importing}
 use Rattle.ospf.specs.Imported.{allHalves, AllRight, ImportNumbers}
-use Rattle.ospf.proofs.Halves.{place-inside, one-each}
-use Rattle.ospf.proofs.Lsas.{lsas-consecutive}
+use Rattle.neighbours.proofs.Halves.{place-inside, one-each}
+use Rattle.lsas.proofs.Lsas.{lsas-consecutive}
 use Rattle.ospf.proofs.Listed.{ids-arrived}
 use Rattle.ospf.proofs.Verdict.{Verdict, in-26, in-27, in-turn, at-end, verdict, taken-turns}
 use Rattle.ospf.proofs.Plain.{half-plain, id-fits, lsa-bytes}

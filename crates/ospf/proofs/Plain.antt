@@ -21,14 +21,14 @@ use Rattle.records.specs.Theorems.{Bytes}
 use Rattle.records.proofs.Digits.{bytes-below}
 use Rattle.records.proofs.Fitting.{Fitting}
 use Rattle.records.proofs.Kept.{Good, good-nothing, kept}
-use Rattle.ospf.specs.Lsa.{advertisingRouter, lengthField, linkCount, links, malformed, Lsa, lsas}
-use Rattle.ospf.specs.Neighbours.{allOf, halvesOf, halfTo}
-use Rattle.ospf.specs.Theorems.{two, Consecutive, end, faulty, next}
+use Rattle.lsas.specs.Lsa.{advertisingRouter, lengthField, linkCount, links, malformed, Lsa, lsas}
+use Rattle.neighbours.specs.Neighbours.{allOf, halvesOf, halfTo}
+use Rattle.lsas.specs.Theorems.{two, Consecutive, end, faulty, next}
 use Rattle.ospf.specs.Import.{Placed, idOf, routerIn, halfIn, halvesAt, halvesIn, placedIn}
 use Rattle.ospf.specs.Imported.{Taken, nothing, one-more, AllWhole}
-use Rattle.ospf.proofs.Malformed.{cut}
-use Rattle.ospf.proofs.Lsas.{lsas-consecutive}
-use Rattle.ospf.proofs.Named.{neighbour-fits}
+use Rattle.lsas.proofs.Malformed.{cut}
+use Rattle.lsas.proofs.Lsas.{lsas-consecutive}
+use Rattle.neighbours.proofs.Named.{neighbour-fits}
 
 pub data Plain : Record → Type 0 where
   router : (id : ℕ) → id < 2 ^ 32 → Plain (record-of.Router id)

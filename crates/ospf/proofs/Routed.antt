@@ -14,13 +14,13 @@ use Rattle.records.specs.Stream.{bigEndian}
 use Rattle.records.specs.Reading.{refusal, accepted, fault, added, nothingListed}
 use Rattle.records.proofs.Held.{with-router}
 use Rattle.stream.proofs.Filled.{Filled, filled-first, past-router}
-use Rattle.ospf.specs.Lsa.{advertisingRouter, lengthField, malformed, Lsa, lsasFrom, lsas}
-use Rattle.ospf.specs.Theorems.{two}
+use Rattle.lsas.specs.Lsa.{advertisingRouter, lengthField, malformed, Lsa, lsasFrom, lsas}
+use Rattle.lsas.specs.Theorems.{two}
 use Rattle.ospf.specs.Import.{idOf, routerIn, takenTo}
 use Rattle.ospf.specs.Inner.{asListed, routersTaken}
-use Rattle.ospf.proofs.Malformed.{cut, drop-take}
-use Rattle.ospf.proofs.Lsas.{followed}
-use Rattle.ospf.proofs.Walk.{Ahead, at-first, on, Lies}
+use Rattle.lsas.proofs.Malformed.{cut, drop-take}
+use Rattle.lsas.proofs.Lsas.{followed}
+use Rattle.lsas.proofs.Walk.{Ahead, at-first, on, Lies}
 use Rattle.ospf.proofs.Turns.{taken-on, taken-off}
 
 pub none-left : (at : ℕ) (s : List ℕ) → length s ≡ 0 → lsasFrom at 0 s ≡ []

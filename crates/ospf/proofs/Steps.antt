@@ -9,7 +9,7 @@ use borrow.Author.Tests.{lt-ltb, le-ltb}
 use lib.ListN.{length}
 use Rattle.records.specs.declared.Reading.{Reading}
 use Rattle.records.specs.Reading.{refusal, accepted}
-use Rattle.ospf.specs.Lsa.{lsas, firstMalformed, firstWrongSum}
+use Rattle.lsas.specs.Lsa.{lsas, firstMalformed, firstWrongSum}
 use Rattle.ospf.specs.Import.{Placed, idOf, routerIn, halvesIn, placedIn, atLast, importing}
 use Rattle.ospf.specs.Imported.{FaultAt}
 use Rattle.ospf.specs.Inner.{asListed, routersTaken, allTaken}

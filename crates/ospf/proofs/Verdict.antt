@@ -18,12 +18,12 @@ use Rattle.records.specs.Theorems.{Bytes, Read, EndFaults}
 use Rattle.records.proofs.Kept.{Good}
 use Rattle.records.proofs.Returned.{read-refusal, ended-reads}
 use Rattle.records.proofs.Verdicts.{faults-each}
-use Rattle.ospf.specs.Lsa.{malformed, wrongSum, Lsa, lsasFrom, lsas, firstAt, firstMalformed, firstWrongSum}
-use Rattle.ospf.specs.Theorems.{Consecutive, end, faulty, next, FirstFault, no-fault, here, later}
+use Rattle.lsas.specs.Lsa.{malformed, wrongSum, Lsa, lsasFrom, lsas, firstAt, firstMalformed, firstWrongSum}
+use Rattle.lsas.specs.Theorems.{Consecutive, end, faulty, next, FirstFault, no-fault, here, later}
 use Rattle.ospf.specs.Import.{Placed, idOf, halvesIn, placedIn, takenTo, atLast, importing}
 use Rattle.ospf.specs.Imported.{Taken, AllWhole, AllRight, FaultAt, AllTaken, ImportAnswers, ImportReturns, ImportSound}
-use Rattle.ospf.proofs.Lsas.{lsas-consecutive, points-at-first}
-use Rattle.ospf.proofs.Ends.{points-within}
+use Rattle.lsas.proofs.Lsas.{lsas-consecutive, points-at-first}
+use Rattle.lsas.proofs.Ends.{points-within}
 use Rattle.ospf.specs.Inner.{allTaken}
 use Rattle.ospf.proofs.Steps.{by-26, by-27, by-turns}
 use Rattle.ospf.proofs.Turns.{all-taken, first-fault, Outcome, done, failed, outcome}

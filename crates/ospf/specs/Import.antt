@@ -12,8 +12,8 @@ use Rattle.records.specs.declared.Record.{Record}
 use Rattle.records.specs.declared.Record.the-variants as record-of
 use Rattle.records.specs.Halves.{Listing}
 use Rattle.records.specs.Reading.{refusal, fault, added, ended, unless, nothingListed}
-use Rattle.ospf.specs.Lsa.{advertisingRouter, links, Lsa, lsas, firstMalformed, firstWrongSum}
-use Rattle.ospf.specs.Neighbours.{allOf, halvesOf}
+use Rattle.lsas.specs.Lsa.{advertisingRouter, links, Lsa, lsas, firstMalformed, firstWrongSum}
+use Rattle.neighbours.specs.Neighbours.{allOf, halvesOf}
 
 -- a router or a half, and the first byte of the LSA that it comes from
 pub record Placed : Type 0 where

@@ -13,10 +13,10 @@ use Rattle.records.specs.Halves.{Listing}
 use Rattle.records.specs.Reading.{fault, added, reading}
 use Rattle.records.specs.Theorems.{Bytes, Read, listedIn}
 use Rattle.topology.specs.Written.{joinedOver, routerBytes, halfBytes}
-use Rattle.ospf.specs.Lsa.{advertisingRouter, links, malformed, wrongSum, Lsa, lsas}
-use Rattle.ospf.specs.Neighbours.{allOf, halvesOf}
+use Rattle.lsas.specs.Lsa.{advertisingRouter, links, malformed, wrongSum, Lsa, lsas}
+use Rattle.neighbours.specs.Neighbours.{allOf, halvesOf}
 use Rattle.ospf.specs.Import.{Placed, placedIn, importing}
-use Rattle.ospf.specs.Theorems.{four, FirstFault}
+use Rattle.lsas.specs.Theorems.{four, FirstFault}
 
 -- 02, #106: these routers and halves, taken in turn, list so much, and none has a fault. Before the first nothing is listed, and K is 3. What each adds is the
 -- definition `added` of `records`, which `Lists` there spells out for the records of a stream.
@@ -31,8 +31,8 @@ AllWhole file = (l : Lsa) → List·Memᴰ l (lsas file) → malformed (l .bytes
 abbrev pub AllRight : List ℕ → Type 0
 AllRight file = AllWhole file × ((l : Lsa) → List·Memᴰ l (lsas file) → wrongSum (l .bytes) ≡ false)
 
--- 02, #106: LSA by LSA from a place on, the halves that each gives by its place and the Advertising Routers of the file, in the order of `FirstListed`; each
--- points at the LSA's first byte
+-- 02, #106: LSA by LSA from a place on, the halves that each gives by its place and the Advertising Routers of the file, in the order of `FirstListed` of
+-- `neighbours`; each points at the LSA's first byte
 pub data HalvesInTurn (ids : List ℕ) : ℕ → List Lsa → List Placed → Type 0 where
   no-lsa : {place : ℕ} → HalvesInTurn ids place [] []
   next-lsa : {place : ℕ} {ls : List Lsa} {rs : List Placed} (l : Lsa) → HalvesInTurn ids (place + 1) ls rs →
@@ -65,8 +65,8 @@ pub record AllTaken (file : List ℕ) (p : Listing) : Type 0 where
   pub some-router : 0 < length (p .contents .ids)
 
 -- 02, #106: what each answer means and where it points, if and only if; the tests before it pass. 26 and 27 are of the first such LSA, as `WellFormed` and
--- `RightSum` say; the fault of a router or a half is what `FaultsEach` of `records` says, and points at the LSA's first byte; of the numbers to 10 those that
--- are none of `ImportNumbers` are never met. Nothing is asked of paths: files of routers whose parts are apart are imported (02, #107).
+-- `RightSum` of `lsas` say; the fault of a router or a half is what `FaultsEach` of `records` says, and points at the LSA's first byte; of the numbers to 10
+-- those that are none of `ImportNumbers` are never met. Nothing is asked of paths: files of routers whose parts are apart are imported (02, #107).
 pub record Answers (file : List ℕ) (at : ℕ) : Type 0 where
   pub says-26 : (importing file .answer ≡ answer 26 at) ↔ ((at < length file) × FirstFault malformed (length file) (lsas file) at)
   pub says-27 : (importing file .answer ≡ answer 27 at) ↔ (AllWhole file × (at < length file) × FirstFault wrongSum (length file) (lsas file) at)

@@ -1,7 +1,3 @@
-pub mod Lsa
-pub mod Neighbours
 pub mod Import
-pub mod Theorems
 pub mod Imported
 pub mod Inner
-pub mod Facts

@@ -1,8 +1,4 @@
-// The steps of an import (02, #106): 26 and 27, each over the whole file, then the routers, then the halves. What is behind 26 reads LSAs that have passed it.
-mod links;
-mod neighbours;
-mod sums;
-
+// The steps of an import behind the tests 26 and 27 of the whole file (02, #106): the routers, then the halves. They read LSAs that have passed 26.
 use stations::Answer;
 use stations::DEFAULT_NEXT_HOPS;
 use stations::ROUTERS;
@@ -13,39 +9,8 @@ use stream::unchecked::numbers;
 ghost use mathlib.Core.Path.{_≡_};
 ghost use Prim.Native.Nat.{_≤_};
 ghost use lib.ListN.{length};
-ghost use Rattle.ospf.specs.Lsa.{firstMalformed, firstWrongSum};
+ghost use Rattle.lsas.specs.Lsa.{firstMalformed};
 ghost use Rattle.ospf.specs.Inner.{routersTaken, allTaken};
-
-// The offset of the first malformed LSA, the file's length if there is none.
-pub fn first_malformed(file: &[u8]) -> usize
-    ensures { λ r. ⌜ r ≡ firstMalformed (now (file .entry)) ⌝ }
-{
-    let mut at: usize = 0;
-    while at < file.len() {
-        let length = links::length_of(&file[at..]);
-        if length == 0 {
-            return at;
-        }
-        at += length;
-    }
-    at
-}
-
-// The offset of the first LSA with a wrong checksum, the file's length if there is none. No LSA is malformed.
-pub fn first_wrong_sum(file: &[u8]) -> usize
-    requires { ⌜ length (now file) ≤ firstMalformed (now file) ⌝ }
-    ensures { λ r. ⌜ r ≡ firstWrongSum (now (file .entry)) ⌝ }
-{
-    let mut at: usize = 0;
-    while at < file.len() {
-        let end = at + numbers::be16(file, at + 18) as usize;
-        if sums::is_wrong(&file[at..end]) {
-            return at;
-        }
-        at = end;
-    }
-    at
-}
 
 // The routers, LSA by LSA: refusal 3 or 4, or a topology without links. No LSA is malformed.
 pub fn routers_of(file: &[u8]) -> Reading
@@ -85,7 +50,7 @@ pub fn with_halves(file: &[u8], t: Topology) -> Reading
     while at < file.len() {
         let end = at + numbers::be16(file, at + 18) as usize;
         let n = held.routers;
-        let given = neighbours::given(&file[at..end], place, &held.id, n);
+        let given = neighbours::unchecked::given(&file[at..end], place, &held.id, n);
         let mut i: usize = 0;
         while i < given.count {
             let h = given.half[i];

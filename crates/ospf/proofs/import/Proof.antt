@@ -8,7 +8,7 @@ use denote.Ref.{now}
 use lib.ListN.{length}
 use Rattle.records.specs.declared.Reading.{Reading}
 use Rattle.records.specs.Reading.{refusal}
-use Rattle.ospf.specs.Lsa.{firstMalformed}
+use Rattle.lsas.specs.Lsa.{firstMalformed}
 use Rattle.ospf.specs.Import.{importing}
 use Rattle.ospf.specs.Inner.{allTaken}
 use Rattle.ospf.proofs.Steps.{by-26, by-27, by-turns, by-routers, routers-held}

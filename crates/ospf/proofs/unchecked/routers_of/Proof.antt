@@ -8,7 +8,7 @@ use lib.ListN.{length}
 use Rattle.records.specs.Reading.{refusal, fault, nothingListed}
 use Rattle.records.specs.declared.Record.the-variants as record-of
 use Rattle.stream.proofs.Filled.{listed, id-slots, ids-are, room-router}
-use Rattle.ospf.proofs.Walk.{Lies, lies}
+use Rattle.lsas.proofs.Walk.{Lies, lies}
 use Rattle.ospf.proofs.Routed.{Routed, routed-first, routed-off, routed-on, routed-end}
 use Rattle.ospf.proofs.unchecked.routers_of.Statement.{statement}
 use Rattle.ospf.proofs.unchecked.routers_of.Tie as tie

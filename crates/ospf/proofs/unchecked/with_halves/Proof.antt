@@ -15,10 +15,10 @@ use Rattle.stream.proofs.Filled.{contents-are, listed, few, id-slots, routers-a
 use Rattle.stations.specs.Topology.{Contents}
 use Rattle.records.specs.Reading.{refusal, fault, ended}
 use Rattle.records.specs.Inner.{Indexed}
-use Rattle.ospf.specs.Lsa.{links, lsas}
-use Rattle.ospf.specs.Neighbours.{allOf, halvesOf}
+use Rattle.lsas.specs.Lsa.{links, lsas}
+use Rattle.neighbours.specs.Neighbours.{allOf, halvesOf}
 use Rattle.ospf.specs.Import.{idOf, halvesAt, atLast}
-use Rattle.ospf.proofs.Walk.{Lies, lies}
+use Rattle.lsas.proofs.Walk.{Lies, lies}
 use Rattle.ospf.proofs.Routed.{here}
 use Rattle.ospf.proofs.Halving.{same-part, all-whole, idsIn, Halving, Within, halving-first, whole-here, room, within-first, halving-next, halving-end, cost-fits, within-off, within-on}
 use Rattle.ospf.proofs.unchecked.with_halves.Statement.{statement}

@@ -1,0 +1,3 @@
+pub mod Lsa
+pub mod Theorems
+pub mod Facts

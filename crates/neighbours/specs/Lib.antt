@@ -1,0 +1,4 @@
+pub mod Neighbours
+pub mod Theorems
+pub mod Inner
+pub mod Facts
