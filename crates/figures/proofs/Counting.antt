@@ -25,8 +25,8 @@ use Rattle.soundness.proofs.Sound.{sound-exact, sound-networks}
 use Rattle.records.proofs.Held.{store-padded}
 use Rattle.topology.specs.Written.{joinedOver}
 use Rattle.arcs.proofs.Slots.{below-more}
-use Rattle.order.proofs.Counts.{keep-append, count-most}
-use Rattle.order.proofs.Keeping.{keep-same, keep-keep, keep-map}
+use Rattle.placing.proofs.Counts.{keep-append, count-most}
+use Rattle.placing.proofs.Keeping.{keep-same, keep-keep, keep-map}
 use Rattle.rows.specs.Bytes.{rowStart}
 use Rattle.table.proofs.Bytes.{row-few}
 use Rattle.wording.specs.Listing.{tableFor}

@@ -20,7 +20,7 @@ use Rattle.soundness.specs.Sound.{sound}
 use Rattle.soundness.proofs.Sound.{sound-exact, sound-networks}
 use Rattle.records.proofs.Held.{padded-length}
 use Rattle.topology.specs.Written.{joinedOver}
-use Rattle.order.proofs.Keeping.{kept-most}
+use Rattle.placing.proofs.Keeping.{kept-most}
 use Rattle.table.proofs.Lists.{places-are, no-path-row}
 use Rattle.wording.specs.Listing.{spaced}
 use Rattle.wording.proofs.Tables.{given}

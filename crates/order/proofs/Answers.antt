@@ -13,7 +13,7 @@ use Rattle.stations.specs.declared.Topology.{Topology}
 use Rattle.stations.specs.Topology.{networkOf}
 use Rattle.stations.specs.Outcome.{answer}
 use Rattle.soundness.specs.Sound.{sound}
-use Rattle.order.specs.declared.Mode.{Mode}
+use Rattle.placing.specs.declared.Mode.{Mode}
 use Rattle.order.specs.Calls.{modeOf, reachedCount, wrongRanks, ranksAfter, unreadyRanks, atFirst, judging, checking}
 use Rattle.order.proofs.Decided.{Proposed}
 

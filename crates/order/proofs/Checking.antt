@@ -19,14 +19,15 @@ use Rattle.stations.specs.declared.Topology.{Topology}
 use Rattle.stations.specs.Topology.{networkOf}
 use Rattle.stations.specs.Inner.{firstOr}
 use Rattle.arcs.specs.declared.Arcs.{Arcs}
-use Rattle.order.specs.declared.Mode.{Mode}
+use Rattle.placing.specs.declared.Mode.{Mode}
 use Rattle.order.specs.Calls.{modeOf, unreadyRanks}
 use Rattle.order.specs.Proposed.{LaidOut}
-use Rattle.order.specs.Inner.{waitsFor, Standing, Room, Stepped, Begins}
+use Rattle.placing.specs.Standings.{waitsFor, Standing, Room, Stepped}
+use Rattle.order.specs.Inner.{Begins}
 use Rattle.order.proofs.Ranges.{getD-mem, mem-getD, differ, keep-none, keep-first}
 use Rattle.order.proofs.Entries.{entry-right}
-use Rattle.order.proofs.Counting.{waiting}
-use Rattle.order.proofs.Kept.{Kept}
+use Rattle.placing.proofs.Counting.{waiting}
+use Rattle.placing.proofs.Kept.{Kept}
 use Rattle.order.proofs.Turn.{facts, zeros-small, is-candidate, candidate-waits, room, placed-too, first-placed}
 
 -- before a turn

@@ -18,7 +18,7 @@ use Rattle.soundness.specs.Sound.{sound}
 use Rattle.stations.specs.Topology.{networkOf}
 use Rattle.stations.specs.Inner.{firstOr}
 use Rattle.stations.specs.Outcome.{answer}
-use Rattle.order.specs.declared.Mode.{Mode}
+use Rattle.placing.specs.declared.Mode.{Mode}
 use Rattle.order.specs.Calls.{atFirst, reachedCount, wrongRanks, ranksAfter, unreadyRanks, modeOf, judging, checking}
 
 -- the tests before 20 pass: the order has a sound topology's length, holds places in its reached ranks, none twice, and 255 after them, and begins with d

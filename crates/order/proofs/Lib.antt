@@ -1,15 +1,7 @@
 pub mod Runs
-pub mod Keeping
-pub mod Setting
-pub mod Counting
-pub mod Kept
 pub mod Decided
 pub mod First
-pub mod Counts
 pub mod Marked
-pub mod Stepping
-pub mod Heights
-pub mod Ties
 pub mod Chosen
 pub mod Ranges
 pub mod Reached

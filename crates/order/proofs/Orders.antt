@@ -30,8 +30,8 @@ use Rattle.soundness.specs.Sound.{sound}
 use Rattle.stations.specs.Inner.{firstOr}
 use Rattle.stations.specs.Outcome.{answer, given, turnedAway}
 use Rattle.soundness.specs.Theorems.{SoundNetwork}
-use Rattle.order.specs.declared.Mode.{Mode}
-use Rattle.order.specs.declared.Mode.the-variants as mode
+use Rattle.placing.specs.declared.Mode.{Mode}
+use Rattle.placing.specs.declared.Mode.the-variants as mode
 use Rattle.order.specs.Calls.{modeOf, reachedCount, orderBytes, unreadyRanks, building, checking}
 use Rattle.order.specs.Inner.{Begins}
 use Rattle.order.specs.Theorems.{ReachedRight, Holds, ChecksExact, BuiltWell, BuildsByRule, BuildRefuses}

@@ -20,7 +20,7 @@ use Rattle.network.proofs.Pigeon.{no-longer}
 use Rattle.network.proofs.Distance.{starts-in}
 use Rattle.network.proofs.NextHop.{path-reached, reached-path}
 use Rattle.network.proofs.Order.{acceptance-exact, built-accepted, never-stuck}
-use Rattle.order.proofs.Keeping.{kept-most}
+use Rattle.placing.proofs.Keeping.{kept-most}
 use Rattle.stations.specs.Topology.{padded}
 use Rattle.order.specs.Calls.{reachedCount, orderBytes}
 

@@ -19,21 +19,21 @@ use Rattle.stations.specs.Topology.{networkOf}
 use Rattle.soundness.specs.Theorems.{SoundNetwork}
 use Rattle.arcs.specs.declared.Arcs.{Arcs}
 use Rattle.arcs.specs.Arcs.{slotsBack, networkBack}
-use Rattle.order.specs.declared.Mode.{Mode}
-use Rattle.order.specs.declared.Mode.the-variants as mode
+use Rattle.placing.specs.declared.Mode.{Mode}
+use Rattle.placing.specs.declared.Mode.the-variants as mode
 use Rattle.order.specs.Calls.{modeOf, reachedCount}
 use Rattle.distances.specs.Settled.{Settled}
 use Rattle.order.specs.Proposed.{DistancesFor, LaidOut, Measured}
 use Rattle.distances.specs.Slots.{Slots, AllSlots}
-use Rattle.order.specs.Inner.{waitsFor, Lower, Standing, Highest, Room, Stepped}
+use Rattle.placing.specs.Standings.{waitsFor, Lower, Standing, Highest, Room, Stepped}
 use Rattle.soundness.proofs.Sound.{sound-exact, sound-networks}
 use Rattle.distances.proofs.Slots.{sound-held, back-held, all-slots}
-use Rattle.order.proofs.Keeping.{keep-same, none-kept}
-use Rattle.order.proofs.Counting.{waiting}
-use Rattle.order.proofs.Setting.{Setting, GoneBy, settled-agrees, topology-setting, topology-ids}
-use Rattle.order.proofs.Stepping.{waits-most}
-use Rattle.order.proofs.Kept.{Kept, kept-start, kept-room, kept-step}
-use Rattle.order.proofs.Ties.{lower-less}
+use Rattle.placing.proofs.Keeping.{keep-same, none-kept}
+use Rattle.placing.proofs.Counting.{waiting}
+use Rattle.placing.proofs.Setting.{Setting, GoneBy, settled-agrees, topology-setting, topology-ids}
+use Rattle.placing.proofs.Stepping.{waits-most}
+use Rattle.placing.proofs.Kept.{Kept, kept-start, kept-room, kept-step}
+use Rattle.placing.proofs.Ties.{lower-less}
 use Rattle.order.proofs.Chosen.{to-ready, candidate-stands, keys-low, none-selected, some-selected, highest-selected}
 
 -- distances that are settled serve in either mode, and in free mode zeros do

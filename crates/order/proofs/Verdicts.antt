@@ -16,8 +16,8 @@ use Rattle.stations.specs.Topology.{networkOf}
 use Rattle.stations.specs.Inner.{firstOr}
 use Rattle.stations.specs.Outcome.{answer}
 use Rattle.soundness.specs.Sound.{sound}
-use Rattle.order.specs.declared.Mode.{Mode}
-use Rattle.order.specs.declared.Mode.the-variants as mode
+use Rattle.placing.specs.declared.Mode.{Mode}
+use Rattle.placing.specs.declared.Mode.the-variants as mode
 use Rattle.order.specs.Calls.{modeOf, reachedCount, wrongRanks, ranksAfter, unreadyRanks, judging, checking}
 use Rattle.order.specs.Theorems as theorems
 use Rattle.order.specs.Theorems.{no-place, repeated, ranked, RightAt, WrongAt, UnreadyAt, Called, AllRight, Begun, Checked, ChecksEach}

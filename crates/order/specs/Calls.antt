@@ -15,8 +15,8 @@ use Rattle.stations.specs.declared.Topology.{Topology}
 use Rattle.stations.specs.Topology.{padded, networkOf}
 use Rattle.soundness.specs.Sound.{sound}
 use Rattle.stations.specs.Outcome.{answer, Outcome, turnedAway, given}
-use Rattle.order.specs.declared.Mode.{Mode}
-use Rattle.order.specs.declared.Mode.the-variants as mode
+use Rattle.placing.specs.declared.Mode.{Mode}
+use Rattle.placing.specs.declared.Mode.the-variants as mode
 
 -- the mode as the definitions have it
 unfoldable pub modeOf : Mode → network.Mode

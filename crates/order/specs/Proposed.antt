@@ -17,8 +17,8 @@ use Rattle.arcs.specs.declared.Arcs.{Arcs}
 use Rattle.arcs.specs.Arcs.{inSlots, Laid}
 use Rattle.distances.specs.Slots.{farthest}
 use Rattle.distances.specs.Settled.{Settled}
-use Rattle.order.specs.declared.Mode.{Mode}
-use Rattle.order.specs.declared.Mode.the-variants as mode
+use Rattle.placing.specs.declared.Mode.{Mode}
+use Rattle.placing.specs.declared.Mode.the-variants as mode
 use Rattle.order.specs.declared.unchecked.Ranks.{Ranks}
 
 -- what a mode needs of distances to build an order: shortest-path mode those to d, by place, free mode only that none is more than absent can be; to judge

@@ -15,8 +15,8 @@ use Rattle.stations.specs.declared.Topology.{Topology}
 use Rattle.stations.specs.Outcome.{answer, turnedAway}
 use Rattle.stations.specs.Topology.{networkOf}
 use Rattle.soundness.specs.Sound.{sound}
-use Rattle.order.specs.declared.Mode.{Mode}
-use Rattle.order.specs.declared.Mode.the-variants as mode
+use Rattle.placing.specs.declared.Mode.{Mode}
+use Rattle.placing.specs.declared.Mode.the-variants as mode
 use Rattle.order.specs.Calls.{reachedCount, building, checking}
 
 -- a claim of both modes, each as the code has it and as `network` has it

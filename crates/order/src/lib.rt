@@ -1,20 +1,14 @@
 // Orders (01, Order).
+pub use placing::Mode;
 use stations::Answer;
 use stations::Place;
 use stations::Topology;
 
-mod placing;
 mod proposal;
 pub mod unchecked;
 
 ghost use mathlib.Core.Path.{_≡_};
 ghost use Rattle.order.specs.Calls.{building, checking};
-
-// 01, Order: shortest-path mode is ANHOR-SP, free mode ANHOR.
-pub enum Mode {
-    ShortestPath,
-    Free,
-}
 
 // Builds the order for a destination: refusals 14, 15 and 24.
 pub fn build(t: Topology, destination: Place, mode: Mode, out: &mut [u8]) -> Answer

@@ -1,6 +1,5 @@
 // The tests of a proposed order's entries, and of the routers that it places.
 use super::Mode;
-use super::placing;
 use arcs::Arcs;
 use stations::ROUTERS;
 use stations::Topology;
@@ -64,17 +63,25 @@ pub(crate) fn unready_rank(
 {
     // Ties are not decided here, so no lower IDs are counted.
     let lower = [0u32; ROUTERS];
-    let mut keys = placing::standings(&a.count, &a.to, &a.cost, &ds, &lower, t.routers, mode);
+    let mut keys = placing::unchecked::standings(
+        &a.count,
+        &a.to,
+        &a.cost,
+        &ds,
+        &lower,
+        t.routers,
+        mode,
+    );
     let count = a.count[d] as usize;
-    placing::count_in(&mut keys, mode, &a.to, &a.back, &ds, d, count);
+    placing::unchecked::count_in(&mut keys, mode, &a.to, &a.back, &ds, d, count);
     let mut rank: usize = 1;
     while rank < order.len() {
         let u = order[rank] as usize;
-        if !placing::is_candidate(keys[u]) {
+        if !placing::unchecked::is_candidate(keys[u]) {
             return rank;
         }
         let count = a.count[u] as usize;
-        placing::count_in(&mut keys, mode, &a.to, &a.back, &ds, u, count);
+        placing::unchecked::count_in(&mut keys, mode, &a.to, &a.back, &ds, u, count);
         rank += 1;
     }
     rank

@@ -1,7 +1,6 @@
 // For callers that have tested the topology and the destination, and for ranks the order. Arcs and distances are handed over, so that a program that
 // goes through all destinations lays out the arcs once, and computes the distances to each once.
 use super::Mode;
-use super::placing;
 use super::proposal;
 use arcs::Arcs;
 use arcs::SLOTS;
@@ -73,23 +72,23 @@ pub fn build<'a>(
     ensures { λ _. ⌜ ((t : Topology) → Lent t (now (counts .entry)) (now (to .entry)) (now (cost .entry)) (now (back .entry)) (now (ids .entry)) n (destination .0) mode (now (ds .entry)) → now (out .exit) ≡ orderBytes n («said-order».build (networkOf t) (destination .0) (modeOf mode)) ++ drop n (now (out .entry))) ⌝ }
 {
     let d = destination.index();
-    let lower = placing::lower_ids(ids, n);
-    let places = placing::places_of(&lower, n);
-    let mut keys = placing::standings(counts, to, cost, ds, &lower, n, mode);
+    let lower = placing::unchecked::lower_ids(ids, n);
+    let places = placing::unchecked::places_of(&lower, n);
+    let mut keys = placing::unchecked::standings(counts, to, cost, ds, &lower, n, mode);
     let count = counts[d] as usize;
-    placing::count_in(&mut keys, mode, to, back, ds, d, count);
+    placing::unchecked::count_in(&mut keys, mode, to, back, ds, d, count);
     clear(out, n);
     out[0] = destination.0;
     let mut rank: usize = 1;
     while rank < n {
-        let best = placing::highest(&keys, n);
-        if !placing::is_candidate(best) {
+        let best = placing::unchecked::highest(&keys, n);
+        if !placing::unchecked::is_candidate(best) {
             return;
         }
-        let place = places[(best % placing::NEAR) as usize];
+        let place = places[(best % placing::unchecked::NEAR) as usize];
         let u = place as usize;
         let count = counts[u] as usize;
-        placing::count_in(&mut keys, mode, to, back, ds, u, count);
+        placing::unchecked::count_in(&mut keys, mode, to, back, ds, u, count);
         out[rank] = place;
         rank += 1;
     }

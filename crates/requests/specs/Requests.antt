@@ -10,7 +10,7 @@ use Rattle.stations.specs.declared.Topology.{Topology}
 use Rattle.records.specs.Reading.{reading}
 use Rattle.ospf.specs.Import.{importing}
 use Rattle.stations.specs.declared.Answer.{Answer}
-use Rattle.order.specs.declared.Mode.the-variants as mode
+use Rattle.placing.specs.declared.Mode.the-variants as mode
 use Rattle.packet.specs.Calls as said
 use Rattle.packet.specs.Calls.{Said}
 use Rattle.packet.specs.Lent.{Left, settingPacket, hoppingPacket}

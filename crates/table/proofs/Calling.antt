@@ -27,8 +27,8 @@ use Rattle.soundness.specs.Sound.{sound}
 use Rattle.soundness.proofs.Sound.{sound-networks}
 use Rattle.arcs.specs.declared.Arcs.{Arcs}
 use Rattle.arcs.specs.Arcs.{Laid}
-use Rattle.order.specs.declared.Mode.{Mode}
-use Rattle.order.specs.declared.Mode.the-variants as mode
+use Rattle.placing.specs.declared.Mode.{Mode}
+use Rattle.placing.specs.declared.Mode.the-variants as mode
 use Rattle.order.specs.Calls.{modeOf, reachedCount, orderBytes, atFirst, judging, checking}
 use Rattle.distances.specs.Settled.{Settled}
 use Rattle.order.proofs.Answers.{is-0}

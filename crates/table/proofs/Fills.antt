@@ -17,7 +17,7 @@ use Rattle.stations.specs.Topology.{padded, contents, networkIn, networkOf}
 use Rattle.stations.proofs.Given.{given-exact}
 use Rattle.soundness.specs.Sound.{sound}
 use Rattle.soundness.proofs.Sound.{sound-exact}
-use Rattle.order.specs.declared.Mode.the-variants as mode
+use Rattle.placing.specs.declared.Mode.the-variants as mode
 use Rattle.order.specs.Calls.{modeOf, reachedCount, orderBytes, checking}
 use Rattle.order.specs.Theorems.{upToN}
 use Rattle.order.proofs.Orders.{part-is, checks}

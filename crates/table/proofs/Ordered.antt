@@ -20,7 +20,7 @@ use Rattle.network.proofs.Rank.{rank-in, rank-is-turn}
 use Rattle.stations.specs.Inner.{firstOr}
 use Rattle.stations.specs.Topology.{padded}
 use Rattle.order.specs.Calls.{orderBytes}
-use Rattle.order.proofs.Counts.{keep-append}
+use Rattle.placing.proofs.Counts.{keep-append}
 use Rattle.order.proofs.First.{first-below, none-below}
 use Rattle.order.proofs.After.{past-part}
 use Rattle.order.proofs.Reached.{bytes-long}

@@ -14,7 +14,7 @@ use Rattle.stations.specs.Limits.{mostNextHops}
 use Rattle.stations.specs.Outcome.{answer, Outcome, turnedAway, given}
 use Rattle.stations.specs.Topology.{networkOf}
 use Rattle.soundness.specs.Sound.{sound, within}
-use Rattle.order.specs.declared.Mode.the-variants as mode
+use Rattle.placing.specs.declared.Mode.the-variants as mode
 use Rattle.order.specs.Calls.{reachedCount, atFirst, checking}
 use Rattle.rows.specs.Bytes.{rankOrNone, tableBytes, tableLength}
 use Rattle.table.specs.Listed.{kindIn, destinationIn, countIn, limitIn, rankIn, orderIn}

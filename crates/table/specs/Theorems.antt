@@ -17,7 +17,7 @@ use Rattle.stations.specs.declared.Topology.{Topology}
 use Rattle.stations.specs.Outcome.{answer, turnedAway}
 use Rattle.stations.specs.Topology.{networkOf}
 use Rattle.soundness.specs.Sound.{sound}
-use Rattle.order.specs.declared.Mode.the-variants as mode
+use Rattle.placing.specs.declared.Mode.the-variants as mode
 use Rattle.order.specs.Calls.{checking}
 use Rattle.order.specs.Theorems.{upToN}
 use Rattle.rows.specs.Bytes.{tableBytes}

@@ -31,8 +31,8 @@ use Rattle.stations.proofs.Given.{given-exact}
 use Rattle.soundness.specs.Sound.{sound}
 use Rattle.soundness.specs.Theorems.{plain}
 use Rattle.soundness.proofs.Sound.{sound-exact, sound-networks}
-use Rattle.order.specs.declared.Mode.{Mode}
-use Rattle.order.specs.declared.Mode.the-variants as mode
+use Rattle.placing.specs.declared.Mode.{Mode}
+use Rattle.placing.specs.declared.Mode.the-variants as mode
 use Rattle.order.specs.Calls.{modeOf, reachedCount, orderBytes, wrongRanks, ranksAfter, unreadyRanks, atFirst, building, judging, checking}
 use Rattle.order.specs.Theorems.{upToN, Holds}
 use Rattle.order.proofs.Orders.{checks-exact, reached-right}

@@ -20,7 +20,7 @@ use Rattle.stations.specs.declared.Topology.{Topology}
 use Rattle.stations.specs.Outcome.{answer, given}
 use Rattle.stations.specs.Topology.{networkOf}
 use Rattle.soundness.specs.Sound.{sound}
-use Rattle.order.specs.declared.Mode.{Mode}
+use Rattle.placing.specs.declared.Mode.{Mode}
 use Rattle.order.specs.Calls.{modeOf, wrongRanks, unreadyRanks, atFirst, building, checking}
 use Rattle.order.specs.Theorems.{upToN, InBoth}
 use Rattle.table.specs.Listed.{orderIn}

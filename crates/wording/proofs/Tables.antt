@@ -17,7 +17,7 @@ use Rattle.stations.specs.Topology.{networkOf}
 use Rattle.soundness.specs.Sound.{sound}
 use Rattle.soundness.proofs.Sound.{sound-exact}
 use Rattle.topology.proofs.Joined.{joined-same}
-use Rattle.order.specs.declared.Mode.the-variants as mode
+use Rattle.placing.specs.declared.Mode.the-variants as mode
 use Rattle.order.specs.Calls.{modeOf}
 use Rattle.order.proofs.Ranges.{getD-mem}
 use Rattle.rows.specs.Bytes.{rowStart}

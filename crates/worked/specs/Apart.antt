@@ -6,7 +6,7 @@ use mathlib.Core.List.{List, [], _∷_}
 use lib.Dec.{T}
 use lib.ListN.{replicate}
 use Rattle.network.specs.Lists.{every}
-use Rattle.order.specs.declared.Mode.the-variants.{ShortestPath, Free}
+use Rattle.placing.specs.declared.Mode.the-variants.{ShortestPath, Free}
 use Rattle.packet.specs.Lists.{set-at, hop-under}
 use Rattle.worked.specs.Chain.{Chain, builds, lists, counts, walks, leaves, delivered, dropped, follows}
 use Rattle.worked.specs.Starred.{from}

@@ -11,7 +11,7 @@ use Rattle.stations.specs.Outcome.{Outcome}
 use Rattle.stations.specs.declared.Topology.{Topology}
 use Rattle.records.specs.declared.Reading.{Reading}
 use Rattle.records.specs.Reading.{reading}
-use Rattle.order.specs.declared.Mode.{Mode}
+use Rattle.placing.specs.declared.Mode.{Mode}
 use Rattle.order.specs.Calls.{building}
 use Rattle.order.specs.Table.{answers}
 use Rattle.rows.specs.Bytes.{tableLength}

@@ -12,8 +12,8 @@ use Rattle.stations.specs.Topology.{networkOf}
 use Rattle.records.specs.Reading.{reading}
 use Rattle.records.specs.Table.{T-stream}
 use Rattle.topology.specs.Written.{joinedOver}
-use Rattle.order.specs.declared.Mode as call
-use Rattle.order.specs.declared.Mode.the-variants.{ShortestPath, Free}
+use Rattle.placing.specs.declared.Mode as call
+use Rattle.placing.specs.declared.Mode.the-variants.{ShortestPath, Free}
 use Rattle.worked.specs.Fact.{Fact, Claim, order-is, row-is, greatest-are, paths-are, walk-costs, calls-leave, set, hop, upBut, holds}
 use Rattle.worked.specs.Chain.{Chain, Expected, builds, lists, counts, walks, delivered, dropped, follows}
 

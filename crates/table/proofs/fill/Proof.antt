@@ -15,7 +15,7 @@ use Rattle.stations.specs.Outcome.{answer, given, turnedAway}
 use Rattle.stations.specs.Topology.{networkOf}
 use Rattle.soundness.specs.Sound.{sound}
 use Rattle.soundness.proofs.Sound.{sound-exact}
-use Rattle.order.specs.declared.Mode.the-variants as mode
+use Rattle.placing.specs.declared.Mode.the-variants as mode
 use Rattle.order.specs.Calls.{reachedCount, judging, checking}
 use Rattle.order.specs.Proposed.{Measured}
 use Rattle.order.proofs.Turn.{counts-reached}

@@ -8,7 +8,7 @@ use borrow.Author.Tests.{le-leb, lt-leb}
 use lib.Dec.{leb}
 use lib.ListN.{length, getD}
 use Rattle.network.specs.Lists.{numbersFrom, below, keep}
-use Rattle.order.proofs.Counts.{count-one, count-same, count-most}
+use Rattle.placing.proofs.Counts.{count-one, count-same, count-most}
 use Rattle.rows.specs.Bytes.{rowStart}
 use Rattle.figures.specs.Theorems.{total}
 use Rattle.figures.specs.Inner.{entriesAt, twoIn, allIn}

@@ -14,8 +14,9 @@ use lib.ListN.{length, getD, set, replicate}
 use Rattle.stations.specs.declared.Topology.{Topology}
 use Rattle.arcs.specs.declared.Arcs.{Arcs}
 use Rattle.distances.specs.Slots.{Slots}
-use Rattle.order.specs.declared.Mode.{Mode}
-use Rattle.order.specs.Inner.{Standing, Stepped, Begins}
+use Rattle.placing.specs.declared.Mode.{Mode}
+use Rattle.placing.specs.Standings.{Standing, Stepped}
+use Rattle.order.specs.Inner.{Begins}
 use Rattle.order.specs.Proposed.{LaidOut}
 use Rattle.order.proofs.Turn.{every-slot, slots, zeros-small, first-slots, first-room}
 use Rattle.order.proofs.Checking.{Checking, begins-short, first-turn, place, has-room, unready, again, none-unready}

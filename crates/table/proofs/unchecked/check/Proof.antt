@@ -14,7 +14,7 @@ use lib.Seq.{length-take-le}
 use Rattle.network.proofs.Tests.{both}
 use Rattle.soundness.proofs.Sound.{sound-exact}
 use Rattle.stations.specs.declared.Answer.{Answer}
-use Rattle.order.specs.declared.Mode.the-variants as mode
+use Rattle.placing.specs.declared.Mode.the-variants as mode
 use Rattle.distances.proofs.Slots.{laid-out}
 use Rattle.order.specs.Calls.{judging}
 use Rattle.order.specs.Proposed.{Measured}
