@@ -23,6 +23,7 @@ use Rattle.soundness.specs.Sound.{sound}
 use Rattle.placing.specs.declared.Mode.{Mode}
 use Rattle.order.specs.Calls.{modeOf, wrongRanks, unreadyRanks, atFirst, building, checking}
 use Rattle.order.specs.Theorems.{upToN, InBoth}
+use Rattle.order.specs.Table.{T-topology, twoParts}
 use Rattle.table.specs.Listed.{orderIn}
 use Rattle.table.specs.Calls.{filling, tableChecking}
 use Rattle.table.specs.Theorems.{RankAt, GivenBy, withLimit}
@@ -35,6 +36,10 @@ use Rattle.wording.specs.Theorems.{LineIs, Lists}
 -- every router has a path to place 0
 abbrev pub InOnePiece : Topology → Type 0
 InOnePiece t = (u : ℕ) → u < t .routers → PathTo (networkOf t) 0 u
+
+-- T of 01 is sound and in one piece; four routers of two parts, links 0-1 and 2-3, are sound and not in one piece
+abbrev pub PiecesTold : Type 0
+PiecesTold = T (sound T-topology) × InOnePiece T-topology × T (sound twoParts) × (InOnePiece twoParts → ⊥)
 
 -- 01, Refusals, 17 to 20, each over the whole order of N places
 unfoldable pub judgedWhole : Topology → ℕ → Mode → List ℕ → Answer

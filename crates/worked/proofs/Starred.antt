@@ -1,64 +1,28 @@
--- The prover computes every fact from the definitions.
+-- The prover computes the further facts from the definitions of `network`, that the networks are well formed, and what their streams are read as.
 -- Assumes nothing.
 use mathlib.Core.Path.{refl}
 use Rattle.network.specs.Lists.{numbersFrom, below, keep, every, any, leastBy, greatestBy, ahead, foremost, insert, sort, member, distinct, sameNumbers, wins}
 use Rattle.network.specs.Network.{size, idOf, arcsOf, greatestCost, arcsAmong, linked, soundCost, soundLink, samePair, pairsDiffer, soundLinks}
 use Rattle.network.specs.Distance as of-distance
 use Rattle.network.specs.Distance.{absent, distanceIn, through, round, rounds, distances}
-use Rattle.network.specs.Order as of-order
 use Rattle.network.specs.Order.{reached, shortestNextHops, leadsInto, ready, candidate, placedNeighbours, preferred, select, continued, placing, build}
-use Rattle.network.specs.Order.{candidatesInTurn, holdsEachOnce, firstIs, othersInTurn}
 use Rattle.network.specs.Row.{rank, sortsBefore, rankedBefore, fullRow, row}
-use Rattle.network.specs.Forwarding.{hopTo, hop, walkOn, walkEnd, walk, start, routeOn, route, longest}
+use Rattle.network.specs.Forwarding.{hopTo, hop, start, routeOn, route, longest}
 use Rattle.network.specs.Paths.{pathsAt, throughEach, pathsFrom}
 use Rattle.network.specs.Calls.{afterHop, afterCall, afterCalls}
 use Rattle.network.specs.Routing.{up, firstLive, validStates, greatestHop, greatestHops, everyPath, costOf}
 use Rattle.network.proofs.Linked.{linked-well-formed}
-use Rattle.stations.specs.Inner.{firstOr}
-use Rattle.stations.specs.Outcome.{turnedAway, given}
 use Rattle.stations.specs.Topology.{noLink, padded, contents, held, zeros, seen, networkIn, networkOf}
-use Rattle.soundness.specs.Sound.{within, inLimits, wellLinked, uncrowded, isNoLink, unusedZero, slotted, sound}
+use Rattle.soundness.specs.Sound.{within}
 use Rattle.records.specs.Stream.{bigEndianOn, bigEndian, bodyLength, halfIn, decoded, recordIn, records}
 use Rattle.records.specs.Halves.{firstHalf, secondHalf, linkHalves, halves, sameHalf, leaves, opposite, linkOf}
 use Rattle.records.specs.Reading.{refusal, accepted, routerFault, repeated, crowded, halvesFault, fault, withRouter, withLink, withLimit, arrived, added}
 use Rattle.records.specs.Reading.{width, isEnd, ended, unless, some?, inTurn, nothingListed, reading}
 use Rattle.records.specs.Table.{T-stream}
-use Rattle.topology.specs.Written.{joinedOver}
-use Rattle.order.specs.Calls.{modeOf, reachedCount, orderBytes, building, wrongRanks, ranksAfter, unreadyRanks, atFirst, judging, checking}
-use Rattle.order.specs.Table.{answers}
-use Rattle.rows.specs.Bytes.{rankOrNone, rowBytes, headerBytes, rowOf, rowsBytes, tableBytes, rowStart}
-use Rattle.table.specs.Listed.{kindIn, destinationIn, countIn, limitIn, rankIn, placesIn, arcsTo, entriesIn, listed, byRank, orderIn}
-use Rattle.table.specs.Calls.{unlessRefused, filling, soundHeader, soundRanks, differing, wrongBytes, tableJudging, tableChecking}
-use Rattle.table.specs.Facts.{room}
-use Rattle.packet.specs.Schedule.{rowIn, rowCounts, rowsIn, soundLength, wrongStates}
-use Rattle.packet.specs.Calls.{tested, testedBy, testedOver, figure, figureByte, figures, countingHops, walking}
+use Rattle.order.specs.Calls.{atFirst}
 use Rattle.worked.specs.Fact.{upBut, leftAt, callOf, samePaths, claimHolds, holds}
-use Rattle.worked.specs.Chain.{wrote, endsSo, byTable, byOrder, byReading, follows}
-use Rattle.worked.specs.Starred.{link, twoCosts, T-network, F-network, alone, slope, slope-stream, about, F-stream, alone-stream, from, F-schedule, starred, StarredHold}
+use Rattle.worked.specs.Starred.{link, twoCosts, T-network, F-network, alone, slope, slope-stream, about, F-stream, alone-stream, from}
 use Rattle.worked.specs.Starred.{T-reversed, allUp, further, FurtherHold, WorkedWellFormed, StreamsRead}
-
-pub starred-hold : StarredHold
-unfolding numbersFrom below keep every any leastBy greatestBy ahead foremost insert sort member distinct sameNumbers wins
-    size idOf arcsOf greatestCost arcsAmong linked soundCost soundLink samePair pairsDiffer soundLinks
-    absent distanceIn through of-distance.atFirst round rounds distances
-    reached shortestNextHops leadsInto ready candidate placedNeighbours preferred select continued placing build
-    candidatesInTurn holdsEachOnce firstIs othersInTurn of-order.accepted
-    rank sortsBefore rankedBefore fullRow row
-    hopTo hop walkOn walkEnd walk start longest up firstLive
-    firstOr turnedAway given noLink padded contents held zeros seen networkIn networkOf
-    within inLimits wellLinked uncrowded isNoLink unusedZero slotted sound
-    bigEndianOn bigEndian bodyLength halfIn decoded recordIn records
-    linkHalves firstHalf secondHalf halves sameHalf leaves opposite linkOf
-    refusal accepted routerFault repeated crowded halvesFault fault withRouter withLink withLimit arrived added
-    width isEnd ended unless some? inTurn nothingListed reading
-    T-stream joinedOver modeOf reachedCount orderBytes building wrongRanks ranksAfter unreadyRanks atFirst judging checking answers
-    rankOrNone rowBytes headerBytes rowOf rowsBytes tableBytes rowStart
-    kindIn destinationIn countIn limitIn rankIn placesIn arcsTo entriesIn listed byRank orderIn
-    unlessRefused filling soundHeader soundRanks differing wrongBytes tableJudging tableChecking room
-    rowIn rowCounts rowsIn soundLength wrongStates tested testedBy testedOver figure figureByte figures countingHops walking
-    upBut leftAt wrote endsSo byTable byOrder byReading follows
-    link F-network F-stream alone-stream from F-schedule starred
-starred-hold = tt
 
 pub further-hold : FurtherHold
 unfolding numbersFrom below keep every any leastBy greatestBy ahead foremost insert sort member sameNumbers wins

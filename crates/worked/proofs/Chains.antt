@@ -1,4 +1,4 @@
--- The prover computes every fact from the definitions.
+-- The prover computes every fact that goes through the calls, from the definitions: the starred ones, and those of parts apart.
 -- Assumes nothing.
 use Rattle.network.specs.Lists.{numbersFrom, below, keep, every, any, leastBy, greatestBy, ahead, foremost, insert, sort, member, distinct, sameNumbers, wins}
 use Rattle.network.specs.Network.{size, idOf, arcsOf, greatestCost, arcsAmong, linked, soundCost, soundLink, samePair, pairsDiffer, soundLinks}
@@ -18,6 +18,7 @@ use Rattle.records.specs.Stream.{bigEndianOn, bigEndian, bodyLength, halfIn, de
 use Rattle.records.specs.Halves.{firstHalf, secondHalf, linkHalves, halves, sameHalf, leaves, opposite, linkOf}
 use Rattle.records.specs.Reading.{refusal, accepted, routerFault, repeated, crowded, halvesFault, fault, withRouter, withLink, withLimit, arrived, added}
 use Rattle.records.specs.Reading.{width, isEnd, ended, unless, some?, inTurn, nothingListed, reading}
+use Rattle.records.specs.Table.{T-stream}
 use Rattle.topology.specs.Written.{joinedOver}
 use Rattle.order.specs.Calls.{modeOf, reachedCount, orderBytes, building, wrongRanks, ranksAfter, unreadyRanks, atFirst, judging, checking}
 use Rattle.order.specs.Table.{answers}
@@ -29,12 +30,12 @@ use Rattle.packet.specs.Schedule.{rowIn, rowCounts, rowsIn, soundLength, wrongS
 use Rattle.packet.specs.Calls.{tested, testedBy, testedOver, figure, figureByte, figures, countingHops, settingAt, hopping, walking}
 use Rattle.packet.specs.Lent.{afterSetting, afterHop, settingPacket, hoppingPacket}
 use Rattle.packet.specs.Lists.{after, afterAll}
-use Rattle.worked.specs.Fact.{leftAt}
+use Rattle.worked.specs.Fact.{upBut, leftAt}
 use Rattle.worked.specs.Chain.{wrote, endsSo, byTable, byOrder, byReading, follows}
-use Rattle.worked.specs.Starred.{from}
+use Rattle.worked.specs.Starred.{link, F-network, F-stream, alone-stream, from, F-schedule, starred, StarredHold}
 use Rattle.worked.specs.Apart.{cutOff, twoParts, pair, threeUp, apart, ApartHold}
 
-pub apart-hold : ApartHold
+chains-hold : StarredHold × ApartHold
 unfolding numbersFrom below keep every any leastBy greatestBy ahead foremost insert sort member distinct sameNumbers wins
     size idOf arcsOf greatestCost arcsAmong linked soundCost soundLink samePair pairsDiffer soundLinks
     absent distanceIn through of-distance.atFirst round rounds distances
@@ -48,12 +49,18 @@ unfolding numbersFrom below keep every any leastBy greatestBy ahead foremost ins
     linkHalves firstHalf secondHalf halves sameHalf leaves opposite linkOf
     refusal accepted routerFault repeated crowded halvesFault fault withRouter withLink withLimit arrived added
     width isEnd ended unless some? inTurn nothingListed reading
-    joinedOver modeOf reachedCount orderBytes building wrongRanks ranksAfter unreadyRanks atFirst judging checking answers
+    T-stream joinedOver modeOf reachedCount orderBytes building wrongRanks ranksAfter unreadyRanks atFirst judging checking answers
     rankOrNone rowBytes headerBytes rowOf rowsBytes tableBytes rowStart
     kindIn destinationIn countIn limitIn rankIn placesIn arcsTo entriesIn listed byRank orderIn
     unlessRefused filling soundHeader soundRanks differing wrongBytes tableJudging tableChecking room
     rowIn rowCounts rowsIn soundLength wrongStates tested testedBy testedOver figure figureByte figures countingHops settingAt hopping walking
     afterSetting afterHop settingPacket hoppingPacket after afterAll
-    leftAt wrote endsSo byTable byOrder byReading follows
-    from cutOff twoParts pair threeUp apart
-apart-hold = tt
+    upBut leftAt wrote endsSo byTable byOrder byReading follows
+    link F-network F-stream alone-stream from F-schedule starred cutOff twoParts pair threeUp apart
+chains-hold = (tt, tt)
+
+pub starred-hold : StarredHold
+starred-hold = chains-hold .0
+
+pub apart-hold : ApartHold
+apart-hold = chains-hold .1
