@@ -1,6 +1,7 @@
-"""The programs, written from the words of the rules and of RFC 2328 alone: slow and short, to check them by."""
+"""The programs, and the cost of a link, written from the words of the rules and of RFCs 2328 and 3630, not from the code: slow and short, to check them by."""
 
 import itertools
+from fractions import Fraction
 from math import inf
 
 BODY = {1: 4, 2: 4, 3: 0, 4: 4, 8: 1}
@@ -158,6 +159,53 @@ def conversion(file):
         return written(*imported(file)), b""
     except Refused as refused:
         return b"", b"refused %d %d\n" % refused.args
+
+
+def sub_tlv(value, at):
+    """The sub-TLV at an offset of a Link TLV's value: its type, what it carries, and the offset behind its padding (RFC 3630, 2.3.2)."""
+    if at + 4 > len(value):
+        raise Refused(29, at)
+    kind, length = number(value[at : at + 2]), number(value[at + 2 : at + 4])
+    after = at + 4 + (length + 3) // 4 * 4
+    if after > len(value) or (kind in (5, 6, 7) and length != 4):
+        raise Refused(29, at)
+    return kind, value[at + 4 : at + 4 + length], after
+
+
+def amount(bits):
+    """What an IEEE 754 single stands for, exactly; 0 where it is not finite."""
+    exponent, fraction = bits >> 23 & 255, bits & 0x7FFFFF
+    if exponent == 255:
+        return Fraction(0)
+    size = Fraction(fraction, 2**149) if exponent == 0 else Fraction(2**23 + fraction) * Fraction(2) ** (exponent - 150)
+    return -size if bits >> 31 else size
+
+
+def gathered(value):
+    """The last metric (5), maximum (6) and reservable bandwidth (7) of a value, each as 32 bits (RFC 3630, 2.5)."""
+    held, at = {}, 0
+    while at < len(value):
+        kind, carried, after = sub_tlv(value, at)
+        if kind in (6, 7) and amount(number(carried)) < 1:
+            raise Refused(28, at)
+        if kind in (5, 6, 7):
+            held[kind] = number(carried)
+        at = after
+    return held
+
+
+def link_cost(value):
+    """What the console answers to `te`: number, at and cost, and of each of the three whether it is present, and its 32 bits."""
+    try:
+        held = gathered(value)
+        cost = held.get(5, 0)
+        if not 1 <= cost <= 65535:
+            if 6 not in held:
+                raise Refused(29, len(value))
+            cost = min(max(12500000 // amount(held[6]), 1), 65535)
+    except Refused as refused:
+        return "%d %d 0 0 0 0 0 0 0" % refused.args
+    return " ".join(map(str, [0, 0, cost] + [part for kind in (5, 6, 7) for part in (int(kind in held), held.get(kind, 0))]))
 
 
 def distances(cost, d):

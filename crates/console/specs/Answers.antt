@@ -9,7 +9,7 @@ use lib.ListN.{length, take}
 use Rattle.text.specs.Fields.{asks}
 use Rattle.text.specs.Lines.{Put}
 use Rattle.requests.specs.Requests.{Held, Answered, unchanged, refused, setWord, readIn, importIn, loadIn, loadPacketIn, setIn, hopIn}
-use Rattle.replies.specs.Calls.{writeIn, orderIn, checkOrderIn, fillIn, checkTable, countIn, walkIn, listIn, oldStreamIn, coverageOf, pathsIn}
+use Rattle.replies.specs.Calls.{writeIn, orderIn, checkOrderIn, fillIn, checkTable, countIn, walkIn, listIn, oldStreamIn, coverageOf, pathsIn, teIn}
 use Rattle.requests.specs.Replies.{heldIn}
 use Rattle.console.specs.declared.answers.Turn.{Turn}
 use Rattle.console.specs.declared.answers.Request.{Request}
@@ -79,6 +79,10 @@ pathsWord = 112 ∷ 97 ∷ 116 ∷ 104 ∷ 115 ∷ []
 unfoldable pub importWord : List ℕ
 importWord = 105 ∷ 109 ∷ 112 ∷ 111 ∷ 114 ∷ 116 ∷ []
 
+-- `te`
+unfoldable pub teWord : List ℕ
+teWord = 116 ∷ 101 ∷ []
+
 -- A request's first word, and the number of fields after it.
 pub record Form : Type 0 where
   pub word : List ℕ
@@ -103,7 +107,8 @@ forms =
     record { word = oldStreamWord; fields = 2; request = request.OldStream } ∷
     record { word = coverageWord; fields = 0; request = request.Coverage } ∷
     record { word = pathsWord; fields = 2; request = request.Paths } ∷
-    record { word = importWord; fields = 1; request = request.Import } ∷ []
+    record { word = importWord; fields = 1; request = request.Import } ∷
+    record { word = teWord; fields = 1; request = request.Te } ∷ []
 
 -- the request of the first form that a line has
 unfoldable pub formed : List Form → List ℕ → Request
@@ -133,6 +138,7 @@ answerTo request.OldStream h line = unchanged h (oldStreamIn line)
 answerTo request.Coverage h line = unchanged h (coverageOf (h .topology))
 answerTo request.Paths h line = unchanged h (pathsIn h line)
 answerTo request.Import h line = importIn h line
+answerTo request.Te h line = unchanged h (teIn line)
 answerTo request.Unknown h line = refused h
 
 -- what a line answers

@@ -34,6 +34,7 @@ pub enum Request {
     Coverage,
     Paths,
     Import,
+    Te,
     Unknown,
 }
 
@@ -47,7 +48,7 @@ pub struct Turn {
 struct Shape(usize, Request);
 
 // In the order of the words in `request_in`.
-const SHAPES: [Shape; 17] = [
+const SHAPES: [Shape; 18] = [
     Shape(1, Request::Topology),
     Shape(1, Request::Write),
     Shape(3, Request::Order),
@@ -65,13 +66,14 @@ const SHAPES: [Shape; 17] = [
     Shape(0, Request::Coverage),
     Shape(2, Request::Paths),
     Shape(1, Request::Import),
+    Shape(1, Request::Te),
 ];
 
 fn request_in(line: &[u8]) -> Request
     ensures { λ r. ⌜ r ≡ requestIn (now (line .entry)) ⌝ }
 {
     let words =
-        b"topology write order check-order fill load-table check-table greatest load-packet set hop walk listing old-stream coverage paths import";
+        b"topology write order check-order fill load-table check-table greatest load-packet set hop walk listing old-stream coverage paths import te";
     let shapes = SHAPES;
     let mut k: usize = 0;
     while k < shapes.len() {
@@ -141,6 +143,10 @@ fn step(h: Holding, table: &mut [u8], line: &[u8], buffer: &mut [u8]) -> Step
         Request::Paths => Step {
             held: h,
             reply: calls::write_paths(h, table, line, buffer),
+        },
+        Request::Te => Step {
+            held: h,
+            reply: calls::link_cost(line, buffer),
         },
         Request::Unknown => Step {
             held: h,

@@ -1,5 +1,6 @@
 -- The prover computes every fact from the definitions.
 -- Assumes nothing.
+use lib.Ieee.{ofBits, toBits}
 use Rattle.network.specs.Lists.{numbersFrom, below, keep, every, any, leastBy, greatestBy, ahead, foremost, insert, sort, member, distinct, sameNumbers, wins}
 use Rattle.network.specs.Network.{size, idOf, arcsOf, greatestCost, arcsAmong, linked, soundCost, soundLink, samePair, pairsDiffer, soundLinks}
 use Rattle.network.specs.Distance.{absent, distanceIn, through, atFirst, round, rounds, distances}
@@ -16,8 +17,11 @@ use Rattle.wording.specs.Listing.{spaced}
 use Rattle.figures.specs.Coverage.{rowFor, pairsTo, pairsOf, hasTwo, coveredAmong, listedFor, counted, nothingCounted, coverage}
 use Rattle.figures.specs.Printed.{overLinks, fractions, numbers}
 use Rattle.requests.specs.Requests.{answerOf}
-use Rattle.replies.specs.Calls.{coverageLine, coverageOf}
-use Rattle.replies.specs.Facts.{holds, facts, FactsHold}
+use Rattle.records.specs.Stream.{bigEndian, bigEndianOn}
+use Rattle.te.specs.SubTlvs.{typeOf, lengthOf, spanOf, cutShort, numberIn, usable, caseOf, judged, subIn}
+use Rattle.te.specs.Cost.{nothing, gathered, heldToRange, bandwidthCost, maximumCost, costOf, refusal, concluded, faultOf, added, takenFrom, costing}
+use Rattle.replies.specs.Calls.{coverageLine, coverageOf, presence, costNumbers, costLine}
+use Rattle.replies.specs.Facts.{holds, facts, FactsHold, lineHolds, lineFacts, LinesHold}
 
 pub facts-hold : FactsHold
 unfolding numbersFrom below keep every any leastBy greatestBy ahead foremost insert sort member distinct sameNumbers wins
@@ -31,3 +35,10 @@ unfolding numbersFrom below keep every any leastBy greatestBy ahead foremost ins
     rowFor pairsTo pairsOf hasTwo coveredAmong listedFor counted nothingCounted coverage
     overLinks fractions numbers answerOf coverageLine coverageOf holds facts
 facts-hold = tt
+
+pub lines-hold : LinesHold
+unfolding every sameNumbers bigEndian bigEndianOn ofBits toBits lastDigits numberText spaced
+    typeOf lengthOf spanOf cutShort numberIn usable caseOf judged subIn
+    nothing gathered heldToRange bandwidthCost maximumCost costOf refusal concluded faultOf added takenFrom costing
+    presence costNumbers costLine lineHolds lineFacts
+lines-hold = tt

@@ -1,4 +1,5 @@
 pub mod Lent
 pub mod Room
 pub mod Covered
+pub mod LinkCosts
 pub mod Facts

@@ -1,10 +1,11 @@
 -- The requests that leave what is held as it is: what each answers, by the fields of its line.
 -- Assumes nothing.
 use Prim.Native.Nat.{ℕ}
-use mathlib.Core.Bool.{cond}
+use mathlib.Core.Bool.{Bool, cond}
 use mathlib.Core.List.{List, [], _∷_, _++_, map}
 use lib.Dec.{eqb}
 use lib.ListN.{replicate}
+use lib.Ieee.{binary32, toBits}
 use Rattle.network.specs.Forwarding.{Walk, delivered-at, dropped-at, unfinished-at}
 use Rattle.stations.specs.declared.Topology.{Topology}
 use Rattle.stations.specs.Outcome.{Outcome}
@@ -19,6 +20,8 @@ use Rattle.wording.specs.Listing.{spaced, listing}
 use Rattle.figures.specs.declared.Coverage.{Coverage}
 use Rattle.figures.specs.Coverage.{coverage}
 use Rattle.figures.specs.Printed.{numbers}
+use Rattle.te.specs.declared.LinkCost.{LinkCost}
+use Rattle.te.specs.Cost.{costing}
 use Rattle.text.specs.declared.unchecked.fields.Value.{Value}
 use Rattle.text.specs.declared.unchecked.fields.Value.the-variants.{Is, Wrong}
 use Rattle.text.specs.Fields.{field}
@@ -113,6 +116,27 @@ coverageLine c =
 unfoldable pub coverageOf : Topology → List ℕ
 coverageOf t = coverageLine (coverage t)
 
+-- `1` or `0` for present
+unfoldable pub presence : Bool → ℕ
+presence has = cond has 1 0
+
+-- NUMBER AT COST, then metric, maximum and reservable, each with its presence in front: a bandwidth is its 32-bit pattern
+unfoldable pub costNumbers : LinkCost → List ℕ
+costNumbers c =
+    c .answer .number ∷ c .answer .at ∷ c .cost ∷
+    presence (c .link .hasmetric) ∷ c .link .metric ∷
+    presence (c .link .hasmaximum) ∷ toBits binary32 (c .link .maximum) ∷
+    presence (c .link .hasreservable) ∷ toBits binary32 (c .link .reservable) ∷ []
+
+-- and the line's end
+unfoldable pub costLine : LinkCost → List ℕ
+costLine c = spaced (map numberText (costNumbers c)) ++ (newline ∷ [])
+
+-- `te VALUE`, where the field holds this, a count of bytes, and these are the bytes
+unfoldable pub teBy : Value → List ℕ → List ℕ
+teBy (Is n) value = costLine (costing value)
+teBy Wrong value = errorLine
+
 -- each request, by the fields of its line
 unfoldable pub writeIn : Topology → List ℕ → List ℕ
 writeIn t line = writeBy t (number mostRoom (field 1 line))
@@ -145,3 +169,6 @@ oldStreamIn line = oldStreamBy (byteCount (field 1 line)) (bytes (field 1 line))
 
 unfoldable pub pathsIn : Held → List ℕ → List ℕ
 pathsIn h line = pathsBy h (number mostByte (field 1 line)) (number mostRoom (field 2 line))
+
+unfoldable pub teIn : List ℕ → List ℕ
+teIn line = teBy (byteCount (field 1 line)) (bytes (field 1 line))

@@ -1,4 +1,6 @@
 // Requests that leave what is held as it is, each a call of the library: its fields, the call, and the reply.
+use super::costs;
+use super::putting;
 use super::putting::ROOM;
 use forwarding::Walked;
 use requests::unchecked::asked;
@@ -15,7 +17,7 @@ ghost use mathlib.Core.Path.{_≡_};
 ghost use Prim.Native.Nat.{ℕ, _≤_};
 ghost use lib.ListN.{length};
 ghost use Rattle.requests.specs.Requests.{mostLine};
-ghost use Rattle.replies.specs.Calls.{lent, mostRoom, writeIn, orderIn, checkOrderIn, fillIn, checkTable, countIn, walkIn, listIn, oldStreamIn, coverageOf, pathsIn};
+ghost use Rattle.replies.specs.Calls.{lent, mostRoom, writeIn, orderIn, checkOrderIn, fillIn, checkTable, countIn, walkIn, listIn, oldStreamIn, coverageOf, pathsIn, teIn};
 ghost use Rattle.requests.specs.Replies.{Replies, heldIn};
 
 // `write ROOM`
@@ -188,4 +190,19 @@ pub fn write_paths(h: Holding, table: &[u8], line: &[u8], buffer: &mut [u8]) -> 
     };
     let answer = paths::write(t, &table[..size], Place(u as u8), &mut buffer[..n]);
     Reply::Leaves(answer, n)
+}
+
+// `te VALUE`
+pub fn link_cost(line: &[u8], buffer: &mut [u8]) -> Reply
+    requires { ⌜ (length (now line) ≤ mostLine) × (now buffer ≡ lent mostRoom) ⌝ }
+    ensures { λ r. ⌜ Replies (teIn (now (line .entry))) r (now (buffer .exit)) ⌝ }
+{
+    let mut bytes = asked::room_for_bytes();
+    let Value::Is(n) = asked::bytes_in(line, 1, &mut bytes) else {
+        return Reply::Error;
+    };
+    let c = te::cost(&bytes[..n]);
+    let numbers = costs::numbers_of(c);
+    let end = putting::put_numbers(buffer, &numbers);
+    Reply::Line(end)
 }

@@ -13,7 +13,7 @@ use Rattle.requests.specs.Requests.{setWord}
 use Rattle.console.specs.declared.answers.Shape.{Shape}
 use Rattle.console.specs.declared.answers.Request.{Request}
 use Rattle.console.specs.declared.answers.Request.the-variants.{Unknown}
-use Rattle.console.specs.Answers.{topologyWord, writeWord, orderWord, checkOrderWord, fillWord, loadTableWord, checkTableWord, greatestWord, loadPacketWord, hopWord, walkWord, listingWord, oldStreamWord, coverageWord, pathsWord, importWord, Form, forms, formed, requestIn}
+use Rattle.console.specs.Answers.{topologyWord, writeWord, orderWord, checkOrderWord, fillWord, loadTableWord, checkTableWord, greatestWord, loadPacketWord, hopWord, walkWord, listingWord, oldStreamWord, coverageWord, pathsWord, importWord, teWord, Form, forms, formed, requestIn}
 use borrow.Author.Needs.{needs}
 use Rattle.console.proofs.answers.request_in.Statement.{statement}
 use Rattle.console.proofs.answers.request_in.Tie as tie
@@ -47,7 +47,7 @@ abbrev μ-loop : tie.MeasureT-loop
 
 -- the words and the shapes make the forms
 loop-holds : tie.Need-loop-holds Inv-loop μ-loop
-unfolding requestIn forms left made field before after topologyWord writeWord orderWord checkOrderWord fillWord loadTableWord checkTableWord greatestWord loadPacketWord setWord hopWord walkWord listingWord oldStreamWord coverageWord pathsWord importWord
+unfolding requestIn forms left made field before after topologyWord writeWord orderWord checkOrderWord fillWord loadTableWord checkTableWord greatestWord loadPacketWord setWord hopWord walkWord listingWord oldStreamWord coverageWord pathsWord importWord teWord
 loop-holds c = (omega arith, refl)
 
 returns : tie.Need-returns Inv-loop μ-loop

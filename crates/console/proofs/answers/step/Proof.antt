@@ -82,13 +82,23 @@ unfolding answer answerTo heldIn
 returns-17 c = rw (asked (c .before .before .before .before .before .before .before) (c .before .before .before .before .before .enum-told17 .given .1)) (kept-step (c .before .before .before .before .before .before .before .before .before .before .before .before .pre .0 .size) (c .before .before .write-paths .ensures))
 
 returns-18 : tie.Need-returns-18
+unfolding answer answerTo heldIn
+returns-18 c =
+    let told = c .before .before .before .before in
+    let begun = told .before .before in
+    rw (asked begun (told .enum-told18 .given .1))
+    (kept-step (begun .before .before .before .before .before .pre .0 .size) (c .before .before .link-cost .ensures))
+
+returns-19 : tie.Need-returns-19
 unfolding answer answerTo
-returns-18 c = rw (asked (c .before .before) (c .enum-told18 .given .1)) (error-step (c .before .before .before .before .before .before .before .pre .0 .size))
+returns-19 c = rw (asked (c .before .before) (c .enum-told19 .given .1)) (error-step (c .before .before .before .before .before .before .before .pre .0 .size))
 
 pub step-spec : {M : Type 1} → statement M
 step-spec =
     tie.close
     (tie.spec
+    (λ c κs. search needs)
+    (λ c. search needs)
     (λ c κs. search needs)
     (λ c. search needs)
     (λ c κs. search needs)
@@ -156,4 +166,6 @@ step-spec =
     (λ c. search needs)
     (λ c. search needs)
     returns-17
-    returns-18)
+    (λ c. search needs)
+    returns-18
+    returns-19)

@@ -1,0 +1,30 @@
+-- What a record costs, by the tests of its metric and of what it has.
+-- Assumes nothing.
+use Prim.Native.Nat.{_≤_, _<_}
+use mathlib.Core.Bool.{true, false}
+use mathlib.Core.Path.{_≡_, refl}
+use native.Mathlib.Omega.{arith}
+use borrow.Author.Tests.{le-leb, lt-leb}
+use Rattle.te.specs.declared.LinkRecord.{LinkRecord}
+use Rattle.te.specs.Cost.{bandwidthCost, maximumCost, costOf}
+
+module _ (r : LinkRecord) where
+  pub by-metric : 1 ≤ r .metric → r .metric ≤ 65535 → costOf r ≡ r .metric
+  unfolding costOf
+  by-metric low high = rw (le-leb 1 (r .metric) low, le-leb (r .metric) 65535 high) refl
+
+  pub too-low : r .metric < 1 → costOf r ≡ maximumCost r
+  unfolding costOf
+  too-low h = rw (lt-leb 1 (r .metric) h) refl
+
+  pub too-high : 65535 < r .metric → costOf r ≡ maximumCost r
+  unfolding costOf
+  too-high h = rw (le-leb 1 (r .metric) (omega arith), lt-leb (r .metric) 65535 h) refl
+
+  pub by-maximum : r .hasmaximum ≡ true → maximumCost r ≡ bandwidthCost (r .maximum)
+  unfolding maximumCost
+  by-maximum e = rw e refl
+
+  pub by-none : r .hasmaximum ≡ false → maximumCost r ≡ 0
+  unfolding maximumCost
+  by-none e = rw e refl

@@ -1,0 +1,15 @@
+pub mod Patterns
+pub mod Judged
+pub mod SubTlvs
+pub mod Products
+pub mod Greatest
+pub mod Turn
+pub mod Costs
+pub mod Ahead
+pub mod Says
+pub mod Lasts
+pub mod Reaching
+pub mod Prices
+pub mod Verdict
+pub mod Facts
+pub mod Usable
