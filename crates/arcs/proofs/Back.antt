@@ -15,10 +15,10 @@ use Rattle.network.proofs.Below.{getD-below}
 use Rattle.network.proofs.Lists.{pairwise-over}
 use Rattle.network.proofs.Linked.{linked-well-formed, linked-exact}
 use Rattle.network.proofs.SoundLinks.{sound-links-exact}
-use Rattle.stations.specs.declared.Topology.{Topology}
-use Rattle.stations.specs.Topology.{contents, seen, networkIn, networkOf}
-use Rattle.soundness.specs.Sound.{sound}
-use Rattle.soundness.proofs.Sound.{routers-listed, sound-exact, sound-networks}
+use Rattle.topology_types.specs.declared.Topology.{Topology}
+use Rattle.topology_types.specs.Topology.{contents, seen, networkIn, networkOf}
+use Rattle.topology_sound.specs.Sound.{sound}
+use Rattle.topology_sound.proofs.Sound.{routers-listed, sound-exact, sound-networks}
 use Rattle.arcs.specs.Arcs.{linkBack, networkBack}
 use Rattle.arcs.specs.Theorems.{BackExact}
 use Rattle.arcs.proofs.Filled.{Next}

@@ -9,7 +9,7 @@ use native.Mathlib.Omega.{arith}
 use lib.ListN.{length, getD, length-append}
 use Rattle.network.specs.Lists.{below, numbersFrom}
 use Rattle.network.specs.Network.{Arc, Link, arcsAmong}
-use Rattle.stations.proofs.Arcs.{arcs-stay}
+use Rattle.topology_types.proofs.Arcs.{arcs-stay}
 use Rattle.arcs.specs.declared.Arcs.{Arcs}
 use Rattle.arcs.specs.Arcs.{slotArcs, withArc, Slotted}
 use Rattle.arcs.proofs.Slots.{length-arcs, still-slotted, count-elsewhere, arc-there, arcs-elsewhere}

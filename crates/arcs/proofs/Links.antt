@@ -11,12 +11,12 @@ use lib.Seq.{length-take-le, take-suc, take-take}
 use Rattle.network.specs.Network.{Link, size, arcsOf, arcsAmong, linked}
 use Rattle.network.specs.Theorems.Network.{SoundLink}
 use Rattle.network.proofs.Below.{getD-below}
-use Rattle.stations.specs.declared.Link as topology
-use Rattle.stations.specs.declared.Topology.{Topology}
-use Rattle.stations.specs.Topology.{contents, seen, networkIn, networkOf}
-use Rattle.stations.proofs.Arcs.{arcs-stay}
-use Rattle.soundness.specs.Sound.{sound}
-use Rattle.soundness.proofs.Sound.{sound-exact, sound-networks}
+use Rattle.topology_types.specs.declared.Link as topology
+use Rattle.topology_types.specs.declared.Topology.{Topology}
+use Rattle.topology_types.specs.Topology.{contents, seen, networkIn, networkOf}
+use Rattle.topology_types.proofs.Arcs.{arcs-stay}
+use Rattle.topology_sound.specs.Sound.{sound}
+use Rattle.topology_sound.proofs.Sound.{sound-exact, sound-networks}
 use Rattle.arcs.proofs.Filled.{Next}
 
 -- the first i links

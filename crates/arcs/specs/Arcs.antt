@@ -6,9 +6,9 @@ use mathlib.Core.Path.{_≡_}
 use lib.ListN.{length, getD, set}
 use Rattle.network.specs.Lists.{below}
 use Rattle.network.specs.Network.{Arc, Network, size, arcsOf, Link, linked}
-use Rattle.stations.specs.Limits.{mostRouters, mostNeighbours}
-use Rattle.stations.specs.Topology.{contents, seen, networkOf}
-use Rattle.stations.specs.declared.Topology.{Topology}
+use Rattle.topology_types.specs.Limits.{mostRouters, mostNeighbours}
+use Rattle.topology_types.specs.Topology.{contents, seen, networkOf}
+use Rattle.topology_types.specs.declared.Topology.{Topology}
 use Rattle.arcs.specs.declared.Arcs.{Arcs}
 
 -- the arc in slot j of the router u

@@ -6,9 +6,9 @@ use mathlib.Core.Logic.{_↔_}
 use mathlib.Core.Path.{_≡_}
 use lib.Dec.{T}
 use Rattle.network.specs.Network.{Network, arcsOf, size, WellFormed}
-use Rattle.stations.specs.Topology.{networkOf}
-use Rattle.stations.specs.declared.Topology.{Topology}
-use Rattle.soundness.specs.Sound.{sound}
+use Rattle.topology_types.specs.Topology.{networkOf}
+use Rattle.topology_types.specs.declared.Topology.{Topology}
+use Rattle.topology_sound.specs.Sound.{sound}
 use Rattle.arcs.specs.Arcs.{networkBack}
 
 -- of the first `count` places, u has an arc to v in `back` if and only if v has one to u in n, over the same link and at the same cost

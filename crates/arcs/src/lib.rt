@@ -1,6 +1,6 @@
 // The arcs of every router of a topology: each link seen from both its ends, in the order of link numbers.
-use stations::NEIGHBOURS;
-use stations::ROUTERS;
+use topology_types::NEIGHBOURS;
+use topology_types::ROUTERS;
 
 pub mod unchecked;
 

@@ -1,15 +1,15 @@
 // For callers that have tested the topology.
 use super::Arcs;
 use super::SLOTS;
-use stations::NEIGHBOURS;
-use stations::ROUTERS;
-use stations::Topology;
+use topology_types::NEIGHBOURS;
+use topology_types::ROUTERS;
+use topology_types::Topology;
 ghost use mathlib.Core.Path.{_≡_};
 ghost use Prim.Native.Nat.{_<_};
 ghost use lib.Dec.{T};
 ghost use lib.ListN.{getD};
-ghost use Rattle.stations.specs.Limits.{mostRouters, mostNeighbours};
-ghost use Rattle.soundness.specs.Sound.{sound};
+ghost use Rattle.topology_types.specs.Limits.{mostRouters, mostNeighbours};
+ghost use Rattle.topology_sound.specs.Sound.{sound};
 ghost use Rattle.arcs.specs.Arcs.{Laid, inSlots, withArc};
 
 // An arc of the router at u to v, in the next slot of u: c is its cost, b what going from v to u costs.

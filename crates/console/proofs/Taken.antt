@@ -14,8 +14,8 @@ use Rattle.text.specs.Fields.{before}
 use Rattle.text.specs.Lines.{fits, countWith, bufferWith, newline}
 use Rattle.text.proofs.Scan.{no-rest, take-before}
 use Rattle.console.specs.declared.Session.{Session}
-use Rattle.requests.specs.Requests.{Held, refused}
-use Rattle.requests.specs.Replies.{heldIn}
+use Rattle.console_held.specs.Requests.{Held, refused}
+use Rattle.console_held.specs.Replies.{heldIn}
 use Rattle.console.specs.Answers.{answer, answerHeld}
 use Rattle.console.specs.Session.{Line, some, tooLong, State, longer, heldAfter, lineEnds, lineGrows, taken, lineIn, stateOf, PartTaken}
 

@@ -8,9 +8,9 @@ use lib.Dec.{leb}
 use lib.ListN.{length, take}
 use Rattle.text.specs.Fields.{asks}
 use Rattle.text.specs.Lines.{Put}
-use Rattle.requests.specs.Requests.{Held, Answered, unchanged, refused, setWord, readIn, importIn, loadIn, loadPacketIn, setIn, hopIn}
-use Rattle.replies.specs.Calls.{writeIn, orderIn, checkOrderIn, fillIn, checkTable, countIn, walkIn, listIn, oldStreamIn, coverageOf, pathsIn, teIn}
-use Rattle.requests.specs.Replies.{heldIn}
+use Rattle.console_held.specs.Requests.{Held, Answered, unchanged, refused, setWord, readIn, importIn, loadIn, loadPacketIn, setIn, hopIn}
+use Rattle.console_replies.specs.Calls.{writeIn, orderIn, checkOrderIn, fillIn, checkTable, countIn, walkIn, listIn, oldStreamIn, coverageOf, pathsIn, teIn}
+use Rattle.console_held.specs.Replies.{heldIn}
 use Rattle.console.specs.declared.answers.Turn.{Turn}
 use Rattle.console.specs.declared.answers.Request.{Request}
 use Rattle.console.specs.declared.answers.Request.the-variants as request

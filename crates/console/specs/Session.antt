@@ -8,8 +8,8 @@ use lib.Dec.{eqb, ltb, leb}
 use lib.ListN.{length, take}
 use Rattle.text.specs.Lines.{Gathered, newline}
 use Rattle.console.specs.declared.Session.{Session}
-use Rattle.requests.specs.Requests.{Held, mostLine, refused}
-use Rattle.requests.specs.Replies.{heldIn}
+use Rattle.console_held.specs.Requests.{Held, mostLine, refused}
+use Rattle.console_held.specs.Replies.{heldIn}
 use Rattle.console.specs.Answers.{answer, answerHeld}
 
 -- A line that has not ended: the bytes that have come of it, or that they are more than a line may have.

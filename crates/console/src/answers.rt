@@ -1,18 +1,18 @@
 // A line is answered: what is held from then on, and the line that answers, in a lent buffer.
-use replies::unchecked::calls;
-use replies::unchecked::putting;
-use requests::unchecked::holding;
-use requests::unchecked::holding::Holding;
-use requests::unchecked::holding::Reply;
-use requests::unchecked::holding::Step;
-use requests::unchecked::packets;
+use console_held::unchecked::holding;
+use console_held::unchecked::holding::Holding;
+use console_held::unchecked::holding::Reply;
+use console_held::unchecked::holding::Step;
+use console_held::unchecked::packets;
+use console_replies::unchecked::calls;
+use console_replies::unchecked::putting;
 use text::unchecked::fields;
 ghost use mathlib.Core.Path.{_≡_};
 ghost use Prim.Native.Nat.{_≤_};
 ghost use lib.ListN.{length};
-ghost use Rattle.requests.specs.Requests.{mostLine};
-ghost use Rattle.replies.specs.Calls.{lent, mostRoom, mostAnswer};
-ghost use Rattle.requests.specs.Replies.{Ready, Stepped, heldIn};
+ghost use Rattle.console_held.specs.Requests.{mostLine};
+ghost use Rattle.console_replies.specs.Calls.{lent, mostRoom, mostAnswer};
+ghost use Rattle.console_held.specs.Replies.{Ready, Stepped, heldIn};
 ghost use Rattle.console.specs.Answers.{Told, requestIn, answer, answerHeld};
 
 // The requests, by their first word and the number of fields after it.

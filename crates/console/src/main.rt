@@ -25,12 +25,12 @@
 // Any other line, and one of more than 262,144 bytes, answers `error` and changes nothing.
 mod answers;
 
+use console_held::unchecked::asked;
+use console_held::unchecked::holding::Holding;
+use console_replies::unchecked::putting;
 use forwarding::Packet;
 use libc::STDIN_FILENO;
 use libc::STDOUT_FILENO;
-use replies::unchecked::putting;
-use requests::unchecked::asked;
-use requests::unchecked::holding::Holding;
 use text::unchecked::fields;
 use text::unchecked::lines;
 use topology::LINKS;
@@ -42,9 +42,9 @@ ghost use mathlib.Core.Bool.{true};
 ghost use mathlib.Core.Path.{_≡_};
 ghost use Prim.Native.Nat.{_≤_};
 ghost use lib.ListN.{length};
-ghost use Rattle.stations.specs.Topology.{zeros};
-ghost use Rattle.requests.specs.Requests.{mostLine, mostTable};
-ghost use Rattle.requests.specs.Replies.{Ready};
+ghost use Rattle.topology_types.specs.Topology.{zeros};
+ghost use Rattle.console_held.specs.Requests.{mostLine, mostTable};
+ghost use Rattle.console_held.specs.Replies.{Ready};
 ghost use Rattle.console.specs.Session.{LineAnswered, PartTaken, TextTaken};
 
 // What is held, but for the table's bytes; how many bytes of a line have come, LINE + 1 if it is too long; and whether to go on.

@@ -5,20 +5,20 @@ use Rattle.network.specs.Network.{size, idOf, arcsOf, greatestCost, arcsAmong, 
 use Rattle.network.specs.Distance.{absent, distanceIn, through, atFirst, round, rounds, distances}
 use Rattle.network.specs.Order.{reached, shortestNextHops, leadsInto, ready, candidate, placedNeighbours, preferred, select, continued, placing, build}
 use Rattle.network.specs.Row.{rank, sortsBefore, rankedBefore, fullRow, row}
-use Rattle.stations.specs.Topology.{noLink, padded, contents, held, zeros, seen, networkIn, networkOf}
-use Rattle.soundness.specs.Sound.{within, inLimits, wellLinked, uncrowded, isNoLink, unusedZero, slotted, sound}
-use Rattle.records.specs.Stream.{bigEndianOn, bigEndian, bodyLength, halfIn, decoded, recordIn, records}
-use Rattle.records.specs.Halves.{firstHalf, secondHalf, linkHalves, halves, sameHalf, leaves, opposite, linkOf}
-use Rattle.records.specs.Reading.{refusal, accepted, routerFault, repeated, crowded, halvesFault, fault, withRouter, withLink, withLimit, arrived, added}
-use Rattle.records.specs.Reading.{width, isEnd, ended, unless, some?, inTurn, nothingListed, reading}
-use Rattle.records.specs.Table.{T-stream, inSequence, routers}
+use Rattle.topology_types.specs.Topology.{noLink, padded, contents, held, zeros, seen, networkIn, networkOf}
+use Rattle.topology_sound.specs.Sound.{within, inLimits, wellLinked, uncrowded, isNoLink, unusedZero, slotted, sound}
+use Rattle.stream_rules.specs.Stream.{bigEndianOn, bigEndian, bodyLength, halfIn, decoded, recordIn, records}
+use Rattle.stream_rules.specs.Halves.{firstHalf, secondHalf, linkHalves, halves, sameHalf, leaves, opposite, linkOf}
+use Rattle.stream_rules.specs.Reading.{refusal, accepted, routerFault, repeated, crowded, halvesFault, fault, withRouter, withLink, withLimit, arrived, added}
+use Rattle.stream_rules.specs.Reading.{width, isEnd, ended, unless, some?, inTurn, nothingListed, reading}
+use Rattle.stream_rules.specs.Table.{T-stream, inSequence, routers}
 use Rattle.topology.specs.Written.{joinedOver}
 use Rattle.text.specs.Lines.{refusedWord, answerText, answerLine, wordLine}
 use Rattle.text.specs.Numbers.{lastDigits, numberText}
-use Rattle.wording.specs.Listing.{spaced}
-use Rattle.figures.specs.Coverage.{rowFor, pairsTo, pairsOf, hasTwo, coveredAmong, listedFor, counted, coverage}
-use Rattle.figures.specs.Printed.{overLinks, fractions, fractionText, fractionsText, coverageText}
-use Rattle.programs.specs.Output.{refusedLine, printed, outputBy}
+use Rattle.listing_rules.specs.Listing.{spaced}
+use Rattle.coverage_rules.specs.Coverage.{rowFor, pairsTo, pairsOf, hasTwo, coveredAmong, listedFor, counted, coverage}
+use Rattle.coverage_rules.specs.Printed.{overLinks, fractions, fractionText, fractionsText, coverageText}
+use Rattle.program_io.specs.Output.{refusedLine, printed, outputBy}
 use Rattle.coverage.specs.Output.{figuresText, output}
 use Rattle.coverage.specs.Facts.{holds, refused, facts, FactsHold}
 

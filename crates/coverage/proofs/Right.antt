@@ -1,9 +1,9 @@
 -- The output is the program's by the reading's number; a reading with number 0 has a sound topology, whose figures and lines are right.
 -- Assumes nothing.
 use mathlib.Core.Path.{_∙_}
-use Rattle.records.proofs.Returned.{reads-sound}
-use Rattle.figures.proofs.Right.{figures-right, lines-right}
-use Rattle.programs.proofs.Right.{all-print}
+use Rattle.stream_rules.proofs.Returned.{reads-sound}
+use Rattle.coverage_rules.proofs.Right.{figures-right, lines-right}
+use Rattle.program_io.proofs.Right.{all-print}
 use Rattle.coverage.specs.Output.{figuresText, output}
 use Rattle.coverage.specs.Theorems.{PrintsRight}
 

@@ -6,7 +6,7 @@ use mathlib.Core.List.{List, [], _∷_, _++_}
 use lib.Dec.{T}
 use lib.ListN.{take}
 use Rattle.network.specs.Lists.{every, sameNumbers}
-use Rattle.records.specs.Table.{routers, T-stream}
+use Rattle.stream_rules.specs.Table.{routers, T-stream}
 use Rattle.coverage.specs.Output.{output}
 
 -- a stream, and what is printed for it

@@ -2,10 +2,10 @@
 -- Assumes nothing.
 use Prim.Native.Nat.{ℕ}
 use mathlib.Core.List.{List}
-use Rattle.stations.specs.declared.Topology.{Topology}
-use Rattle.figures.specs.Coverage.{coverage}
-use Rattle.figures.specs.Printed.{coverageText}
-use Rattle.programs.specs.Output.{outputBy}
+use Rattle.topology_types.specs.declared.Topology.{Topology}
+use Rattle.coverage_rules.specs.Coverage.{coverage}
+use Rattle.coverage_rules.specs.Printed.{coverageText}
+use Rattle.program_io.specs.Output.{outputBy}
 
 -- the lines of a topology's figures
 unfoldable pub figuresText : Topology → List ℕ

@@ -6,12 +6,12 @@ use mathlib.Core.Logic.{_≢_}
 use mathlib.Core.Path.{_≡_}
 use lib.ListN.{getD}
 use Rattle.network.specs.Lists.{below}
-use Rattle.records.specs.Reading.{reading}
-use Rattle.records.specs.Theorems.{Bytes}
+use Rattle.stream_rules.specs.Reading.{reading}
+use Rattle.stream_rules.specs.Theorems.{Bytes}
 use Rattle.topology.specs.Written.{joinedOver}
 use Rattle.text.specs.Numbers.{numberText}
-use Rattle.figures.specs.Coverage.{coverage}
-use Rattle.figures.specs.Theorems.{lineWith, Figures}
+use Rattle.coverage_rules.specs.Coverage.{coverage}
+use Rattle.coverage_rules.specs.Theorems.{lineWith, Figures}
 use Rattle.coverage.specs.Output.{output}
 
 -- 02, #102: a refused stream prints the listing's line: `refused`, number, at; any other the figures of the topology read, two numbers a line, one space

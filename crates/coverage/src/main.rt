@@ -27,17 +27,17 @@ fn put_output(stream: &[u8], out: &mut [u8]) -> usize
     let reading = topology::read(stream);
     let answer = reading.answer;
     if answer.number != 0 {
-        return programs::unchecked::put_refused(out, answer);
+        return program_io::unchecked::put_refused(out, answer);
     }
     let t = reading.topology;
-    let figures = counting::unchecked::coverage(t, arcs::unchecked::of(t));
-    counting::unchecked::put_coverage(figures, out, 0, b'\n')
+    let figures = coverage_counts::unchecked::coverage(t, arcs::unchecked::of(t));
+    coverage_counts::unchecked::put_coverage(figures, out, 0, b'\n')
 }
 
 // What is read and written no contract says; it goes as in the listing.
 fn main() {
-    let mut input = programs::room_for_input();
-    let n = programs::read_input(&mut input);
+    let mut input = program_io::room_for_input();
+    let n = program_io::read_input(&mut input);
     let mut out = room();
     let end = put_output(&input[..n], &mut out);
     io::write_all(STDOUT_FILENO, &out[..end]);

@@ -5,9 +5,9 @@ use mathlib.Core.List.{List}
 use mathlib.Core.Path.{_≡_, _∙_, subst}
 use lib.ListN.{getD, set, replicate}
 use Rattle.network.specs.Lists.{below}
-use Rattle.stations.specs.declared.Topology.{Topology}
-use Rattle.stations.specs.Topology.{networkOf}
-use Rattle.soundness.proofs.Sound.{sound-networks}
+use Rattle.topology_types.specs.declared.Topology.{Topology}
+use Rattle.topology_types.specs.Topology.{networkOf}
+use Rattle.topology_sound.proofs.Sound.{sound-networks}
 use Rattle.arcs.specs.Arcs.{inSlots, networkBack}
 use Rattle.arcs.specs.Theorems.{Opposite}
 use Rattle.arcs.proofs.Back.{back-exact}

@@ -9,10 +9,10 @@ use lib.Dec.{T}
 use lib.ListN.{length, getD}
 use Rattle.network.specs.Network.{Network, size, arcsOf, greatestCost, SoundArc, WellFormed}
 use Rattle.network.proofs.Below.{mem-below, length-map-below}
-use Rattle.stations.specs.declared.Topology.{Topology}
-use Rattle.stations.specs.Topology.{networkOf}
-use Rattle.soundness.specs.Sound.{sound}
-use Rattle.soundness.proofs.Sound.{sound-exact, sound-networks}
+use Rattle.topology_types.specs.declared.Topology.{Topology}
+use Rattle.topology_types.specs.Topology.{networkOf}
+use Rattle.topology_sound.specs.Sound.{sound}
+use Rattle.topology_sound.proofs.Sound.{sound-exact, sound-networks}
 use Rattle.arcs.specs.declared.Arcs.{Arcs}
 use Rattle.arcs.specs.Arcs.{slotArc, slotArcs, Holds, networkBack, Laid}
 use Rattle.arcs.proofs.Back.{back-exact, few-back}

@@ -5,7 +5,7 @@ use mathlib.Core.List.{List}
 use mathlib.Core.Logic.{_⊎_}
 use mathlib.Core.Path.{_≡_}
 use lib.ListN.{length, getD}
-use Rattle.stations.specs.Limits.{mostRouters, mostNeighbours}
+use Rattle.topology_types.specs.Limits.{mostRouters, mostNeighbours}
 use Rattle.distances.specs.Slots.{farthest, slotTo}
 
 -- the mark of a router that is not settled is its place

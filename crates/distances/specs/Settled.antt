@@ -7,9 +7,9 @@ use lib.Dec.{T}
 use lib.ListN.{length, getD, take}
 use Rattle.network.specs.Network.{Network, size}
 use Rattle.network.specs.Distance.{distances}
-use Rattle.stations.specs.Limits.{mostRouters}
-use Rattle.stations.specs.declared.Topology.{Topology}
-use Rattle.soundness.specs.Sound.{sound}
+use Rattle.topology_types.specs.Limits.{mostRouters}
+use Rattle.topology_types.specs.declared.Topology.{Topology}
+use Rattle.topology_sound.specs.Sound.{sound}
 use Rattle.arcs.specs.Arcs.{Holds, inSlots, networkBack}
 use Rattle.distances.specs.Slots.{farthest}
 

@@ -5,7 +5,7 @@ use Prim.Native.Nat.{ℕ, _+_, _*_, _≤_, _<_}
 use mathlib.Core.List.{List}
 use mathlib.Core.Path.{_≡_}
 use lib.ListN.{length, getD}
-use Rattle.stations.specs.Limits.{mostRouters, mostNeighbours}
+use Rattle.topology_types.specs.Limits.{mostRouters, mostNeighbours}
 
 -- the most that an absent distance can be: for each router one more than the greatest cost
 abbrev pub farthest : ℕ

@@ -2,13 +2,13 @@
 // itself, or SETTLED once its router is settled.
 use super::unchecked;
 use arcs::SLOTS;
-use stations::NEIGHBOURS;
-use stations::ROUTERS;
+use topology_types::NEIGHBOURS;
+use topology_types::ROUTERS;
 ghost use mathlib.Core.Path.{_≡_};
 ghost use Prim.Native.Nat.{_*_, _<_, _≤_};
 ghost use lib.ListN.{length, set, replicate};
 ghost use Rattle.network.specs.Lists.{below};
-ghost use Rattle.stations.specs.Limits.{mostRouters};
+ghost use Rattle.topology_types.specs.Limits.{mostRouters};
 ghost use Rattle.distances.specs.Slots.{Slots};
 ghost use Rattle.distances.specs.Inner.{Searched, Nearest, Relaxed};
 

@@ -1,13 +1,13 @@
 // For callers that have tested the topology and the destination, and laid out the arcs.
 use super::settling;
 use arcs::SLOTS;
-use stations::Place;
-use stations::ROUTERS;
+use topology_types::Place;
+use topology_types::ROUTERS;
 ghost use mathlib.Core.Path.{_≡_};
 ghost use Prim.Native.Nat.{_<_, _≤_};
-ghost use Rattle.stations.specs.Limits.{mostRouters};
-ghost use Rattle.stations.specs.declared.Topology.{Topology};
-ghost use Rattle.stations.specs.Topology.{networkOf};
+ghost use Rattle.topology_types.specs.Limits.{mostRouters};
+ghost use Rattle.topology_types.specs.declared.Topology.{Topology};
+ghost use Rattle.topology_types.specs.Topology.{networkOf};
 ghost use Rattle.distances.specs.Settled.{LaidIn, Settled};
 
 // One more than the greatest cost: n times this is more than any path costs that visits no router of n twice, and stands for an absent distance.

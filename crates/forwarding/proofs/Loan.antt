@@ -22,9 +22,9 @@ use denote.Lend.{lends-ref, ref-back}
 use denote.Steps.{opens, closes, owned, peeks}
 use denote.Struct.Steps.{spelt}
 use denote.Struct.Laws as LL
-use Rattle.packet.specs.declared.Packet.{Packet}
-use Rattle.packet.proofs.Packet as P
-use Rattle.packet.proofs.Packet.Laws as P′
+use Rattle.forwarding_rules.specs.declared.Packet.{Packet}
+use Rattle.forwarding_rules.proofs.Packet as P
+use Rattle.forwarding_rules.proofs.Packet.Laws as P′
 
 -- the packet's machine value, and what whoever holds the packet knows of it
 abbrev pub packet-val : Packet → Val

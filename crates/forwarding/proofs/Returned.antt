@@ -8,15 +8,15 @@ use mathlib.Core.Path.{_≡_, ap, _∙_}
 use native.Mathlib.Omega.{arith}
 use lib.ListN.{length}
 use Rattle.network.specs.Lists.{below}
-use Rattle.stations.specs.Inner.{firstOr}
-use Rattle.stations.specs.declared.Topology.{Topology}
-use Rattle.stations.specs.Outcome.{answer}
-use Rattle.soundness.specs.Sound.{sound}
+use Rattle.topology_types.specs.Inner.{firstOr}
+use Rattle.topology_types.specs.declared.Topology.{Topology}
+use Rattle.topology_types.specs.Outcome.{answer}
+use Rattle.topology_sound.specs.Sound.{sound}
 use Rattle.order.proofs.Decided.{none-there, ranks-below}
 use Rattle.table.specs.Calls.{tableJudging, tableChecking}
 use Rattle.table.proofs.Verdicts.{tables-each}
-use Rattle.packet.specs.Schedule.{wrongStates}
-use Rattle.packet.specs.Calls.{Said, refused, testedOver}
+use Rattle.forwarding_rules.specs.Schedule.{wrongStates}
+use Rattle.forwarding_rules.specs.Calls.{Said, refused, testedOver}
 
 pub judged-checked : (t : Topology) (table : List ℕ) → sound t ≡ true → tableJudging t table ≡ tableChecking t table
 unfolding tableChecking

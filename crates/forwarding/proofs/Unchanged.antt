@@ -8,9 +8,9 @@ use mathlib.Core.List.{List}
 use lib.Dec.{T}
 use Rattle.network.specs.Forwarding as network
 use Rattle.network.specs.Forwarding.{Packet}
-use Rattle.stations.specs.declared.Topology.{Topology}
-use Rattle.packet.specs.Calls.{Said, done, refused, settingAt, hopping}
-use Rattle.packet.specs.Lent.{Left, afterSetting, afterHop, settingPacket, hoppingPacket}
+use Rattle.topology_types.specs.declared.Topology.{Topology}
+use Rattle.forwarding_rules.specs.Calls.{Said, done, refused, settingAt, hopping}
+use Rattle.forwarding_rules.specs.Lent.{Left, afterSetting, afterHop, settingPacket, hoppingPacket}
 use Rattle.forwarding.specs.Inner.{Change, isSet, isMoved, settingChange, hoppingChange}
 
 module _ {A : Type 0} where

@@ -5,9 +5,9 @@ use mathlib.Core.Bool.{Bool, true, false}
 use mathlib.Core.List.{List}
 use Rattle.network.specs.Forwarding as network
 use Rattle.network.specs.Forwarding.{Packet}
-use Rattle.stations.specs.declared.Topology.{Topology}
-use Rattle.packet.specs.Calls.{Said, done, refused, settingAt, hopping}
-use Rattle.packet.specs.Lent.{Left, settingPacket, hoppingPacket}
+use Rattle.topology_types.specs.declared.Topology.{Topology}
+use Rattle.forwarding_rules.specs.Calls.{Said, done, refused, settingAt, hopping}
+use Rattle.forwarding_rules.specs.Lent.{Left, settingPacket, hoppingPacket}
 
 -- what a call leaves, and whether it changed the packet: only then is the packet stored
 pub record Change (A : Type 0) : Type 0 where

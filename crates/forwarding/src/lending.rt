@@ -1,12 +1,12 @@
 // The packet lent by &mut (01, Packet, hop and schedule): two thin calls over the setting and the hop by value, and two that lend a local to them.
-use packet::Hopped;
-use packet::Packet;
-use packet::Setting;
-use stations::Place;
-use stations::Topology;
+use forwarding_rules::Hopped;
+use forwarding_rules::Packet;
+use forwarding_rules::Setting;
+use topology_types::Place;
+use topology_types::Topology;
 ghost use mathlib.Core.Path.{_≡_};
-ghost use Rattle.packet.specs.Calls.{packetIn, settingSays, hopSays};
-ghost use Rattle.packet.specs.Lent.{afterSetting, afterHop, settingPacket, hoppingPacket};
+ghost use Rattle.forwarding_rules.specs.Calls.{packetIn, settingSays, hopSays};
+ghost use Rattle.forwarding_rules.specs.Lent.{afterSetting, afterHop, settingPacket, hoppingPacket};
 ghost use Rattle.forwarding.specs.Inner.{isSet, isMoved, settingChange, hoppingChange};
 
 // What a setting of a packet answers, and the packet as it leaves it.

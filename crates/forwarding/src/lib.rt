@@ -1,25 +1,25 @@
 // Packets, hops, walks and greatest hop counts (01, Packet, hop and schedule).
-use hops::unchecked::moving;
-use hops::unchecked::schedule;
-use stations::Answer;
-use stations::Place;
-use stations::Topology;
+use forwarding_steps::unchecked::moving;
+use forwarding_steps::unchecked::schedule;
+use topology_types::Answer;
+use topology_types::Place;
+use topology_types::Topology;
 
 mod lending;
 pub mod unchecked;
 
+pub use forwarding_rules::Hopped;
+pub use forwarding_rules::Packet;
+pub use forwarding_rules::Setting;
+pub use forwarding_rules::Walked;
 pub use lending::AfterHop;
 pub use lending::AfterSetting;
 pub use lending::hop_packet;
 pub use lending::lend_to_hop;
 pub use lending::lend_to_set;
 pub use lending::set_packet;
-pub use packet::Hopped;
-pub use packet::Packet;
-pub use packet::Setting;
-pub use packet::Walked;
 ghost use mathlib.Core.Path.{_≡_};
-ghost use Rattle.packet.specs.Calls.{packetIn, settingSays, hopSays, walkSays, countingHops, settingAt, hopping, walking};
+ghost use Rattle.forwarding_rules.specs.Calls.{packetIn, settingSays, hopSays, walkSays, countingHops, settingAt, hopping, walking};
 
 // The greatest hop count of every place, N bytes, 255 where a router has no path to the destination (02, #107): refusals 14, 21 and 24.
 pub fn greatest_hops(t: Topology, table: &[u8], out: &mut [u8]) -> Answer
@@ -41,7 +41,7 @@ pub fn greatest_hops(t: Topology, table: &[u8], out: &mut [u8]) -> Answer
 pub fn set(t: Topology, start: Place) -> Setting
     ensures { λ r. ⌜ settingSays r ≡ settingAt t (start .0) ⌝ }
 {
-    if !soundness::is_sound(t) {
+    if !topology_sound::is_sound(t) {
         return Setting::Refused(Answer { number: 14, at: 0 });
     }
     let u = start.index();
@@ -58,7 +58,7 @@ pub fn set(t: Topology, start: Place) -> Setting
 pub fn hop(t: Topology, table: &[u8], states: &[u8], packet: Packet) -> Hopped
     ensures { λ r. ⌜ hopSays r ≡ hopping t (now (table .entry)) (now (states .entry)) (packetIn packet) ⌝ }
 {
-    if !soundness::is_sound(t) {
+    if !topology_sound::is_sound(t) {
         return Hopped::Refused(Answer { number: 14, at: 0 });
     }
     let n = t.routers;
@@ -102,7 +102,7 @@ pub fn hop(t: Topology, table: &[u8], states: &[u8], packet: Packet) -> Hopped
 pub fn walk(t: Topology, table: &[u8], start: Place, schedule: &[u8]) -> Walked
     ensures { λ r. ⌜ walkSays r ≡ walking t (now (table .entry)) (start .0) (now (schedule .entry)) ⌝ }
 {
-    if !soundness::is_sound(t) {
+    if !topology_sound::is_sound(t) {
         return Walked::Refused(Answer { number: 14, at: 0 });
     }
     let n = t.routers;

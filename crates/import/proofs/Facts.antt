@@ -1,20 +1,20 @@
 -- The prover computes every fact from the definitions.
 -- Assumes nothing.
 use Rattle.network.specs.Lists.{keep, every, any, leastBy, member, sameNumbers}
-use Rattle.stations.specs.Topology.{noLink, padded, contents, held, zeros}
-use Rattle.records.specs.Stream.{bigEndianOn, bigEndian, inBytes}
-use Rattle.records.specs.Halves.{firstHalf, secondHalf, linkHalves, halves, sameHalf, leaves, opposite, linkOf}
-use Rattle.records.specs.Reading.{refusal, accepted, routerFault, repeated, crowded, halvesFault, fault, withRouter, withLink, arrived, added}
-use Rattle.records.specs.Reading.{ended, unless, nothingListed}
+use Rattle.topology_types.specs.Topology.{noLink, padded, contents, held, zeros}
+use Rattle.stream_rules.specs.Stream.{bigEndianOn, bigEndian, inBytes}
+use Rattle.stream_rules.specs.Halves.{firstHalf, secondHalf, linkHalves, halves, sameHalf, leaves, opposite, linkOf}
+use Rattle.stream_rules.specs.Reading.{refusal, accepted, routerFault, repeated, crowded, halvesFault, fault, withRouter, withLink, arrived, added}
+use Rattle.stream_rules.specs.Reading.{ended, unless, nothingListed}
 use Rattle.topology.specs.Written.{joinedOver, routerBytes, halfBody, halfBytes, linkBytes, limitBytes, written}
 use Rattle.text.specs.Lines.{refusedWord, answerText, answerLine, wordLine}
 use Rattle.text.specs.Numbers.{lastDigits, numberText}
-use Rattle.lsas.specs.Lsa.{lsType, advertisingRouter, checksum, lengthField, linkCount, linkIn, linkLength, wholeLink, withLink as withNext, linksIn, some?, links}
-use Rattle.lsas.specs.Lsa.{malformed, c0, c1, wrongSum, lsasFrom, lsas, firstAt, firstMalformed, firstWrongSum}
-use Rattle.neighbours.specs.Neighbours.{allOf, pointToPoint, lowestTo, once, neighboursOf, placeOf, halfTo, halvesOf}
+use Rattle.ospf_lsas.specs.Lsa.{lsType, advertisingRouter, checksum, lengthField, linkCount, linkIn, linkLength, wholeLink, withLink as withNext, linksIn, some?, links}
+use Rattle.ospf_lsas.specs.Lsa.{malformed, c0, c1, wrongSum, lsasFrom, lsas, firstAt, firstMalformed, firstWrongSum}
+use Rattle.ospf_halves.specs.Neighbours.{allOf, pointToPoint, lowestTo, once, neighboursOf, placeOf, halfTo, halvesOf}
 use Rattle.ospf.specs.Import.{idOf, routerIn, halfIn, halvesAt, halvesIn, placedIn, takenTo, atLast, importing}
-use Rattle.lsas.specs.Facts.{lsa-1, lsa-2, lsa-3, three}
-use Rattle.programs.specs.Output.{refusedLine}
+use Rattle.ospf_lsas.specs.Facts.{lsa-1, lsa-2, lsa-3, three}
+use Rattle.program_io.specs.Output.{refusedLine}
 use Rattle.import.specs.Output.{streamOf, lineOf, output, complaint}
 use Rattle.import.specs.Facts.{holds, refused, facts, FactsHold}
 

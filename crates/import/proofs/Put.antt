@@ -9,16 +9,16 @@ use borrow.Author.Tests.{eq-eqb, ne-eqb, le-leb, lt-leb, le-ltb}
 use lib.Dec.{T}
 use lib.ListN.{length, take, drop, length-append}
 use lib.Seq.{take-append-seam, length-sets}
-use Rattle.stations.specs.declared.Answer.{Answer}
-use Rattle.stations.specs.Outcome.{Outcome, given}
-use Rattle.soundness.specs.Sound.{sound}
+use Rattle.topology_types.specs.declared.Answer.{Answer}
+use Rattle.topology_types.specs.Outcome.{Outcome, given}
+use Rattle.topology_sound.specs.Sound.{sound}
 use Rattle.topology.specs.Written.{written, writing}
 use Rattle.topology.proofs.Outcomes.{writing-exact}
 use Rattle.topology.proofs.RoundTrip.{written-long}
 use Rattle.text.specs.Lines.{Put}
 use Rattle.text.proofs.Stores.{start}
-use Rattle.programs.specs.Output.{refusedLine}
-use Rattle.programs.proofs.Right.{refused-length}
+use Rattle.program_io.specs.Output.{refusedLine}
+use Rattle.program_io.proofs.Right.{refused-length}
 use Rattle.ospf.specs.Import.{importing}
 use Rattle.import.specs.Output.{mostFile, tooLong, streamOf, lineOf, output, complaint, Writes}
 

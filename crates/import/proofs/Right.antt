@@ -9,11 +9,11 @@ use lib.Dec.{leb, leb→le}
 use lib.ListN.{length, take}
 use lib.Seq.{take-all, length-take-le}
 use Rattle.network.proofs.Tests.{truth, as-false}
-use Rattle.records.specs.declared.Reading.{Reading}
-use Rattle.records.specs.Theorems.{success}
+use Rattle.stream_rules.specs.declared.Reading.{Reading}
+use Rattle.stream_rules.specs.Theorems.{success}
 use Rattle.topology.proofs.RoundTrip.{written-read, written-long}
 use Rattle.text.specs.Lines.{refusedWord, answerText, answerLine, wordLine}
-use Rattle.programs.specs.Output.{refusedLine}
+use Rattle.program_io.specs.Output.{refusedLine}
 use Rattle.ospf.specs.Import.{importing}
 use Rattle.ospf.proofs.Verdict.{import-sound}
 use Rattle.import.specs.Output.{mostFile, tooLong, streamOf, lineOf, output, complaint}

@@ -6,7 +6,7 @@ use mathlib.Core.List.{List, [], _∷_, _++_}
 use lib.Dec.{T}
 use lib.ListN.{take, set}
 use Rattle.network.specs.Lists.{every, sameNumbers}
-use Rattle.lsas.specs.Facts.{lsa-1, lsa-3, three}
+use Rattle.ospf_lsas.specs.Facts.{lsa-1, lsa-3, three}
 use Rattle.import.specs.Output.{output, complaint}
 
 -- a file, and what is written for it to standard output and to standard error

@@ -6,10 +6,10 @@ use mathlib.Core.List.{List, [], _∷_}
 use mathlib.Core.Path.{_≡_}
 use lib.Dec.{eqb, leb}
 use lib.ListN.{length, take}
-use Rattle.records.specs.declared.Reading.{Reading}
+use Rattle.stream_rules.specs.declared.Reading.{Reading}
 use Rattle.topology.specs.Written.{written}
 use Rattle.text.specs.Lines.{newline}
-use Rattle.programs.specs.Output.{refusedLine}
+use Rattle.program_io.specs.Output.{refusedLine}
 use Rattle.ospf.specs.Import.{importing}
 use Rattle.import.specs.declared.Ends.{Ends}
 

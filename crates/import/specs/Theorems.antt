@@ -5,8 +5,8 @@ use mathlib.Core.List.{List, [], _∷_, _++_}
 use mathlib.Core.Logic.{_≢_}
 use mathlib.Core.Path.{_≡_}
 use lib.ListN.{length, take}
-use Rattle.records.specs.Reading.{reading}
-use Rattle.records.specs.Theorems.{Bytes}
+use Rattle.stream_rules.specs.Reading.{reading}
+use Rattle.stream_rules.specs.Theorems.{Bytes}
 use Rattle.topology.specs.Written.{written}
 use Rattle.text.specs.Numbers.{numberText}
 use Rattle.ospf.specs.Import.{importing}

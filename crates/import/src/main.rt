@@ -60,7 +60,7 @@ fn put_output(file: &[u8], stream: &mut [u8], line: &mut [u8]) -> Ends
     let reading = ospf::import(file);
     let answer = reading.answer;
     if answer.number != 0 {
-        let end = programs::unchecked::put_refused(line, answer);
+        let end = program_io::unchecked::put_refused(line, answer);
         return Ends {
             stream: 0,
             line: end,
@@ -75,10 +75,10 @@ fn put_output(file: &[u8], stream: &mut [u8], line: &mut [u8]) -> Ends
 }
 
 // What is read and written no contract says. That the bytes are the first 262,145 of standard input, and that each text goes to its own output once, is
-// read here and in `programs`, and tried by examples/edges.
+// read here and in `program_io`, and tried by examples/edges.
 fn main() {
     let mut input = room_for_file();
-    let n = programs::read_input(&mut input);
+    let n = program_io::read_input(&mut input);
     let mut stream = room_for_stream();
     let mut line = room_for_line();
     let ends = put_output(&input[..n], &mut stream, &mut line);

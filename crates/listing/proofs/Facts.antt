@@ -6,23 +6,23 @@ use Rattle.network.specs.Distance.{absent, distanceIn, through, atFirst, round,
 use Rattle.network.specs.Order.{reached, shortestNextHops, leadsInto, ready, candidate, placedNeighbours, preferred, select, continued, placing, build}
 use Rattle.network.specs.Row.{rank, sortsBefore, rankedBefore, fullRow, row}
 use Rattle.network.specs.Forwarding.{longest}
-use Rattle.stations.specs.Topology.{noLink, padded, contents, held, zeros, seen, networkIn, networkOf}
-use Rattle.soundness.specs.Sound.{within}
-use Rattle.records.specs.Stream.{bigEndianOn, bigEndian, bodyLength, halfIn, decoded, recordIn, records}
-use Rattle.records.specs.Halves.{firstHalf, secondHalf, linkHalves, halves, sameHalf, leaves, opposite, linkOf}
-use Rattle.records.specs.Reading.{refusal, accepted, routerFault, repeated, crowded, halvesFault, fault, withRouter, withLink, withLimit, arrived, added}
-use Rattle.records.specs.Reading.{width, isEnd, ended, unless, some?, inTurn, nothingListed, reading}
-use Rattle.records.specs.Table.{T-stream, inSequence, routers}
+use Rattle.topology_types.specs.Topology.{noLink, padded, contents, held, zeros, seen, networkIn, networkOf}
+use Rattle.topology_sound.specs.Sound.{within}
+use Rattle.stream_rules.specs.Stream.{bigEndianOn, bigEndian, bodyLength, halfIn, decoded, recordIn, records}
+use Rattle.stream_rules.specs.Halves.{firstHalf, secondHalf, linkHalves, halves, sameHalf, leaves, opposite, linkOf}
+use Rattle.stream_rules.specs.Reading.{refusal, accepted, routerFault, repeated, crowded, halvesFault, fault, withRouter, withLink, withLimit, arrived, added}
+use Rattle.stream_rules.specs.Reading.{width, isEnd, ended, unless, some?, inTurn, nothingListed, reading}
+use Rattle.stream_rules.specs.Table.{T-stream, inSequence, routers}
 use Rattle.topology.specs.Written.{joinedOver}
-use Rattle.rows.specs.Bytes.{rankOrNone, rowBytes, headerBytes, rowOf, rowsBytes, tableBytes, rowStart}
+use Rattle.table_rows.specs.Bytes.{rankOrNone, rowBytes, headerBytes, rowOf, rowsBytes, tableBytes, rowStart}
 use Rattle.table.specs.Listed.{destinationIn, rankIn, placesIn, arcsTo, entriesIn, listed}
-use Rattle.packet.specs.Calls.{figure, figureByte}
+use Rattle.forwarding_rules.specs.Calls.{figure, figureByte}
 use Rattle.text.specs.Hex.{none}
 use Rattle.text.specs.Lines.{refusedWord, answerText, answerLine, wordLine}
 use Rattle.text.specs.Numbers.{lastDigits, numberText}
-use Rattle.wording.specs.Listing.{spaced, rowFields, lineText, tableFor, lineFor, linesFor, allLines}
-use Rattle.wording.specs.Facts.{T-0, T-1, T-2, noPath, itself, cutOff-3, cutOff-all, pair-all}
-use Rattle.programs.specs.Output.{refusedLine, printed, outputBy}
+use Rattle.listing_rules.specs.Listing.{spaced, rowFields, lineText, tableFor, lineFor, linesFor, allLines}
+use Rattle.listing_rules.specs.Facts.{T-0, T-1, T-2, noPath, itself, cutOff-3, cutOff-all, pair-all}
+use Rattle.program_io.specs.Output.{refusedLine, printed, outputBy}
 use Rattle.listing.specs.Output.{output}
 use Rattle.listing.specs.Facts.{holds, refused, cutOff-stream, facts, FactsHold}
 

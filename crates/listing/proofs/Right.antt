@@ -1,9 +1,9 @@
 -- The output is the program's by the reading's number; a reading with number 0 has a sound topology, of which the lines are right.
 -- Assumes nothing.
-use Rattle.records.proofs.Returned.{reads-sound}
-use Rattle.wording.specs.Listing.{allLines}
-use Rattle.wording.proofs.Right.{all-right}
-use Rattle.programs.proofs.Right.{all-print}
+use Rattle.stream_rules.proofs.Returned.{reads-sound}
+use Rattle.listing_rules.specs.Listing.{allLines}
+use Rattle.listing_rules.proofs.Right.{all-right}
+use Rattle.program_io.proofs.Right.{all-print}
 use Rattle.listing.specs.Output.{output}
 use Rattle.listing.specs.Theorems.{PrintsRight}
 

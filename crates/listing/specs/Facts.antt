@@ -6,8 +6,8 @@ use mathlib.Core.List.{List, [], _∷_, _++_}
 use lib.Dec.{T}
 use lib.ListN.{take}
 use Rattle.network.specs.Lists.{every, sameNumbers}
-use Rattle.records.specs.Table.{routers, T-stream}
-use Rattle.wording.specs.Facts.{T-0, T-1, T-2, cutOff-all, pair-all}
+use Rattle.stream_rules.specs.Table.{routers, T-stream}
+use Rattle.listing_rules.specs.Facts.{T-0, T-1, T-2, cutOff-all, pair-all}
 use Rattle.listing.specs.Output.{output}
 
 -- a stream, and what is printed for it

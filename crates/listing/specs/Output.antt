@@ -2,8 +2,8 @@
 -- Assumes nothing.
 use Prim.Native.Nat.{ℕ}
 use mathlib.Core.List.{List}
-use Rattle.wording.specs.Listing.{allLines}
-use Rattle.programs.specs.Output.{outputBy}
+use Rattle.listing_rules.specs.Listing.{allLines}
+use Rattle.program_io.specs.Output.{outputBy}
 
 -- the whole output: the lines of all destinations; a refused stream prints one line: `refused`, number, at
 unfoldable pub output : List ℕ → List ℕ

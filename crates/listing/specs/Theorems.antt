@@ -4,11 +4,11 @@ use Prim.Native.Nat.{ℕ}
 use mathlib.Core.List.{List, [], _∷_, _++_}
 use mathlib.Core.Logic.{_≢_}
 use mathlib.Core.Path.{_≡_}
-use Rattle.records.specs.Reading.{reading}
-use Rattle.records.specs.Theorems.{Bytes}
+use Rattle.stream_rules.specs.Reading.{reading}
+use Rattle.stream_rules.specs.Theorems.{Bytes}
 use Rattle.text.specs.Numbers.{numberText}
-use Rattle.wording.specs.Listing.{allLines}
-use Rattle.wording.specs.Theorems.{ListsAll}
+use Rattle.listing_rules.specs.Listing.{allLines}
+use Rattle.listing_rules.specs.Theorems.{ListsAll}
 use Rattle.listing.specs.Output.{output}
 
 -- 01, Two networks by hand: a refused stream prints one line: `refused`, number, at; any other the lines of all destinations of the topology read

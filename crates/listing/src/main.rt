@@ -27,17 +27,17 @@ fn put_output(stream: &[u8], out: &mut [u8]) -> usize
     let reading = topology::read(stream);
     let answer = reading.answer;
     if answer.number != 0 {
-        return programs::unchecked::put_refused(out, answer);
+        return program_io::unchecked::put_refused(out, answer);
     }
     let t = reading.topology;
     report::unchecked::put_all(t, arcs::unchecked::of(t), out)
 }
 
 // What is read and written no contract says. That the bytes are the first 65,536 of standard input, and that their output goes to standard output once, is
-// read here and in `programs`, and tried by examples/edges.
+// read here and in `program_io`, and tried by examples/edges.
 fn main() {
-    let mut input = programs::room_for_input();
-    let n = programs::read_input(&mut input);
+    let mut input = program_io::room_for_input();
+    let n = program_io::read_input(&mut input);
     let mut out = room();
     let end = put_output(&input[..n], &mut out);
     io::write_all(STDOUT_FILENO, &out[..end]);

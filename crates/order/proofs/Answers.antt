@@ -8,12 +8,12 @@ use mathlib.Core.Path.{_≡_, refl, ap, sym}
 use native.Mathlib.Omega.{arith}
 use lib.Dec.{T, eqb, ltb, eqb→eq, ltb→lt}
 use lib.ListN.{length, getD, take}
-use Rattle.stations.specs.declared.Answer.{Answer}
-use Rattle.stations.specs.declared.Topology.{Topology}
-use Rattle.stations.specs.Topology.{networkOf}
-use Rattle.stations.specs.Outcome.{answer}
-use Rattle.soundness.specs.Sound.{sound}
-use Rattle.placing.specs.declared.Mode.{Mode}
+use Rattle.topology_types.specs.declared.Answer.{Answer}
+use Rattle.topology_types.specs.declared.Topology.{Topology}
+use Rattle.topology_types.specs.Topology.{networkOf}
+use Rattle.topology_types.specs.Outcome.{answer}
+use Rattle.topology_sound.specs.Sound.{sound}
+use Rattle.order_standings.specs.declared.Mode.{Mode}
 use Rattle.order.specs.Calls.{modeOf, reachedCount, wrongRanks, ranksAfter, unreadyRanks, atFirst, judging, checking}
 use Rattle.order.proofs.Decided.{Proposed}
 

@@ -17,17 +17,17 @@ use Rattle.network.proofs.Distance.{starts-in}
 use Rattle.network.proofs.Candidate.{fact-candidate}
 use Rattle.network.proofs.Selection.{selection-right}
 use Rattle.network.proofs.Order.{acceptance-exact, built-accepted}
-use Rattle.stations.specs.declared.Topology.{Topology}
-use Rattle.stations.specs.Topology.{padded, networkOf}
+use Rattle.topology_types.specs.declared.Topology.{Topology}
+use Rattle.topology_types.specs.Topology.{padded, networkOf}
 use Rattle.arcs.specs.declared.Arcs.{Arcs}
-use Rattle.placing.specs.declared.Mode as own
+use Rattle.order_standings.specs.declared.Mode as own
 use Rattle.order.specs.Calls.{modeOf, orderBytes}
 use Rattle.order.specs.Proposed.{LaidOut}
-use Rattle.placing.specs.Standings.{waitsFor, Lower, Inverse, Standing, Highest, Room, Stepped}
+use Rattle.order_standings.specs.Standings.{waitsFor, Lower, Inverse, Standing, Highest, Room, Stepped}
 use Rattle.order.proofs.Runs.{drop-same}
-use Rattle.placing.proofs.Counting.{waiting}
-use Rattle.placing.proofs.Kept.{Kept}
-use Rattle.placing.proofs.Ties.{lower-small}
+use Rattle.order_standings.proofs.Counting.{waiting}
+use Rattle.order_standings.proofs.Kept.{Kept}
+use Rattle.order_standings.proofs.Ties.{lower-small}
 use Rattle.order.proofs.Turn.{facts, every-slot, candidate-waits, none-left, some-left, top-selected, room, placed-too, first-placed}
 
 -- as many IDs are lower than there are places before the last, so at most 63

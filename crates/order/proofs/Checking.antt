@@ -15,19 +15,19 @@ use Rattle.network.specs.Distance.{PathTo, arrived, distances}
 use Rattle.network.specs.Order.{candidate}
 use Rattle.network.proofs.Pigeon.{at-most}
 use Rattle.network.proofs.Candidate.{candidate-fact}
-use Rattle.stations.specs.declared.Topology.{Topology}
-use Rattle.stations.specs.Topology.{networkOf}
-use Rattle.stations.specs.Inner.{firstOr}
+use Rattle.topology_types.specs.declared.Topology.{Topology}
+use Rattle.topology_types.specs.Topology.{networkOf}
+use Rattle.topology_types.specs.Inner.{firstOr}
 use Rattle.arcs.specs.declared.Arcs.{Arcs}
-use Rattle.placing.specs.declared.Mode.{Mode}
+use Rattle.order_standings.specs.declared.Mode.{Mode}
 use Rattle.order.specs.Calls.{modeOf, unreadyRanks}
 use Rattle.order.specs.Proposed.{LaidOut}
-use Rattle.placing.specs.Standings.{waitsFor, Standing, Room, Stepped}
+use Rattle.order_standings.specs.Standings.{waitsFor, Standing, Room, Stepped}
 use Rattle.order.specs.Inner.{Begins}
 use Rattle.order.proofs.Ranges.{getD-mem, mem-getD, differ, keep-none, keep-first}
 use Rattle.order.proofs.Entries.{entry-right}
-use Rattle.placing.proofs.Counting.{waiting}
-use Rattle.placing.proofs.Kept.{Kept}
+use Rattle.order_standings.proofs.Counting.{waiting}
+use Rattle.order_standings.proofs.Kept.{Kept}
 use Rattle.order.proofs.Turn.{facts, zeros-small, is-candidate, candidate-waits, room, placed-too, first-placed}
 
 -- before a turn

@@ -22,14 +22,14 @@ use Rattle.network.proofs.Distance.{starts-in}
 use Rattle.network.proofs.NextHop.{path-reached}
 use Rattle.network.proofs.Candidate.{candidate-fact, fact-candidate, also-free}
 use Rattle.network.proofs.Selection.{selection-right}
-use Rattle.placing.specs.declared.Mode.{Mode}
-use Rattle.placing.specs.declared.Mode.the-variants as mode
+use Rattle.order_standings.specs.declared.Mode.{Mode}
+use Rattle.order_standings.specs.declared.Mode.the-variants as mode
 use Rattle.order.specs.Calls.{modeOf}
-use Rattle.placing.specs.Standings.{waitsFor, Highest}
-use Rattle.placing.proofs.Keeping.{kept-some, every-kept, any-kept}
-use Rattle.placing.proofs.Counting.{waiting, neighbours-most}
-use Rattle.placing.proofs.Kept.{Kept, placed-or}
-use Rattle.placing.proofs.Ties.{some-length}
+use Rattle.order_standings.specs.Standings.{waitsFor, Highest}
+use Rattle.order_standings.proofs.Keeping.{kept-some, every-kept, any-kept}
+use Rattle.order_standings.proofs.Counting.{waiting, neighbours-most}
+use Rattle.order_standings.proofs.Kept.{Kept, placed-or}
+use Rattle.order_standings.proofs.Ties.{some-length}
 
 module _ {n : Network} (formed : WellFormed n) {d : ℕ} (d-in : d < size n) {m : Mode} {lower placed keys : List ℕ}
     (few : (u : ℕ) → u < size n → length (arcsOf n u) ≤ 16) (small : (u : ℕ) → u < size n → getD lower u 0 < 64)

@@ -12,13 +12,13 @@ use lib.Seq.{length-take-le}
 use Rattle.network.specs.Lists.{below, keep, numbersFrom}
 use Rattle.network.proofs.Below.{from-bounds}
 use Rattle.network.proofs.Lists.{mem-keep}
-use Rattle.stations.specs.declared.Answer.{Answer}
-use Rattle.stations.specs.declared.Topology.{Topology}
-use Rattle.soundness.specs.Sound.{sound}
-use Rattle.stations.specs.Topology.{networkOf}
-use Rattle.stations.specs.Inner.{firstOr}
-use Rattle.stations.specs.Outcome.{answer}
-use Rattle.placing.specs.declared.Mode.{Mode}
+use Rattle.topology_types.specs.declared.Answer.{Answer}
+use Rattle.topology_types.specs.declared.Topology.{Topology}
+use Rattle.topology_sound.specs.Sound.{sound}
+use Rattle.topology_types.specs.Topology.{networkOf}
+use Rattle.topology_types.specs.Inner.{firstOr}
+use Rattle.topology_types.specs.Outcome.{answer}
+use Rattle.order_standings.specs.declared.Mode.{Mode}
 use Rattle.order.specs.Calls.{atFirst, reachedCount, wrongRanks, ranksAfter, unreadyRanks, modeOf, judging, checking}
 
 -- the tests before 20 pass: the order has a sound topology's length, holds places in its reached ranks, none twice, and 255 after them, and begins with d

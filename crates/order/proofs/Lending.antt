@@ -9,17 +9,17 @@ use lib.ListN.{length, getD, set, drop, replicate}
 use Rattle.network.specs.Network.{size}
 use Rattle.network.specs.Order.{build}
 use Rattle.network.proofs.Selection.{ids-apart}
-use Rattle.stations.specs.declared.Topology.{Topology}
-use Rattle.stations.specs.Topology.{networkOf}
+use Rattle.topology_types.specs.declared.Topology.{Topology}
+use Rattle.topology_types.specs.Topology.{networkOf}
 use Rattle.arcs.specs.declared.Arcs.{Arcs}
 use Rattle.arcs.specs.Arcs.{inSlots}
-use Rattle.placing.specs.declared.Mode.{Mode}
+use Rattle.order_standings.specs.declared.Mode.{Mode}
 use Rattle.order.specs.Calls.{modeOf, orderBytes}
 use Rattle.order.specs.Proposed.{Lent}
 use Rattle.distances.specs.Slots.{AllSlots}
-use Rattle.placing.specs.Standings.{Lower, Apart, Inverse, Standing, Highest, Room, Stepped}
-use Rattle.placing.proofs.Setting.{topology-ids}
-use Rattle.placing.proofs.Ties.{lower-small, lower-apart}
+use Rattle.order_standings.specs.Standings.{Lower, Apart, Inverse, Standing, Highest, Room, Stepped}
+use Rattle.order_standings.proofs.Setting.{topology-ids}
+use Rattle.order_standings.proofs.Ties.{lower-small, lower-apart}
 use Rattle.order.proofs.Turn.{facts, every-slot, every-back, standings-low, first-room}
 use Rattle.order.proofs.Building.{Building, ties-small, same-long, first-turn, selected, found, place, has-room, again, ends, all-placed, finished}
 use Rattle.order.proofs.Building.{cleared}

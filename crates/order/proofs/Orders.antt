@@ -24,18 +24,18 @@ use Rattle.network.proofs.Distance.{starts-in}
 use Rattle.network.proofs.Candidate.{candidate-fact, fact-candidate}
 use Rattle.network.proofs.Build.{built-by-rule}
 use Rattle.network.proofs.Order.{acceptance-exact, built-accepted, shortest-path-is-free}
-use Rattle.stations.specs.declared.Topology.{Topology}
-use Rattle.stations.specs.Topology.{padded, networkOf}
-use Rattle.soundness.specs.Sound.{sound}
-use Rattle.stations.specs.Inner.{firstOr}
-use Rattle.stations.specs.Outcome.{answer, given, turnedAway}
-use Rattle.soundness.specs.Theorems.{SoundNetwork}
-use Rattle.placing.specs.declared.Mode.{Mode}
-use Rattle.placing.specs.declared.Mode.the-variants as mode
+use Rattle.topology_types.specs.declared.Topology.{Topology}
+use Rattle.topology_types.specs.Topology.{padded, networkOf}
+use Rattle.topology_sound.specs.Sound.{sound}
+use Rattle.topology_types.specs.Inner.{firstOr}
+use Rattle.topology_types.specs.Outcome.{answer, given, turnedAway}
+use Rattle.topology_sound.specs.Theorems.{SoundNetwork}
+use Rattle.order_standings.specs.declared.Mode.{Mode}
+use Rattle.order_standings.specs.declared.Mode.the-variants as mode
 use Rattle.order.specs.Calls.{modeOf, reachedCount, orderBytes, unreadyRanks, building, checking}
 use Rattle.order.specs.Inner.{Begins}
 use Rattle.order.specs.Theorems.{ReachedRight, Holds, ChecksExact, BuiltWell, BuildsByRule, BuildRefuses}
-use Rattle.soundness.proofs.Sound.{sound-networks}
+use Rattle.topology_sound.proofs.Sound.{sound-networks}
 use Rattle.order.proofs.Reached.{counted, no-more, reached-most, reached-some, accepted-long, built-long, bytes-long}
 use Rattle.order.proofs.Ranges.{getD-mem, mem-getD, differ, keep-none, none-passes, keep-first, first-passes}
 use Rattle.order.proofs.Entries.{entry-right, none-wrong}

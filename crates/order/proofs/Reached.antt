@@ -20,8 +20,8 @@ use Rattle.network.proofs.Pigeon.{no-longer}
 use Rattle.network.proofs.Distance.{starts-in}
 use Rattle.network.proofs.NextHop.{path-reached, reached-path}
 use Rattle.network.proofs.Order.{acceptance-exact, built-accepted, never-stuck}
-use Rattle.placing.proofs.Keeping.{kept-most}
-use Rattle.stations.specs.Topology.{padded}
+use Rattle.order_standings.proofs.Keeping.{kept-most}
+use Rattle.topology_types.specs.Topology.{padded}
 use Rattle.order.specs.Calls.{reachedCount, orderBytes}
 
 module _ (n : Network) (formed : WellFormed n) (d : ℕ) (d-in : d < size n) where

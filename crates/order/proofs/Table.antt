@@ -6,9 +6,9 @@ use Rattle.network.specs.Distance as of-distance
 use Rattle.network.specs.Distance.{absent, distanceIn, through, round, rounds, distances}
 use Rattle.network.specs.Order.{reached, shortestNextHops, leadsInto, ready, candidate, placedNeighbours, preferred, select, continued, placing}
 use Rattle.network.specs.Order.{build}
-use Rattle.stations.specs.Outcome.{turnedAway, given}
-use Rattle.stations.specs.Topology.{noLink, padded, contents, held, zeros, seen, networkIn, networkOf}
-use Rattle.soundness.specs.Sound.{within, inLimits, wellLinked, uncrowded, isNoLink, unusedZero, slotted, sound}
+use Rattle.topology_types.specs.Outcome.{turnedAway, given}
+use Rattle.topology_types.specs.Topology.{noLink, padded, contents, held, zeros, seen, networkIn, networkOf}
+use Rattle.topology_sound.specs.Sound.{within, inLimits, wellLinked, uncrowded, isNoLink, unusedZero, slotted, sound}
 use Rattle.order.specs.Calls.{modeOf, reachedCount, orderBytes, building, wrongRanks, ranksAfter, unreadyRanks, atFirst, judging, checking}
 use Rattle.order.specs.Table.{answers, holds, link, twoCosts, T-topology, square, directed, costsThere, costsBack, cutOff, twoParts, pair}
 use Rattle.order.specs.Table.{facts, FactsHold}

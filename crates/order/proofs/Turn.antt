@@ -14,26 +14,26 @@ use Rattle.network.specs.Distance.{PathTo, absent, distances}
 use Rattle.network.specs.Order.{reached, shortestNextHops, leadsInto, candidate, select}
 use Rattle.network.proofs.Below.{below-lt}
 use Rattle.network.proofs.NextHop.{zero-at-d, next-nearer}
-use Rattle.stations.specs.declared.Topology.{Topology}
-use Rattle.stations.specs.Topology.{networkOf}
-use Rattle.soundness.specs.Theorems.{SoundNetwork}
+use Rattle.topology_types.specs.declared.Topology.{Topology}
+use Rattle.topology_types.specs.Topology.{networkOf}
+use Rattle.topology_sound.specs.Theorems.{SoundNetwork}
 use Rattle.arcs.specs.declared.Arcs.{Arcs}
 use Rattle.arcs.specs.Arcs.{slotsBack, networkBack}
-use Rattle.placing.specs.declared.Mode.{Mode}
-use Rattle.placing.specs.declared.Mode.the-variants as mode
+use Rattle.order_standings.specs.declared.Mode.{Mode}
+use Rattle.order_standings.specs.declared.Mode.the-variants as mode
 use Rattle.order.specs.Calls.{modeOf, reachedCount}
 use Rattle.distances.specs.Settled.{Settled}
 use Rattle.order.specs.Proposed.{DistancesFor, LaidOut, Measured}
 use Rattle.distances.specs.Slots.{Slots, AllSlots}
-use Rattle.placing.specs.Standings.{waitsFor, Lower, Standing, Highest, Room, Stepped}
-use Rattle.soundness.proofs.Sound.{sound-exact, sound-networks}
+use Rattle.order_standings.specs.Standings.{waitsFor, Lower, Standing, Highest, Room, Stepped}
+use Rattle.topology_sound.proofs.Sound.{sound-exact, sound-networks}
 use Rattle.distances.proofs.Slots.{sound-held, back-held, all-slots}
-use Rattle.placing.proofs.Keeping.{keep-same, none-kept}
-use Rattle.placing.proofs.Counting.{waiting}
-use Rattle.placing.proofs.Setting.{Setting, GoneBy, settled-agrees, topology-setting, topology-ids}
-use Rattle.placing.proofs.Stepping.{waits-most}
-use Rattle.placing.proofs.Kept.{Kept, kept-start, kept-room, kept-step}
-use Rattle.placing.proofs.Ties.{lower-less}
+use Rattle.order_standings.proofs.Keeping.{keep-same, none-kept}
+use Rattle.order_standings.proofs.Counting.{waiting}
+use Rattle.order_standings.proofs.Setting.{Setting, GoneBy, settled-agrees, topology-setting, topology-ids}
+use Rattle.order_standings.proofs.Stepping.{waits-most}
+use Rattle.order_standings.proofs.Kept.{Kept, kept-start, kept-room, kept-step}
+use Rattle.order_standings.proofs.Ties.{lower-less}
 use Rattle.order.proofs.Chosen.{to-ready, candidate-stands, keys-low, none-selected, some-selected, highest-selected}
 
 -- distances that are settled serve in either mode, and in free mode zeros do

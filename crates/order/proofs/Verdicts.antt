@@ -10,14 +10,14 @@ use lib.Dec.{ltb}
 use lib.ListN.{length, getD, take}
 use lib.Seq.{length-take-le, getD-take, take-take}
 use Rattle.network.proofs.Tests.{as-true, as-false}
-use Rattle.stations.specs.declared.Answer.{Answer}
-use Rattle.stations.specs.declared.Topology.{Topology}
-use Rattle.stations.specs.Topology.{networkOf}
-use Rattle.stations.specs.Inner.{firstOr}
-use Rattle.stations.specs.Outcome.{answer}
-use Rattle.soundness.specs.Sound.{sound}
-use Rattle.placing.specs.declared.Mode.{Mode}
-use Rattle.placing.specs.declared.Mode.the-variants as mode
+use Rattle.topology_types.specs.declared.Answer.{Answer}
+use Rattle.topology_types.specs.declared.Topology.{Topology}
+use Rattle.topology_types.specs.Topology.{networkOf}
+use Rattle.topology_types.specs.Inner.{firstOr}
+use Rattle.topology_types.specs.Outcome.{answer}
+use Rattle.topology_sound.specs.Sound.{sound}
+use Rattle.order_standings.specs.declared.Mode.{Mode}
+use Rattle.order_standings.specs.declared.Mode.the-variants as mode
 use Rattle.order.specs.Calls.{modeOf, reachedCount, wrongRanks, ranksAfter, unreadyRanks, judging, checking}
 use Rattle.order.specs.Theorems as theorems
 use Rattle.order.specs.Theorems.{no-place, repeated, ranked, RightAt, WrongAt, UnreadyAt, Called, AllRight, Begun, Checked, ChecksEach}

@@ -10,13 +10,13 @@ use Rattle.network.specs.Network.{Network, size}
 use Rattle.network.specs.Distance.{distances}
 use Rattle.network.specs.Order.{reached, candidate, build}
 use Rattle.network.specs.Order as network
-use Rattle.stations.specs.declared.Answer.{Answer}
-use Rattle.stations.specs.declared.Topology.{Topology}
-use Rattle.stations.specs.Topology.{padded, networkOf}
-use Rattle.soundness.specs.Sound.{sound}
-use Rattle.stations.specs.Outcome.{answer, Outcome, turnedAway, given}
-use Rattle.placing.specs.declared.Mode.{Mode}
-use Rattle.placing.specs.declared.Mode.the-variants as mode
+use Rattle.topology_types.specs.declared.Answer.{Answer}
+use Rattle.topology_types.specs.declared.Topology.{Topology}
+use Rattle.topology_types.specs.Topology.{padded, networkOf}
+use Rattle.topology_sound.specs.Sound.{sound}
+use Rattle.topology_types.specs.Outcome.{answer, Outcome, turnedAway, given}
+use Rattle.order_standings.specs.declared.Mode.{Mode}
+use Rattle.order_standings.specs.declared.Mode.the-variants as mode
 
 -- the mode as the definitions have it
 unfoldable pub modeOf : Mode → network.Mode

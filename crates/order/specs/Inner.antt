@@ -5,8 +5,8 @@ use mathlib.Core.List.{List, []}
 use mathlib.Core.Path.{_≡_}
 use lib.Dec.{T}
 use lib.ListN.{length, getD}
-use Rattle.stations.specs.declared.Topology.{Topology}
-use Rattle.soundness.specs.Sound.{sound}
+use Rattle.topology_types.specs.declared.Topology.{Topology}
+use Rattle.topology_sound.specs.Sound.{sound}
 use Rattle.order.specs.Calls.{wrongRanks}
 
 -- places of a sound topology, none twice, of which d is the first

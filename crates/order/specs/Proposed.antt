@@ -9,16 +9,16 @@ use Rattle.network.specs.Lists.{Distinct}
 use Rattle.network.specs.Network.{Network, size}
 use Rattle.network.specs.Distance.{distances}
 use Rattle.network.specs.Row.{rank}
-use Rattle.stations.specs.Limits.{mostRouters}
-use Rattle.stations.specs.Topology.{networkOf}
-use Rattle.stations.specs.declared.Topology.{Topology}
-use Rattle.soundness.specs.Sound.{sound}
+use Rattle.topology_types.specs.Limits.{mostRouters}
+use Rattle.topology_types.specs.Topology.{networkOf}
+use Rattle.topology_types.specs.declared.Topology.{Topology}
+use Rattle.topology_sound.specs.Sound.{sound}
 use Rattle.arcs.specs.declared.Arcs.{Arcs}
 use Rattle.arcs.specs.Arcs.{inSlots, Laid}
 use Rattle.distances.specs.Slots.{farthest}
 use Rattle.distances.specs.Settled.{Settled}
-use Rattle.placing.specs.declared.Mode.{Mode}
-use Rattle.placing.specs.declared.Mode.the-variants as mode
+use Rattle.order_standings.specs.declared.Mode.{Mode}
+use Rattle.order_standings.specs.declared.Mode.the-variants as mode
 use Rattle.order.specs.declared.unchecked.Ranks.{Ranks}
 
 -- what a mode needs of distances to build an order: shortest-path mode those to d, by place, free mode only that none is more than absent can be; to judge

@@ -6,12 +6,12 @@ use mathlib.Core.Bool.{Bool, _&&_}
 use mathlib.Core.List.{List, [], _∷_}
 use lib.Dec.{T, eqb}
 use Rattle.network.specs.Lists.{every, sameNumbers}
-use Rattle.stations.specs.declared.Answer.{Answer}
-use Rattle.stations.specs.declared.Link.{Link}
-use Rattle.stations.specs.declared.Topology.{Topology}
-use Rattle.stations.specs.Topology.{held, zeros}
-use Rattle.placing.specs.declared.Mode.{Mode}
-use Rattle.placing.specs.declared.Mode.the-variants as mode
+use Rattle.topology_types.specs.declared.Answer.{Answer}
+use Rattle.topology_types.specs.declared.Link.{Link}
+use Rattle.topology_types.specs.declared.Topology.{Topology}
+use Rattle.topology_types.specs.Topology.{held, zeros}
+use Rattle.order_standings.specs.declared.Mode.{Mode}
+use Rattle.order_standings.specs.declared.Mode.the-variants as mode
 use Rattle.order.specs.Calls.{building, checking}
 
 pub data Fact : Type 0 where

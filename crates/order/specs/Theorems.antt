@@ -11,12 +11,12 @@ use Rattle.network.specs.Network.{Network, size, WellFormed}
 use Rattle.network.specs.Distance.{PathTo}
 use Rattle.network.specs.Order as network
 use Rattle.network.specs.Theorems.Order.{Candidate, Accepted, ByRule}
-use Rattle.stations.specs.declared.Topology.{Topology}
-use Rattle.stations.specs.Outcome.{answer, turnedAway}
-use Rattle.stations.specs.Topology.{networkOf}
-use Rattle.soundness.specs.Sound.{sound}
-use Rattle.placing.specs.declared.Mode.{Mode}
-use Rattle.placing.specs.declared.Mode.the-variants as mode
+use Rattle.topology_types.specs.declared.Topology.{Topology}
+use Rattle.topology_types.specs.Outcome.{answer, turnedAway}
+use Rattle.topology_types.specs.Topology.{networkOf}
+use Rattle.topology_sound.specs.Sound.{sound}
+use Rattle.order_standings.specs.declared.Mode.{Mode}
+use Rattle.order_standings.specs.declared.Mode.the-variants as mode
 use Rattle.order.specs.Calls.{reachedCount, building, checking}
 
 -- a claim of both modes, each as the code has it and as `network` has it

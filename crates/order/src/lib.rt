@@ -1,8 +1,8 @@
 // Orders (01, Order).
-pub use placing::Mode;
-use stations::Answer;
-use stations::Place;
-use stations::Topology;
+pub use order_standings::Mode;
+use topology_types::Answer;
+use topology_types::Place;
+use topology_types::Topology;
 
 mod proposal;
 pub mod unchecked;
@@ -14,7 +14,7 @@ ghost use Rattle.order.specs.Calls.{building, checking};
 pub fn build(t: Topology, destination: Place, mode: Mode, out: &mut [u8]) -> Answer
     ensures { λ r. ⌜ record { answer = r; buffer = now (out .exit) } ≡ building t (destination .0) mode (now (out .entry)) ⌝ }
 {
-    if !soundness::is_sound(t) {
+    if !topology_sound::is_sound(t) {
         return Answer { number: 14, at: 0 };
     }
     let d = destination.index();
@@ -46,7 +46,7 @@ pub fn build(t: Topology, destination: Place, mode: Mode, out: &mut [u8]) -> Ans
 pub fn check(t: Topology, destination: Place, mode: Mode, order: &[u8]) -> Answer
     ensures { λ r. ⌜ r ≡ checking t (destination .0) mode (now (order .entry)) ⌝ }
 {
-    if !soundness::is_sound(t) {
+    if !topology_sound::is_sound(t) {
         return Answer { number: 14, at: 0 };
     }
     let d = destination.index();

@@ -1,14 +1,14 @@
 // The tests of a proposed order's entries, and of the routers that it places.
 use super::Mode;
 use arcs::Arcs;
-use stations::ROUTERS;
-use stations::Topology;
+use topology_types::ROUTERS;
+use topology_types::Topology;
 ghost use mathlib.Core.Path.{_≡_};
 ghost use Prim.Native.Nat.{_≤_};
 ghost use lib.ListN.{length};
-ghost use Rattle.stations.specs.Limits.{mostRouters};
-ghost use Rattle.stations.specs.Topology.{networkOf};
-ghost use Rattle.stations.specs.Inner.{firstOr};
+ghost use Rattle.topology_types.specs.Limits.{mostRouters};
+ghost use Rattle.topology_types.specs.Topology.{networkOf};
+ghost use Rattle.topology_types.specs.Inner.{firstOr};
 ghost use Rattle.order.specs.Calls.{modeOf, wrongRanks, ranksAfter, unreadyRanks};
 ghost use Rattle.order.specs.Proposed.{LaidOut};
 ghost use Rattle.order.specs.Inner.{Begins};
@@ -63,7 +63,7 @@ pub(crate) fn unready_rank(
 {
     // Ties are not decided here, so no lower IDs are counted.
     let lower = [0u32; ROUTERS];
-    let mut keys = placing::unchecked::standings(
+    let mut keys = order_standings::unchecked::standings(
         &a.count,
         &a.to,
         &a.cost,
@@ -73,15 +73,15 @@ pub(crate) fn unready_rank(
         mode,
     );
     let count = a.count[d] as usize;
-    placing::unchecked::count_in(&mut keys, mode, &a.to, &a.back, &ds, d, count);
+    order_standings::unchecked::count_in(&mut keys, mode, &a.to, &a.back, &ds, d, count);
     let mut rank: usize = 1;
     while rank < order.len() {
         let u = order[rank] as usize;
-        if !placing::unchecked::is_candidate(keys[u]) {
+        if !order_standings::unchecked::is_candidate(keys[u]) {
             return rank;
         }
         let count = a.count[u] as usize;
-        placing::unchecked::count_in(&mut keys, mode, &a.to, &a.back, &ds, u, count);
+        order_standings::unchecked::count_in(&mut keys, mode, &a.to, &a.back, &ds, u, count);
         rank += 1;
     }
     rank

@@ -4,11 +4,11 @@ use super::Mode;
 use super::proposal;
 use arcs::Arcs;
 use arcs::SLOTS;
-use stations::Answer;
-use stations::Place;
-use stations::ROUTERS;
-use stations::Rank;
-use stations::Topology;
+use topology_types::Answer;
+use topology_types::Place;
+use topology_types::ROUTERS;
+use topology_types::Rank;
+use topology_types::Topology;
 ghost use mathlib.Core.List.{_++_};
 ghost use mathlib.Core.Path.{_≡_};
 ghost use Prim.Native.Nat.{_*_, _<_, _≤_};
@@ -16,9 +16,9 @@ ghost use lib.Dec.{ltb};
 ghost use lib.ListN.{length, getD, drop, replicate};
 ghost use Rattle.network.specs.Lists.{below, keep};
 ghost use Rattle.network.specs.Order as «said-order»;
-ghost use Rattle.stations.specs.Limits.{mostRouters};
-ghost use Rattle.stations.specs.declared.Topology.{Topology};
-ghost use Rattle.stations.specs.Topology.{networkOf};
+ghost use Rattle.topology_types.specs.Limits.{mostRouters};
+ghost use Rattle.topology_types.specs.declared.Topology.{Topology};
+ghost use Rattle.topology_types.specs.Topology.{networkOf};
 ghost use Rattle.order.specs.Calls.{modeOf, orderBytes, judging};
 ghost use Rattle.distances.specs.Settled.{LaidIn};
 ghost use Rattle.order.specs.Proposed.{DistancesFor, Measured, Lent, Ranked, RanksOf};
@@ -72,23 +72,23 @@ pub fn build<'a>(
     ensures { λ _. ⌜ ((t : Topology) → Lent t (now (counts .entry)) (now (to .entry)) (now (cost .entry)) (now (back .entry)) (now (ids .entry)) n (destination .0) mode (now (ds .entry)) → now (out .exit) ≡ orderBytes n («said-order».build (networkOf t) (destination .0) (modeOf mode)) ++ drop n (now (out .entry))) ⌝ }
 {
     let d = destination.index();
-    let lower = placing::unchecked::lower_ids(ids, n);
-    let places = placing::unchecked::places_of(&lower, n);
-    let mut keys = placing::unchecked::standings(counts, to, cost, ds, &lower, n, mode);
+    let lower = order_standings::unchecked::lower_ids(ids, n);
+    let places = order_standings::unchecked::places_of(&lower, n);
+    let mut keys = order_standings::unchecked::standings(counts, to, cost, ds, &lower, n, mode);
     let count = counts[d] as usize;
-    placing::unchecked::count_in(&mut keys, mode, to, back, ds, d, count);
+    order_standings::unchecked::count_in(&mut keys, mode, to, back, ds, d, count);
     clear(out, n);
     out[0] = destination.0;
     let mut rank: usize = 1;
     while rank < n {
-        let best = placing::unchecked::highest(&keys, n);
-        if !placing::unchecked::is_candidate(best) {
+        let best = order_standings::unchecked::highest(&keys, n);
+        if !order_standings::unchecked::is_candidate(best) {
             return;
         }
-        let place = places[(best % placing::unchecked::NEAR) as usize];
+        let place = places[(best % order_standings::unchecked::NEAR) as usize];
         let u = place as usize;
         let count = counts[u] as usize;
-        placing::unchecked::count_in(&mut keys, mode, to, back, ds, u, count);
+        order_standings::unchecked::count_in(&mut keys, mode, to, back, ds, u, count);
         out[rank] = place;
         rank += 1;
     }

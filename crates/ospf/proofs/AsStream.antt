@@ -7,20 +7,20 @@ use mathlib.Core.Path.{_≡_, refl, sym, ap, ap₂, _∙_}
 use native.Mathlib.Omega.{arith}
 use lib.Dec.{eqb}
 use lib.ListN.{length}
-use Rattle.stations.specs.declared.Half.{Half}
-use Rattle.stations.specs.Topology.{Contents}
-use Rattle.soundness.specs.Sound.{within}
-use Rattle.records.specs.declared.Reading.{Reading}
-use Rattle.records.specs.declared.Record.{Record}
-use Rattle.records.specs.declared.Record.the-variants as record-of
-use Rattle.records.specs.Halves.{Listing}
-use Rattle.records.specs.Stream.{records}
-use Rattle.records.specs.Reading.{refusal, accepted, fault, withLimit, added, width, isEnd, ended, unless, some?, inTurn, nothingListed, reading}
-use Rattle.records.proofs.InTurn.{next-limit, next-end, goes-on}
+use Rattle.topology_types.specs.declared.Half.{Half}
+use Rattle.topology_types.specs.Topology.{Contents}
+use Rattle.topology_sound.specs.Sound.{within}
+use Rattle.stream_rules.specs.declared.Reading.{Reading}
+use Rattle.stream_rules.specs.declared.Record.{Record}
+use Rattle.stream_rules.specs.declared.Record.the-variants as record-of
+use Rattle.stream_rules.specs.Halves.{Listing}
+use Rattle.stream_rules.specs.Stream.{records}
+use Rattle.stream_rules.specs.Reading.{refusal, accepted, fault, withLimit, added, width, isEnd, ended, unless, some?, inTurn, nothingListed, reading}
+use Rattle.stream_rules.proofs.InTurn.{next-limit, next-end, goes-on}
 use Rattle.topology.specs.Written.{joinedOver, routerBytes, halfBytes}
 use Rattle.topology.proofs.Joined.{joined-behind}
 use Rattle.topology.proofs.Rewritten.{router-record, half-bytes, each-record}
-use Rattle.lsas.specs.Lsa.{Lsa, lsas}
+use Rattle.ospf_lsas.specs.Lsa.{Lsa, lsas}
 use Rattle.ospf.specs.Import.{Placed, idOf, routerIn, halfIn, halvesAt, halvesIn, placedIn}
 use Rattle.ospf.specs.Imported.{Taken, nothing, one-more, allHalves, streamOf, ImportReads}
 use Rattle.ospf.proofs.Plain.{Plain, router, half, no-end}

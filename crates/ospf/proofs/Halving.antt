@@ -8,24 +8,24 @@ use native.Mathlib.Omega.{arith}
 use lib.ListN.{length, getD, take, drop, replicate, length-drop, drop-of-length-le}
 use lib.Seq.{drop-cons}
 use Rattle.network.proofs.Selection.{getD-mem}
-use Rattle.stations.specs.declared.Half.{Half}
-use Rattle.stations.specs.declared.Topology.{Topology}
-use Rattle.records.specs.declared.Reading.{Reading}
-use Rattle.records.specs.declared.Record.{Record}
-use Rattle.records.specs.declared.Record.the-variants as record-of
-use Rattle.records.specs.Halves.{Listing, linkHalves, halves}
-use Rattle.records.specs.Reading.{refusal, accepted, fault, added}
-use Rattle.records.specs.Theorems.{Bytes}
-use Rattle.records.proofs.Tables.{Tabled, Tallied, tabled-none, tallied-none}
+use Rattle.topology_types.specs.declared.Half.{Half}
+use Rattle.topology_types.specs.declared.Topology.{Topology}
+use Rattle.stream_rules.specs.declared.Reading.{Reading}
+use Rattle.stream_rules.specs.declared.Record.{Record}
+use Rattle.stream_rules.specs.declared.Record.the-variants as record-of
+use Rattle.stream_rules.specs.Halves.{Listing, linkHalves, halves}
+use Rattle.stream_rules.specs.Reading.{refusal, accepted, fault, added}
+use Rattle.stream_rules.specs.Theorems.{Bytes}
+use Rattle.stream_rules.proofs.Tables.{Tabled, Tallied, tabled-none, tallied-none}
 use Rattle.stream.proofs.Filled.{Filled}
-use Rattle.lsas.specs.Lsa.{malformed, Lsa, lsasFrom, lsas, firstMalformed}
-use Rattle.lsas.specs.Theorems.{two}
+use Rattle.ospf_lsas.specs.Lsa.{malformed, Lsa, lsasFrom, lsas, firstMalformed}
+use Rattle.ospf_lsas.specs.Theorems.{two}
 use Rattle.ospf.specs.Import.{Placed, idOf, routerIn, halfIn, halvesAt, halvesIn, placedIn, takenTo, atLast}
 use Rattle.ospf.specs.Imported.{Taken, nothing, one-more, AllWhole}
 use Rattle.ospf.specs.Inner.{asListed, routersTaken, allTaken}
-use Rattle.lsas.proofs.Malformed.{cut}
-use Rattle.lsas.proofs.Ends.{points-within}
-use Rattle.lsas.proofs.Walk.{Ahead, at-first, Lies}
+use Rattle.ospf_lsas.proofs.Malformed.{cut}
+use Rattle.ospf_lsas.proofs.Ends.{points-within}
+use Rattle.ospf_lsas.proofs.Walk.{Ahead, at-first, Lies}
 use Rattle.ospf.proofs.Turns.{taken-on, taken-off, after-taken, all-taken, first-fault, Outcome, done, failed, outcome}
 use Rattle.ospf.proofs.Plain.{Plain, taken-good, bytes-drop, bytes-take, half-plain, placed-plain}
 use Rattle.ospf.proofs.Listed.{listed-ids, router-ids}

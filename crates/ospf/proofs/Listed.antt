@@ -3,13 +3,13 @@
 use Prim.Native.Nat.{ℕ, _+_}
 use mathlib.Core.List.{List, [], _∷_, _++_, map, append-nil, append-assoc, List·Memᴰ, List·Memᴰ·head, Memᴰ·append-left, Memᴰ·append-right}
 use mathlib.Core.Path.{_≡_, refl, sym, ap, _∙_}
-use Rattle.stations.specs.declared.Half.{Half}
-use Rattle.records.specs.declared.Record.{Record}
-use Rattle.records.specs.declared.Record.the-variants as record-of
-use Rattle.records.specs.Halves.{Listing, sameHalf, opposite}
-use Rattle.records.specs.Reading.{added, arrived, withRouter, withLink}
+use Rattle.topology_types.specs.declared.Half.{Half}
+use Rattle.stream_rules.specs.declared.Record.{Record}
+use Rattle.stream_rules.specs.declared.Record.the-variants as record-of
+use Rattle.stream_rules.specs.Halves.{Listing, sameHalf, opposite}
+use Rattle.stream_rules.specs.Reading.{added, arrived, withRouter, withLink}
 use Rattle.network.specs.Lists.{keep}
-use Rattle.lsas.specs.Lsa.{Lsa}
+use Rattle.ospf_lsas.specs.Lsa.{Lsa}
 use Rattle.ospf.specs.Import.{Placed, idOf, routerIn, halfIn, halvesAt, halvesIn, placedIn}
 use Rattle.ospf.specs.Imported.{Taken, nothing, one-more}
 use Rattle.ospf.proofs.Plain.{Plain, router, half}

@@ -15,22 +15,22 @@ use lib.Seq.{append-snoc}
 use Rattle.network.specs.Lists.{any, keep, member, Pairwise}
 use Rattle.network.proofs.Lists.{member-mem, mem-keep}
 use Rattle.network.proofs.Tests.{truth, as-true, as-false}
-use Rattle.stations.specs.declared.Half.{Half}
-use Rattle.records.specs.declared.Reading.{Reading}
-use Rattle.records.specs.declared.Record.the-variants as record-of
-use Rattle.records.specs.Halves.{Listing, linkHalves, halves, sameHalf, opposite}
-use Rattle.records.specs.Reading.{refusal, accepted, routerFault, repeated, crowded, halvesFault, fault, withRouter, added, ended, unless, nothingListed}
-use Rattle.records.specs.Theorems.{Bytes}
-use Rattle.records.proofs.Halves.{total, one, total-append, total-none, adds-last}
-use Rattle.records.proofs.Opposite.{same-places, Once, adds-half}
-use Rattle.records.proofs.Tables.{same-half}
-use Rattle.records.proofs.Kept.{Good, good-nothing, kept}
-use Rattle.lsas.specs.Lsa.{links, malformed, Lsa, lsas}
-use Rattle.neighbours.specs.Neighbours.{allOf, neighboursOf, halfTo, halvesOf}
+use Rattle.topology_types.specs.declared.Half.{Half}
+use Rattle.stream_rules.specs.declared.Reading.{Reading}
+use Rattle.stream_rules.specs.declared.Record.the-variants as record-of
+use Rattle.stream_rules.specs.Halves.{Listing, linkHalves, halves, sameHalf, opposite}
+use Rattle.stream_rules.specs.Reading.{refusal, accepted, routerFault, repeated, crowded, halvesFault, fault, withRouter, added, ended, unless, nothingListed}
+use Rattle.stream_rules.specs.Theorems.{Bytes}
+use Rattle.stream_rules.proofs.Halves.{total, one, total-append, total-none, adds-last}
+use Rattle.stream_rules.proofs.Opposite.{same-places, Once, adds-half}
+use Rattle.stream_rules.proofs.Tables.{same-half}
+use Rattle.stream_rules.proofs.Kept.{Good, good-nothing, kept}
+use Rattle.ospf_lsas.specs.Lsa.{links, malformed, Lsa, lsas}
+use Rattle.ospf_halves.specs.Neighbours.{allOf, neighboursOf, halfTo, halvesOf}
 use Rattle.ospf.specs.Import.{Placed, idOf, routerIn, halfIn, halvesAt, halvesIn, placedIn, takenTo, atLast, importing}
 use Rattle.ospf.specs.Imported.{allHalves, AllRight, ImportNumbers}
-use Rattle.neighbours.proofs.Halves.{place-inside, one-each}
-use Rattle.lsas.proofs.Lsas.{lsas-consecutive}
+use Rattle.ospf_halves.proofs.Halves.{place-inside, one-each}
+use Rattle.ospf_lsas.proofs.Lsas.{lsas-consecutive}
 use Rattle.ospf.proofs.Listed.{ids-arrived}
 use Rattle.ospf.proofs.Verdict.{Verdict, in-26, in-27, in-turn, at-end, verdict, taken-turns}
 use Rattle.ospf.proofs.Plain.{half-plain, id-fits, lsa-bytes}

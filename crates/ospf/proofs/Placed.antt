@@ -5,13 +5,13 @@ use mathlib.Core.Bool.{false}
 use mathlib.Core.List.{List, [], _∷_, _++_, map, List·Memᴰ, List·Memᴰ·head, List·Memᴰ·tail}
 use mathlib.Core.Path.{_≡_, refl, ap, ap₂, subst}
 use native.Mathlib.Omega.{arith}
-use Rattle.records.specs.declared.Record.the-variants as record-of
-use Rattle.lsas.specs.Lsa.{malformed, Lsa, lsas}
-use Rattle.lsas.specs.Theorems.{four}
+use Rattle.stream_rules.specs.declared.Record.the-variants as record-of
+use Rattle.ospf_lsas.specs.Lsa.{malformed, Lsa, lsas}
+use Rattle.ospf_lsas.specs.Theorems.{four}
 use Rattle.ospf.specs.Import.{Placed, idOf, routerIn, halfIn, halvesAt, halvesIn, placedIn}
 use Rattle.ospf.specs.Imported.{HalvesInTurn, no-lsa, next-lsa, PlacedInTurn}
-use Rattle.lsas.proofs.Fields.{fields-each}
-use Rattle.lsas.proofs.Malformed.{cut}
+use Rattle.ospf_lsas.proofs.Fields.{fields-each}
+use Rattle.ospf_lsas.proofs.Malformed.{cut}
 
 -- the Advertising Router by its bytes
 id-is : (l : Lsa) → malformed (l .bytes) ≡ false → idOf l ≡ four (l .bytes) 8

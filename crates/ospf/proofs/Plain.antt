@@ -12,23 +12,23 @@ use lib.ListN.{length, getD, take, drop, length-drop, take-append-drop}
 use lib.Seq.{length-take-le}
 use Rattle.network.specs.Lists.{any, member}
 use Rattle.network.proofs.Lists.{mem-take, mem-keep}
-use Rattle.stations.specs.declared.Half.{Half}
-use Rattle.records.specs.declared.Record.{Record}
-use Rattle.records.specs.declared.Record.the-variants as record-of
-use Rattle.records.specs.Halves.{Listing, halves}
-use Rattle.records.specs.Reading.{fault, routerFault, repeated, crowded, halvesFault, isEnd, nothingListed}
-use Rattle.records.specs.Theorems.{Bytes}
-use Rattle.records.proofs.Digits.{bytes-below}
-use Rattle.records.proofs.Fitting.{Fitting}
-use Rattle.records.proofs.Kept.{Good, good-nothing, kept}
-use Rattle.lsas.specs.Lsa.{advertisingRouter, lengthField, linkCount, links, malformed, Lsa, lsas}
-use Rattle.neighbours.specs.Neighbours.{allOf, halvesOf, halfTo}
-use Rattle.lsas.specs.Theorems.{two, Consecutive, end, faulty, next}
+use Rattle.topology_types.specs.declared.Half.{Half}
+use Rattle.stream_rules.specs.declared.Record.{Record}
+use Rattle.stream_rules.specs.declared.Record.the-variants as record-of
+use Rattle.stream_rules.specs.Halves.{Listing, halves}
+use Rattle.stream_rules.specs.Reading.{fault, routerFault, repeated, crowded, halvesFault, isEnd, nothingListed}
+use Rattle.stream_rules.specs.Theorems.{Bytes}
+use Rattle.stream_rules.proofs.Digits.{bytes-below}
+use Rattle.stream_rules.proofs.Fitting.{Fitting}
+use Rattle.stream_rules.proofs.Kept.{Good, good-nothing, kept}
+use Rattle.ospf_lsas.specs.Lsa.{advertisingRouter, lengthField, linkCount, links, malformed, Lsa, lsas}
+use Rattle.ospf_halves.specs.Neighbours.{allOf, halvesOf, halfTo}
+use Rattle.ospf_lsas.specs.Theorems.{two, Consecutive, end, faulty, next}
 use Rattle.ospf.specs.Import.{Placed, idOf, routerIn, halfIn, halvesAt, halvesIn, placedIn}
 use Rattle.ospf.specs.Imported.{Taken, nothing, one-more, AllWhole}
-use Rattle.lsas.proofs.Malformed.{cut}
-use Rattle.lsas.proofs.Lsas.{lsas-consecutive}
-use Rattle.neighbours.proofs.Named.{neighbour-fits}
+use Rattle.ospf_lsas.proofs.Malformed.{cut}
+use Rattle.ospf_lsas.proofs.Lsas.{lsas-consecutive}
+use Rattle.ospf_halves.proofs.Named.{neighbour-fits}
 
 pub data Plain : Record → Type 0 where
   router : (id : ℕ) → id < 2 ^ 32 → Plain (record-of.Router id)

@@ -6,21 +6,21 @@ use mathlib.Core.Path.{_≡_, refl, sym, ap, _∙_}
 use native.Mathlib.Omega.{arith}
 use lib.ListN.{length, take, drop, replicate, length-drop}
 use lib.Seq.{drop-drop, take-take}
-use Rattle.stations.specs.declared.Topology.{Topology}
-use Rattle.stations.specs.Topology.{held}
-use Rattle.records.specs.declared.Record.the-variants as record-of
-use Rattle.records.specs.Halves.{Listing}
-use Rattle.records.specs.Stream.{bigEndian}
-use Rattle.records.specs.Reading.{refusal, accepted, fault, added, nothingListed}
-use Rattle.records.proofs.Held.{with-router}
+use Rattle.topology_types.specs.declared.Topology.{Topology}
+use Rattle.topology_types.specs.Topology.{held}
+use Rattle.stream_rules.specs.declared.Record.the-variants as record-of
+use Rattle.stream_rules.specs.Halves.{Listing}
+use Rattle.stream_rules.specs.Stream.{bigEndian}
+use Rattle.stream_rules.specs.Reading.{refusal, accepted, fault, added, nothingListed}
+use Rattle.stream_rules.proofs.Held.{with-router}
 use Rattle.stream.proofs.Filled.{Filled, filled-first, past-router}
-use Rattle.lsas.specs.Lsa.{advertisingRouter, lengthField, malformed, Lsa, lsasFrom, lsas}
-use Rattle.lsas.specs.Theorems.{two}
+use Rattle.ospf_lsas.specs.Lsa.{advertisingRouter, lengthField, malformed, Lsa, lsasFrom, lsas}
+use Rattle.ospf_lsas.specs.Theorems.{two}
 use Rattle.ospf.specs.Import.{idOf, routerIn, takenTo}
 use Rattle.ospf.specs.Inner.{asListed, routersTaken}
-use Rattle.lsas.proofs.Malformed.{cut, drop-take}
-use Rattle.lsas.proofs.Lsas.{followed}
-use Rattle.lsas.proofs.Walk.{Ahead, at-first, on, Lies}
+use Rattle.ospf_lsas.proofs.Malformed.{cut, drop-take}
+use Rattle.ospf_lsas.proofs.Lsas.{followed}
+use Rattle.ospf_lsas.proofs.Walk.{Ahead, at-first, on, Lies}
 use Rattle.ospf.proofs.Turns.{taken-on, taken-off}
 
 pub none-left : (at : ℕ) (s : List ℕ) → length s ≡ 0 → lsasFrom at 0 s ≡ []

@@ -7,9 +7,9 @@ use mathlib.Core.Path.{_≡_, sym, ap, _∙_}
 use native.Mathlib.Omega.{arith}
 use borrow.Author.Tests.{lt-ltb, le-ltb}
 use lib.ListN.{length}
-use Rattle.records.specs.declared.Reading.{Reading}
-use Rattle.records.specs.Reading.{refusal, accepted}
-use Rattle.lsas.specs.Lsa.{lsas, firstMalformed, firstWrongSum}
+use Rattle.stream_rules.specs.declared.Reading.{Reading}
+use Rattle.stream_rules.specs.Reading.{refusal, accepted}
+use Rattle.ospf_lsas.specs.Lsa.{lsas, firstMalformed, firstWrongSum}
 use Rattle.ospf.specs.Import.{Placed, idOf, routerIn, halvesIn, placedIn, atLast, importing}
 use Rattle.ospf.specs.Imported.{FaultAt}
 use Rattle.ospf.specs.Inner.{asListed, routersTaken, allTaken}

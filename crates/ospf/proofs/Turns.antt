@@ -5,10 +5,10 @@ use mathlib.Core.List.{List, [], _∷_, _++_, append-nil}
 use mathlib.Core.Path.{_≡_, refl, sym, ap, subst, _∙_}
 use native.Mathlib.Omega.{arith}
 use lib.Seq.{append-snoc}
-use Rattle.records.specs.declared.Reading.{Reading}
-use Rattle.records.specs.Halves.{Listing}
-use Rattle.records.specs.Reading.{refusal, fault, added, unless, nothingListed}
-use Rattle.records.proofs.Faults.{unless-fault}
+use Rattle.stream_rules.specs.declared.Reading.{Reading}
+use Rattle.stream_rules.specs.Halves.{Listing}
+use Rattle.stream_rules.specs.Reading.{refusal, fault, added, unless, nothingListed}
+use Rattle.stream_rules.proofs.Faults.{unless-fault}
 use Rattle.ospf.specs.Import.{Placed, takenTo}
 use Rattle.ospf.specs.Imported.{Taken, nothing, one-more, FaultAt}
 

@@ -9,21 +9,21 @@ use native.Mathlib.Decide.{decLt}
 use native.Mathlib.Omega.{arith}
 use lib.Dec.{eqb}
 use lib.ListN.{length, length-map}
-use Rattle.stations.specs.declared.Answer.{Answer}
-use Rattle.stations.specs.Outcome.{answer}
-use Rattle.records.specs.declared.Reading.{Reading}
-use Rattle.records.specs.Halves.{Listing}
-use Rattle.records.specs.Reading.{refusal, accepted, ended, nothingListed}
-use Rattle.records.specs.Theorems.{Bytes, Read, EndFaults}
-use Rattle.records.proofs.Kept.{Good}
-use Rattle.records.proofs.Returned.{read-refusal, ended-reads}
-use Rattle.records.proofs.Verdicts.{faults-each}
-use Rattle.lsas.specs.Lsa.{malformed, wrongSum, Lsa, lsasFrom, lsas, firstAt, firstMalformed, firstWrongSum}
-use Rattle.lsas.specs.Theorems.{Consecutive, end, faulty, next, FirstFault, no-fault, here, later}
+use Rattle.topology_types.specs.declared.Answer.{Answer}
+use Rattle.topology_types.specs.Outcome.{answer}
+use Rattle.stream_rules.specs.declared.Reading.{Reading}
+use Rattle.stream_rules.specs.Halves.{Listing}
+use Rattle.stream_rules.specs.Reading.{refusal, accepted, ended, nothingListed}
+use Rattle.stream_rules.specs.Theorems.{Bytes, Read, EndFaults}
+use Rattle.stream_rules.proofs.Kept.{Good}
+use Rattle.stream_rules.proofs.Returned.{read-refusal, ended-reads}
+use Rattle.stream_rules.proofs.Verdicts.{faults-each}
+use Rattle.ospf_lsas.specs.Lsa.{malformed, wrongSum, Lsa, lsasFrom, lsas, firstAt, firstMalformed, firstWrongSum}
+use Rattle.ospf_lsas.specs.Theorems.{Consecutive, end, faulty, next, FirstFault, no-fault, here, later}
 use Rattle.ospf.specs.Import.{Placed, idOf, halvesIn, placedIn, takenTo, atLast, importing}
 use Rattle.ospf.specs.Imported.{Taken, AllWhole, AllRight, FaultAt, AllTaken, ImportAnswers, ImportReturns, ImportSound}
-use Rattle.lsas.proofs.Lsas.{lsas-consecutive, points-at-first}
-use Rattle.lsas.proofs.Ends.{points-within}
+use Rattle.ospf_lsas.proofs.Lsas.{lsas-consecutive, points-at-first}
+use Rattle.ospf_lsas.proofs.Ends.{points-within}
 use Rattle.ospf.specs.Inner.{allTaken}
 use Rattle.ospf.proofs.Steps.{by-26, by-27, by-turns}
 use Rattle.ospf.proofs.Turns.{all-taken, first-fault, Outcome, done, failed, outcome}

@@ -6,14 +6,14 @@ use mathlib.Core.Bool.{false, cond}
 use mathlib.Core.List.{List, [], _∷_, _++_, map}
 use lib.Dec.{ltb}
 use lib.ListN.{length}
-use Rattle.stations.specs.declared.Half.{Half}
-use Rattle.records.specs.declared.Reading.{Reading}
-use Rattle.records.specs.declared.Record.{Record}
-use Rattle.records.specs.declared.Record.the-variants as record-of
-use Rattle.records.specs.Halves.{Listing}
-use Rattle.records.specs.Reading.{refusal, fault, added, ended, unless, nothingListed}
-use Rattle.lsas.specs.Lsa.{advertisingRouter, links, Lsa, lsas, firstMalformed, firstWrongSum}
-use Rattle.neighbours.specs.Neighbours.{allOf, halvesOf}
+use Rattle.topology_types.specs.declared.Half.{Half}
+use Rattle.stream_rules.specs.declared.Reading.{Reading}
+use Rattle.stream_rules.specs.declared.Record.{Record}
+use Rattle.stream_rules.specs.declared.Record.the-variants as record-of
+use Rattle.stream_rules.specs.Halves.{Listing}
+use Rattle.stream_rules.specs.Reading.{refusal, fault, added, ended, unless, nothingListed}
+use Rattle.ospf_lsas.specs.Lsa.{advertisingRouter, links, Lsa, lsas, firstMalformed, firstWrongSum}
+use Rattle.ospf_halves.specs.Neighbours.{allOf, halvesOf}
 
 -- a router or a half, and the first byte of the LSA that it comes from
 pub record Placed : Type 0 where

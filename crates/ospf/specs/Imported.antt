@@ -6,20 +6,20 @@ use mathlib.Core.List.{List, [], _∷_, _++_, map, List·Memᴰ}
 use mathlib.Core.Logic.{_↔_}
 use mathlib.Core.Path.{_≡_}
 use lib.ListN.{length}
-use Rattle.stations.specs.declared.Half.{Half}
-use Rattle.stations.specs.Outcome.{answer}
-use Rattle.records.specs.declared.Record.the-variants as record-of
-use Rattle.records.specs.Halves.{Listing}
-use Rattle.records.specs.Reading.{fault, added, reading}
-use Rattle.records.specs.Theorems.{Bytes, Read, listedIn}
+use Rattle.topology_types.specs.declared.Half.{Half}
+use Rattle.topology_types.specs.Outcome.{answer}
+use Rattle.stream_rules.specs.declared.Record.the-variants as record-of
+use Rattle.stream_rules.specs.Halves.{Listing}
+use Rattle.stream_rules.specs.Reading.{fault, added, reading}
+use Rattle.stream_rules.specs.Theorems.{Bytes, Read, listedIn}
 use Rattle.topology.specs.Written.{joinedOver, routerBytes, halfBytes}
-use Rattle.lsas.specs.Lsa.{advertisingRouter, links, malformed, wrongSum, Lsa, lsas}
-use Rattle.neighbours.specs.Neighbours.{allOf, halvesOf}
+use Rattle.ospf_lsas.specs.Lsa.{advertisingRouter, links, malformed, wrongSum, Lsa, lsas}
+use Rattle.ospf_halves.specs.Neighbours.{allOf, halvesOf}
 use Rattle.ospf.specs.Import.{Placed, placedIn, importing}
-use Rattle.lsas.specs.Theorems.{four, FirstFault}
+use Rattle.ospf_lsas.specs.Theorems.{four, FirstFault}
 
 -- 02, #106: these routers and halves, taken in turn, list so much, and none has a fault. Before the first nothing is listed, and K is 3. What each adds is the
--- definition `added` of `records`, which `Lists` there spells out for the records of a stream.
+-- definition `added` of `stream_rules`, which `Lists` there spells out for the records of a stream.
 pub data Taken : List Placed → Listing → Type 0 where
   nothing : Taken [] (record { contents = record { ids = []; links = []; limit = 3 }; lone = [] })
   one-more : {rs : List Placed} {p : Listing} (r : Placed) → Taken rs p → fault p (r .found) ≡ 0 → Taken (rs ++ (r ∷ [])) (added p (r .found))
@@ -32,7 +32,7 @@ abbrev pub AllRight : List ℕ → Type 0
 AllRight file = AllWhole file × ((l : Lsa) → List·Memᴰ l (lsas file) → wrongSum (l .bytes) ≡ false)
 
 -- 02, #106: LSA by LSA from a place on, the halves that each gives by its place and the Advertising Routers of the file, in the order of `FirstListed` of
--- `neighbours`; each points at the LSA's first byte
+-- `ospf_halves`; each points at the LSA's first byte
 pub data HalvesInTurn (ids : List ℕ) : ℕ → List Lsa → List Placed → Type 0 where
   no-lsa : {place : ℕ} → HalvesInTurn ids place [] []
   next-lsa : {place : ℕ} {ls : List Lsa} {rs : List Placed} (l : Lsa) → HalvesInTurn ids (place + 1) ls rs →
@@ -65,7 +65,7 @@ pub record AllTaken (file : List ℕ) (p : Listing) : Type 0 where
   pub some-router : 0 < length (p .contents .ids)
 
 -- 02, #106: what each answer means and where it points, if and only if; the tests before it pass. 26 and 27 are of the first such LSA, as `WellFormed` and
--- `RightSum` of `lsas` say; the fault of a router or a half is what `FaultsEach` of `records` says, and points at the LSA's first byte; of the numbers to 10
+-- `RightSum` of `ospf_lsas` say; the fault of a router or a half is what `FaultsEach` of `stream_rules` says, and points at the LSA's first byte; of the numbers to 10
 -- those that are none of `ImportNumbers` are never met. Nothing is asked of paths: files of routers whose parts are apart are imported (02, #107).
 pub record Answers (file : List ℕ) (at : ℕ) : Type 0 where
   pub says-26 : (importing file .answer ≡ answer 26 at) ↔ ((at < length file) × FirstFault malformed (length file) (lsas file) at)

@@ -2,10 +2,10 @@
 -- Assumes nothing.
 use Prim.Native.Nat.{ℕ}
 use mathlib.Core.List.{List, map}
-use Rattle.records.specs.declared.Reading.{Reading}
-use Rattle.records.specs.Halves.{Listing}
-use Rattle.records.specs.Reading.{accepted, nothingListed}
-use Rattle.lsas.specs.Lsa.{lsas}
+use Rattle.stream_rules.specs.declared.Reading.{Reading}
+use Rattle.stream_rules.specs.Halves.{Listing}
+use Rattle.stream_rules.specs.Reading.{accepted, nothingListed}
+use Rattle.ospf_lsas.specs.Lsa.{lsas}
 use Rattle.ospf.specs.Import.{routerIn, placedIn, takenTo, atLast}
 
 -- what is listed, as it is

@@ -10,11 +10,11 @@ ghost use Rattle.ospf.specs.Import.{importing};
 pub fn import(file: &[u8]) -> Reading
     ensures { λ r. ⌜ r ≡ importing (now (file .entry)) ⌝ }
 {
-    let malformed = lsas::unchecked::first_malformed(file);
+    let malformed = ospf_lsas::unchecked::first_malformed(file);
     if malformed < file.len() {
         return refused(26, malformed);
     }
-    let wrong = lsas::unchecked::first_wrong_sum(file);
+    let wrong = ospf_lsas::unchecked::first_wrong_sum(file);
     if wrong < file.len() {
         return refused(27, wrong);
     }

@@ -1,15 +1,15 @@
 // The steps of an import behind the tests 26 and 27 of the whole file (02, #106): the routers, then the halves. They read LSAs that have passed 26.
-use stations::Answer;
-use stations::DEFAULT_NEXT_HOPS;
-use stations::ROUTERS;
-use stations::Topology;
 use stream::Reading;
 use stream::unchecked;
 use stream::unchecked::numbers;
+use topology_types::Answer;
+use topology_types::DEFAULT_NEXT_HOPS;
+use topology_types::ROUTERS;
+use topology_types::Topology;
 ghost use mathlib.Core.Path.{_≡_};
 ghost use Prim.Native.Nat.{_≤_};
 ghost use lib.ListN.{length};
-ghost use Rattle.lsas.specs.Lsa.{firstMalformed};
+ghost use Rattle.ospf_lsas.specs.Lsa.{firstMalformed};
 ghost use Rattle.ospf.specs.Inner.{routersTaken, allTaken};
 
 // The routers, LSA by LSA: refusal 3 or 4, or a topology without links. No LSA is malformed.
@@ -50,7 +50,7 @@ pub fn with_halves(file: &[u8], t: Topology) -> Reading
     while at < file.len() {
         let end = at + numbers::be16(file, at + 18) as usize;
         let n = held.routers;
-        let given = neighbours::unchecked::given(&file[at..end], place, &held.id, n);
+        let given = ospf_halves::unchecked::given(&file[at..end], place, &held.id, n);
         let mut i: usize = 0;
         while i < given.count {
             let h = given.half[i];

@@ -11,15 +11,15 @@ use lib.Dec.{ltb}
 use lib.ListN.{length, take, replicate, length-replicate}
 use lib.Seq.{sets, sets-eq}
 use Rattle.network.specs.Lists.{counted}
-use Rattle.stations.specs.declared.Topology.{Topology}
-use Rattle.stations.specs.Topology.{padded}
-use Rattle.soundness.proofs.Sound.{sound-exact}
+use Rattle.topology_types.specs.declared.Topology.{Topology}
+use Rattle.topology_types.specs.Topology.{padded}
+use Rattle.topology_sound.proofs.Sound.{sound-exact}
 use Rattle.topology.proofs.Joined.{joined-same}
 use Rattle.order.proofs.Runs.{drop-same}
 use Rattle.text.proofs.Stores.{start}
-use Rattle.ways.specs.Calls.{pathsOf, pathBytes, pathsBytes}
-use Rattle.ways.specs.Theorems.{Passed}
-use Rattle.ways.proofs.Right.{paths-exact}
+use Rattle.paths_rules.specs.Calls.{pathsOf, pathBytes, pathsBytes}
+use Rattle.paths_rules.specs.Theorems.{Passed}
+use Rattle.paths_rules.proofs.Right.{paths-exact}
 use Rattle.paths.specs.Inner.{Gathered, Listed}
 
 over-empty : (path : List ℕ) → length path ≤ 64 → sets (replicate 64 255) 0 path ≡ pathBytes path

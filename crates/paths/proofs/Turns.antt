@@ -8,21 +8,21 @@ use native.Mathlib.Omega.{arith}
 use lib.ListN.{length, getD, set}
 use Rattle.network.specs.Lists.{counted}
 use Rattle.network.specs.Row.{rank}
-use Rattle.stations.specs.declared.Place.{Place}
-use Rattle.stations.specs.declared.Topology.{Topology}
-use Rattle.soundness.proofs.Sound.{sound-exact}
+use Rattle.topology_types.specs.declared.Place.{Place}
+use Rattle.topology_types.specs.declared.Topology.{Topology}
+use Rattle.topology_sound.proofs.Sound.{sound-exact}
 use Rattle.topology.specs.Written.{joinedOver}
-use Rattle.rows.specs.Bytes.{rowStart}
+use Rattle.table_rows.specs.Bytes.{rowStart}
 use Rattle.table.specs.Listed.{orderIn}
-use Rattle.packet.specs.Theorems.{rankByte, Lists}
-use Rattle.packet.proofs.Listed.{Over}
-use Rattle.hops.specs.Inner.{RowOf}
-use Rattle.hops.proofs.Bounds as bounds
-use Rattle.ways.specs.Calls.{pathsOf, pathsPast}
-use Rattle.ways.specs.Theorems.{Passed, PathRule}
-use Rattle.ways.proofs.Listed.{o, law, lower}
-use Rattle.ways.proofs.Entries.{turn}
-use Rattle.ways.proofs.Rule.{paths-by-rule}
+use Rattle.forwarding_rules.specs.Theorems.{rankByte, Lists}
+use Rattle.forwarding_rules.proofs.Listed.{Over}
+use Rattle.forwarding_steps.specs.Inner.{RowOf}
+use Rattle.forwarding_steps.proofs.Bounds as bounds
+use Rattle.paths_rules.specs.Calls.{pathsOf, pathsPast}
+use Rattle.paths_rules.specs.Theorems.{Passed, PathRule}
+use Rattle.paths_rules.proofs.Listed.{o, law, lower}
+use Rattle.paths_rules.proofs.Entries.{turn}
+use Rattle.paths_rules.proofs.Rule.{paths-by-rule}
 use Rattle.paths.specs.declared.gathering.Entry.{Entry}
 use Rattle.paths.specs.declared.gathering.Entry.the-variants as entry
 use Rattle.paths.specs.Inner.{Reads, Asked, Gathered}

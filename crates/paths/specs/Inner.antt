@@ -7,14 +7,14 @@ use lib.ListN.{length, getD}
 use lib.Seq.{sets}
 use Rattle.network.specs.Lists.{counted}
 use Rattle.network.specs.Row.{rank}
-use Rattle.stations.specs.declared.Topology.{Topology}
-use Rattle.stations.specs.Limits.{mostRouters}
+use Rattle.topology_types.specs.declared.Topology.{Topology}
+use Rattle.topology_types.specs.Limits.{mostRouters}
 use Rattle.topology.specs.Written.{joinedOver}
 use Rattle.table.specs.Listed.{orderIn}
-use Rattle.packet.specs.Theorems.{Lists}
+use Rattle.forwarding_rules.specs.Theorems.{Lists}
 use Rattle.text.specs.Lines.{Put}
-use Rattle.ways.specs.Calls.{mostPaths, pathsOf, pathsBytes}
-use Rattle.ways.specs.Theorems.{Passed}
+use Rattle.paths_rules.specs.Calls.{mostPaths, pathsOf, pathsBytes}
+use Rattle.paths_rules.specs.Theorems.{Passed}
 use Rattle.paths.specs.declared.gathering.Entry.{Entry}
 use Rattle.paths.specs.declared.gathering.Entry.the-variants as entry
 

@@ -1,19 +1,19 @@
 // Every path from a station, gathered one behind the other: each is put over the route by which the station was reached, 64 bytes, 255 where no place is.
 use super::PATH;
 use super::PATHS;
-use rows::FRONT;
-use rows::HEADER;
-use rows::ROW;
-use stations::Place;
+use table_rows::FRONT;
+use table_rows::HEADER;
+use table_rows::ROW;
 use text::unchecked::lines;
+use topology_types::Place;
 ghost use mathlib.Core.List.{[], _∷_};
 ghost use Prim.Native.Nat.{_+_, _≤_};
 ghost use lib.ListN.{length};
-ghost use Rattle.stations.specs.declared.Topology.{Topology};
-ghost use Rattle.stations.specs.Limits.{mostRouters};
-ghost use Rattle.hops.specs.Inner.{RowOf};
-ghost use Rattle.ways.specs.Calls.{mostPaths, pathsOf, pathsPast};
-ghost use Rattle.ways.specs.Theorems.{Passed};
+ghost use Rattle.topology_types.specs.declared.Topology.{Topology};
+ghost use Rattle.topology_types.specs.Limits.{mostRouters};
+ghost use Rattle.forwarding_steps.specs.Inner.{RowOf};
+ghost use Rattle.paths_rules.specs.Calls.{mostPaths, pathsOf, pathsPast};
+ghost use Rattle.paths_rules.specs.Theorems.{Passed};
 ghost use Rattle.paths.specs.Inner.{mostBytes, Reads, Asked, Gathered};
 
 // An entry of a row, unless the row has fewer.

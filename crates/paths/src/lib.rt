@@ -1,14 +1,14 @@
 // Every path from a start to the destination of a table (02, 103).
-use stations::Answer;
-use stations::Place;
-use stations::ROUTERS;
-use stations::Topology;
+use topology_types::Answer;
+use topology_types::Place;
+use topology_types::ROUTERS;
+use topology_types::Topology;
 
 mod gathering;
 pub mod unchecked;
 
 ghost use mathlib.Core.Path.{_≡_};
-ghost use Rattle.ways.specs.Calls.{writingPaths};
+ghost use Rattle.paths_rules.specs.Calls.{writingPaths};
 
 // 02, 103: up to 512 paths, a path 64 bytes. The definitions have the same numbers: where one differs, a proof fails.
 pub const PATHS: usize = 512;
@@ -19,7 +19,7 @@ pub const PATH: usize = ROUTERS;
 pub fn write(t: Topology, table: &[u8], start: Place, out: &mut [u8]) -> Answer
     ensures { λ r. ⌜ record { answer = r; buffer = now (out .exit) } ≡ writingPaths t (now (table .entry)) (start .0) (now (out .entry)) ⌝ }
 {
-    if !soundness::is_sound(t) {
+    if !topology_sound::is_sound(t) {
         return Answer { number: 14, at: 0 };
     }
     let u = start.index();

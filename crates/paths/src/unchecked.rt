@@ -2,12 +2,12 @@
 use super::PATH;
 use super::PATHS;
 use super::gathering;
-use stations::Place;
-use stations::Topology;
+use topology_types::Place;
+use topology_types::Topology;
 ghost use mathlib.Core.Path.{_≡_};
 ghost use Prim.Native.Nat.{_≤_};
 ghost use lib.ListN.{length};
-ghost use Rattle.ways.specs.Theorems.{Passed};
+ghost use Rattle.paths_rules.specs.Theorems.{Passed};
 ghost use Rattle.paths.specs.Inner.{mostBytes, Listed};
 
 // An array comes out of a function, so that a proof that lends it knows it by what the function ensures and not by all its elements.

@@ -1,22 +1,22 @@
 // The listing (01, Two networks by hand): a line for each router, one destination at a time; and the coverage figures (02, #102).
-use stations::Answer;
-use stations::Place;
-use stations::ROUTERS;
-use stations::Topology;
+use topology_types::Answer;
+use topology_types::Place;
+use topology_types::ROUTERS;
+use topology_types::Topology;
 
 mod printing;
 pub mod unchecked;
 
-pub use figures::Coverage;
+pub use coverage_rules::Coverage;
 ghost use mathlib.Core.Path.{_≡_};
-ghost use Rattle.figures.specs.Coverage as «said-coverage»;
-ghost use Rattle.wording.specs.Listing as said;
+ghost use Rattle.coverage_rules.specs.Coverage as «said-coverage»;
+ghost use Rattle.listing_rules.specs.Listing as said;
 
 // The lines of a destination, in shortest-path mode: refusals 14, 15 and 24.
 pub fn listing(t: Topology, destination: Place, out: &mut [u8]) -> Answer
     ensures { λ r. ⌜ record { answer = r; buffer = now (out .exit) } ≡ said.listing t (destination .0) (now (out .entry)) ⌝ }
 {
-    if !soundness::is_sound(t) {
+    if !topology_sound::is_sound(t) {
         return Answer { number: 14, at: 0 };
     }
     let d = destination.index();
@@ -42,7 +42,7 @@ pub fn listing(t: Topology, destination: Place, out: &mut [u8]) -> Answer
 pub fn coverage(t: Topology) -> Coverage
     ensures { λ r. ⌜ r ≡ «said-coverage».coverage t ⌝ }
 {
-    if !soundness::is_sound(t) {
+    if !topology_sound::is_sound(t) {
         return Coverage {
             answer: Answer { number: 14, at: 0 },
             covered: 0,
@@ -52,5 +52,5 @@ pub fn coverage(t: Topology) -> Coverage
             listed: [0; ROUTERS],
         };
     }
-    counting::unchecked::coverage(t, arcs::unchecked::of(t))
+    coverage_counts::unchecked::coverage(t, arcs::unchecked::of(t))
 }

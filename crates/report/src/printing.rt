@@ -2,20 +2,20 @@
 use super::unchecked::fields::put_byte_field;
 use super::unchecked::fields::put_field;
 use super::unchecked::fields::put_fields;
-use rows::ENTRIES;
-use rows::FRONT;
-use rows::HEADER;
-use rows::ROW;
-use rows::TABLE;
-use stations::ROUTERS;
+use listing_rules::Front;
+use table_rows::ENTRIES;
+use table_rows::FRONT;
+use table_rows::HEADER;
+use table_rows::ROW;
+use table_rows::TABLE;
 use text::unchecked::lines;
-use wording::Front;
+use topology_types::ROUTERS;
 ghost use mathlib.Core.Path.{_≡_};
 ghost use Prim.Native.Nat.{_+_, _*_, _≤_, _<_};
 ghost use lib.ListN.{length};
-ghost use Rattle.stations.specs.Limits.{mostRouters};
+ghost use Rattle.topology_types.specs.Limits.{mostRouters};
 ghost use Rattle.text.specs.Lines.{Put};
-ghost use Rattle.wording.specs.Inner.{mostLine, mostLines, rowText, frontText, lineOf, Row, Small, Listable, tableText};
+ghost use Rattle.listing_rules.specs.Inner.{mostLine, mostLines, rowText, frontText, lineOf, Row, Small, Listable, tableText};
 
 // Room for a line, and for the lines of a destination.
 const LINE: usize = 14 + 3 * ENTRIES;

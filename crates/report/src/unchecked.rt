@@ -4,18 +4,18 @@ pub mod fields;
 use super::printing;
 use arcs::Arcs;
 use order::Mode;
-use rows::HEADER;
-use rows::ROW;
-use stations::Place;
-use stations::Topology;
+use table_rows::HEADER;
+use table_rows::ROW;
+use topology_types::Place;
+use topology_types::Topology;
 ghost use Prim.Native.Nat.{_+_, _*_, _≤_, _<_};
 ghost use lib.Dec.{T};
 ghost use lib.ListN.{length};
-ghost use Rattle.soundness.specs.Sound.{sound};
+ghost use Rattle.topology_sound.specs.Sound.{sound};
 ghost use Rattle.arcs.specs.Arcs.{Laid};
 ghost use Rattle.text.specs.Lines.{Put};
-ghost use Rattle.wording.specs.Listing.{linesFor, allLines};
-ghost use Rattle.wording.specs.Inner.{mostLines};
+ghost use Rattle.listing_rules.specs.Listing.{linesFor, allLines};
+ghost use Rattle.listing_rules.specs.Inner.{mostLines};
 
 // The lines of a destination, from an offset of the slice on; answers the offset after them.
 pub fn put_lines(t: Topology, a: Arcs, destination: Place, out: &mut [u8], at: usize) -> usize

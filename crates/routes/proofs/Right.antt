@@ -1,10 +1,10 @@
 -- The output is the program's by the reading's number; a reading with number 0 has a sound topology, of which the lines are right.
 -- Assumes nothing.
 use mathlib.Core.Path.{_∙_}
-use Rattle.records.proofs.Returned.{reads-sound}
-use Rattle.programs.proofs.Right.{all-print}
-use Rattle.tracing.specs.Lines.{allPaths}
-use Rattle.tracing.proofs.Right.{lines-right, all-in-turn}
+use Rattle.stream_rules.proofs.Returned.{reads-sound}
+use Rattle.program_io.proofs.Right.{all-print}
+use Rattle.paths_lines.specs.Lines.{allPaths}
+use Rattle.paths_lines.proofs.Right.{lines-right, all-in-turn}
 use Rattle.routes.specs.Output.{output}
 use Rattle.routes.specs.Theorems.{PrintsRight}
 

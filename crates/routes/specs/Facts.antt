@@ -5,8 +5,8 @@ use mathlib.Core.Bool.{Bool}
 use mathlib.Core.List.{List, [], _∷_, _++_}
 use lib.Dec.{T}
 use Rattle.network.specs.Lists.{every, sameNumbers}
-use Rattle.records.specs.Table.{routers, T-stream}
-use Rattle.tracing.specs.Facts.{T-0, T-1, T-2, lone-0}
+use Rattle.stream_rules.specs.Table.{routers, T-stream}
+use Rattle.paths_lines.specs.Facts.{T-0, T-1, T-2, lone-0}
 use Rattle.routes.specs.Output.{output}
 
 -- a stream, and what is printed for it

@@ -2,8 +2,8 @@
 -- Assumes nothing.
 use Prim.Native.Nat.{ℕ}
 use mathlib.Core.List.{List}
-use Rattle.programs.specs.Output.{outputBy}
-use Rattle.tracing.specs.Lines.{allPaths}
+use Rattle.program_io.specs.Output.{outputBy}
+use Rattle.paths_lines.specs.Lines.{allPaths}
 
 -- the whole output: the lines of every path; a refused stream prints the listing's line
 unfoldable pub output : List ℕ → List ℕ

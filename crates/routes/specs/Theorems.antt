@@ -5,12 +5,12 @@ use mathlib.Core.List.{List, [], _∷_, _++_}
 use mathlib.Core.Logic.{_≢_}
 use mathlib.Core.Path.{_≡_}
 use Rattle.network.specs.Lists.{below}
-use Rattle.records.specs.Reading.{reading}
-use Rattle.records.specs.Theorems.{Bytes}
+use Rattle.stream_rules.specs.Reading.{reading}
+use Rattle.stream_rules.specs.Theorems.{Bytes}
 use Rattle.topology.specs.Written.{joinedOver}
 use Rattle.text.specs.Numbers.{numberText}
-use Rattle.tracing.specs.Lines.{linesFrom}
-use Rattle.tracing.specs.Theorems.{Lines}
+use Rattle.paths_lines.specs.Lines.{linesFrom}
+use Rattle.paths_lines.specs.Theorems.{Lines}
 use Rattle.routes.specs.Output.{output}
 
 -- 02, 103: a refused stream prints the listing's line: `refused`, number, at; any other the lines of every destination, and within it of every start, by

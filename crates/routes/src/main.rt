@@ -4,18 +4,18 @@
 use arcs::Arcs;
 use libc::STDOUT_FILENO;
 use order::Mode;
-use rows::HEADER;
-use rows::ROW;
-use rows::TABLE;
+use table_rows::HEADER;
+use table_rows::ROW;
+use table_rows::TABLE;
 use topology::Place;
 use topology::Topology;
 ghost use mathlib.Core.Path.{_≡_};
 ghost use Prim.Native.Nat.{_≤_, _<_};
 ghost use lib.Dec.{T};
 ghost use lib.ListN.{length};
-ghost use Rattle.soundness.specs.Sound.{sound};
+ghost use Rattle.topology_sound.specs.Sound.{sound};
 ghost use Rattle.arcs.specs.Arcs.{Laid};
-ghost use Rattle.tracing.specs.Inner.{mostLines};
+ghost use Rattle.paths_lines.specs.Inner.{mostLines};
 
 // An array that comes out of a function is known by what the function ensures.
 fn room() -> [u8; TABLE]
@@ -33,7 +33,7 @@ fn write_to(t: Topology, a: Arcs, destination: Place, out: &mut [u8]) -> bool
     table::unchecked::build(t, a, destination, Mode::ShortestPath, &mut table);
     let mut u: usize = 0;
     while u < t.routers {
-        let end = tracing::unchecked::put_lines(
+        let end = paths_lines::unchecked::put_lines(
             t,
             &table[..length],
             destination,
@@ -68,7 +68,7 @@ fn write_for(stream: &[u8], out: &mut [u8])
     let reading = topology::read(stream);
     let answer = reading.answer;
     if answer.number != 0 {
-        let end = programs::unchecked::put_refused(out, answer);
+        let end = program_io::unchecked::put_refused(out, answer);
         io::write_all(STDOUT_FILENO, &out[..end]);
         return;
     }
@@ -80,8 +80,8 @@ fn write_for(stream: &[u8], out: &mut [u8])
 // which `put_lines` makes, go to standard output once, by place, until that fails, and that of a refused stream only its line does, is read here, in
 // `write_for` and in the two loops, and tried by examples/edges.
 fn main() {
-    let mut input = programs::room_for_input();
-    let n = programs::read_input(&mut input);
-    let mut out = tracing::unchecked::room_for_lines();
+    let mut input = program_io::room_for_input();
+    let n = program_io::read_input(&mut input);
+    let mut out = paths_lines::unchecked::room_for_lines();
     write_for(&input[..n], &mut out);
 }

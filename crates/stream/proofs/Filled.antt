@@ -11,21 +11,21 @@ use borrow.Author.Tests.{eq-eqb, ne-eqb}
 use lib.ListN.{length, getD, set, take, replicate}
 use lib.Seq.{getD-set-other}
 use Rattle.network.specs.Lists.{any}
-use Rattle.stations.specs.declared.Half.{Half}
-use Rattle.stations.specs.declared.Link.{Link}
-use Rattle.stations.specs.declared.Topology.{Topology}
-use Rattle.stations.specs.Topology.{contents, held}
-use Rattle.records.specs.declared.Record.the-variants as record-of
-use Rattle.records.specs.Halves.{Listing, linkHalves, halves, sameHalf, opposite, linkOf}
-use Rattle.records.specs.Reading.{repeated, crowded, fault, withRouter, withLink, withLimit, arrived, added, nothingListed}
-use Rattle.records.specs.Inner.{Listed, Indexed}
-use Rattle.records.proofs.Held.{contents-held, padded-length, with-router, with-link, with-limit, router-added, link-added, limit-added}
-use Rattle.records.proofs.NoFault.{NewHalves, router-passes, halves-pass, one-fails, both-fail}
-use Rattle.records.proofs.Halves.{one, length-total, length-keep, total-split, halves-total, adds-last, adds-link}
-use Rattle.records.proofs.Opposite.{opposites, opposite-cost, Partner, none, some, partner, adds-half}
-use Rattle.records.proofs.GoodHalves.{half-sound, links-many, same-none}
-use Rattle.records.proofs.Kept.{Good, good-nothing, good-listed, kept, fresh-none, few-leave}
-use Rattle.records.proofs.Tables.{Tabled, Tallied, tabled-none, tallied-none, cost-tells, tabled-more, tallied-more}
+use Rattle.topology_types.specs.declared.Half.{Half}
+use Rattle.topology_types.specs.declared.Link.{Link}
+use Rattle.topology_types.specs.declared.Topology.{Topology}
+use Rattle.topology_types.specs.Topology.{contents, held}
+use Rattle.stream_rules.specs.declared.Record.the-variants as record-of
+use Rattle.stream_rules.specs.Halves.{Listing, linkHalves, halves, sameHalf, opposite, linkOf}
+use Rattle.stream_rules.specs.Reading.{repeated, crowded, fault, withRouter, withLink, withLimit, arrived, added, nothingListed}
+use Rattle.stream_rules.specs.Inner.{Listed, Indexed}
+use Rattle.stream_rules.proofs.Held.{contents-held, padded-length, with-router, with-link, with-limit, router-added, link-added, limit-added}
+use Rattle.stream_rules.proofs.NoFault.{NewHalves, router-passes, halves-pass, one-fails, both-fail}
+use Rattle.stream_rules.proofs.Halves.{one, length-total, length-keep, total-split, halves-total, adds-last, adds-link}
+use Rattle.stream_rules.proofs.Opposite.{opposites, opposite-cost, Partner, none, some, partner, adds-half}
+use Rattle.stream_rules.proofs.GoodHalves.{half-sound, links-many, same-none}
+use Rattle.stream_rules.proofs.Kept.{Good, good-nothing, good-listed, kept, fresh-none, few-leave}
+use Rattle.stream_rules.proofs.Tables.{Tabled, Tallied, tabled-none, tallied-none, cost-tells, tabled-more, tallied-more}
 use Rattle.stream.specs.Inner.{Roomy, oppositeCost, paired}
 
 pub record Filled (p : Listing) (t : Topology) (costs leaving : List ℕ) (m : ℕ) : Type 0 where

@@ -7,12 +7,12 @@ use native.Mathlib.Nat.{add-zero}
 use native.Mathlib.Omega.{arith}
 use denote.Ref.{now}
 use lib.ListN.{drop}
-use Rattle.records.specs.declared.Record.{Record}
-use Rattle.records.specs.declared.Record.the-variants as record-of
-use Rattle.records.specs.Stream.{recordIn, records, bodyLength}
-use Rattle.records.specs.Reading.{width}
-use Rattle.records.proofs.Stream.{cut}
-use Rattle.records.proofs.InTurn.{next-router, next-link, next-half, next-limit, next-unknown, next-end}
+use Rattle.stream_rules.specs.declared.Record.{Record}
+use Rattle.stream_rules.specs.declared.Record.the-variants as record-of
+use Rattle.stream_rules.specs.Stream.{recordIn, records, bodyLength}
+use Rattle.stream_rules.specs.Reading.{width}
+use Rattle.stream_rules.proofs.Stream.{cut}
+use Rattle.stream_rules.proofs.InTurn.{next-router, next-link, next-half, next-limit, next-unknown, next-end}
 use Rattle.stream.specs.declared.reader.Reader.{Reader}
 use Rattle.stream.specs.Reader.{taken, next}
 use Rattle.stream.specs.Readers.{moves, stays, ReaderTakes}

@@ -6,14 +6,14 @@ use mathlib.Core.List.{List, Memᴰ·append-right}
 use mathlib.Core.Path.{_≡_}
 use native.Mathlib.Omega.{arith}
 use lib.ListN.{length, take, drop, replicate, take-append-drop}
-use Rattle.stations.specs.declared.Topology.{Topology}
-use Rattle.stations.specs.Topology.{held}
-use Rattle.records.specs.declared.Record.{Record}
-use Rattle.records.specs.Halves.{Listing}
-use Rattle.records.specs.Stream.{recordIn}
-use Rattle.records.specs.Reading.{fault, added, width, isEnd, nothingListed}
-use Rattle.records.specs.Theorems.{Bytes}
-use Rattle.records.proofs.Fitting.{Fitting, record-fits}
+use Rattle.topology_types.specs.declared.Topology.{Topology}
+use Rattle.topology_types.specs.Topology.{held}
+use Rattle.stream_rules.specs.declared.Record.{Record}
+use Rattle.stream_rules.specs.Halves.{Listing}
+use Rattle.stream_rules.specs.Stream.{recordIn}
+use Rattle.stream_rules.specs.Reading.{fault, added, width, isEnd, nothingListed}
+use Rattle.stream_rules.specs.Theorems.{Bytes}
+use Rattle.stream_rules.proofs.Fitting.{Fitting, record-fits}
 use Rattle.stream.proofs.AtTurn.{Turn, turn-first, turn-taken}
 use Rattle.stream.proofs.Filled.{Filled, filled-first}
 

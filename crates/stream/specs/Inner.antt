@@ -5,9 +5,9 @@ use mathlib.Core.Bool.{cond}
 use mathlib.Core.List.{List}
 use lib.Dec.{eqb}
 use lib.ListN.{getD, set}
-use Rattle.stations.specs.declared.Half.{Half}
-use Rattle.stations.specs.declared.Topology.{Topology}
-use Rattle.stations.specs.Limits.{mostRouters, mostNeighbours}
+use Rattle.topology_types.specs.declared.Half.{Half}
+use Rattle.topology_types.specs.declared.Topology.{Topology}
+use Rattle.topology_types.specs.Limits.{mostRouters, mostNeighbours}
 
 -- two places, and room for a half more that leaves the first
 pub record Roomy (leaving : List ℕ) (u v : ℕ) : Type 0 where

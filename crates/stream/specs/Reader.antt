@@ -4,9 +4,9 @@ use Prim.Native.Nat.{ℕ, _+_}
 use mathlib.Core.List.{List}
 use denote.Ref.{now}
 use lib.ListN.{drop}
-use Rattle.records.specs.declared.Record.{Record}
-use Rattle.records.specs.Stream.{recordIn}
-use Rattle.records.specs.Reading.{width}
+use Rattle.stream_rules.specs.declared.Record.{Record}
+use Rattle.stream_rules.specs.Stream.{recordIn}
+use Rattle.stream_rules.specs.Reading.{width}
 use Rattle.stream.specs.declared.reader.Reader.{Reader}
 use Rattle.stream.specs.declared.bytes.Taken.{Taken}
 

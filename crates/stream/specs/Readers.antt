@@ -7,9 +7,9 @@ use mathlib.Core.Logic.{_≢_}
 use mathlib.Core.Path.{_≡_}
 use denote.Ref.{now}
 use lib.ListN.{length, drop}
-use Rattle.records.specs.declared.Record.{Record}
-use Rattle.records.specs.declared.Record.the-variants as record-of
-use Rattle.records.specs.Theorems.{fourBytes, twoBytes, halfOf}
+use Rattle.stream_rules.specs.declared.Record.{Record}
+use Rattle.stream_rules.specs.declared.Record.the-variants as record-of
+use Rattle.stream_rules.specs.Theorems.{fourBytes, twoBytes, halfOf}
 use Rattle.stream.specs.declared.reader.Reader.{Reader}
 use Rattle.stream.specs.Reader.{Next, next}
 

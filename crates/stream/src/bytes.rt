@@ -2,12 +2,12 @@
 use super::Record;
 use super::taking;
 use super::unchecked::numbers;
-use stations::Half;
-use stations::Place;
+use topology_types::Half;
+use topology_types::Place;
 ghost use mathlib.Core.Path.{_≡_};
 ghost use Prim.Native.Nat.{_+_, _≤_, _<_};
 ghost use lib.ListN.{length, take, drop};
-ghost use Rattle.records.specs.Stream.{halfIn, recordIn};
+ghost use Rattle.stream_rules.specs.Stream.{halfIn, recordIn};
 ghost use Rattle.stream.specs.Reader.{taken};
 
 // A record, and the offset past it.

@@ -2,19 +2,19 @@
 use super::Reading;
 use super::Record;
 use super::unchecked;
-use stations::Answer;
-use stations::NEXT_HOPS;
-use stations::ROUTERS;
-use stations::Topology;
+use topology_types::Answer;
+use topology_types::NEXT_HOPS;
+use topology_types::ROUTERS;
+use topology_types::Topology;
 ghost use mathlib.Core.Bool.{cond};
 ghost use mathlib.Core.Path.{_≡_};
 ghost use Prim.Native.Nat.{_+_, _*_, _≤_};
 ghost use lib.ListN.{length, take, getD, set};
-ghost use Rattle.stations.specs.Limits.{mostRouters, mostHalves, mostNextHops};
-ghost use Rattle.soundness.specs.Sound.{within};
-ghost use Rattle.records.specs.Halves.{Listing};
-ghost use Rattle.records.specs.Reading.{fault, width};
-ghost use Rattle.records.specs.Inner.{Indexed};
+ghost use Rattle.topology_types.specs.Limits.{mostRouters, mostHalves, mostNextHops};
+ghost use Rattle.topology_sound.specs.Sound.{within};
+ghost use Rattle.stream_rules.specs.Halves.{Listing};
+ghost use Rattle.stream_rules.specs.Reading.{fault, width};
+ghost use Rattle.stream_rules.specs.Inner.{Indexed};
 ghost use Rattle.stream.specs.Inner.{Roomy};
 
 pub(crate) fn taken(t: Topology) -> Reading

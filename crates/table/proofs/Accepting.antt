@@ -20,15 +20,15 @@ use Rattle.network.proofs.Below.{mem-below, below-lt}
 use Rattle.network.proofs.Lists.{every-all, all-every}
 use Rattle.network.proofs.Order.{order-fits, acceptance-exact}
 use Rattle.network.proofs.Tests.{both, and, three, and-three, eq-test}
-use Rattle.stations.specs.declared.Topology.{Topology}
-use Rattle.stations.specs.Limits.{mostNextHops}
-use Rattle.stations.specs.Topology.{padded, networkOf}
-use Rattle.soundness.specs.Sound.{sound, within}
-use Rattle.soundness.specs.Theorems.{SoundNetwork}
-use Rattle.soundness.proofs.Sound.{sound-exact, sound-networks}
+use Rattle.topology_types.specs.declared.Topology.{Topology}
+use Rattle.topology_types.specs.Limits.{mostNextHops}
+use Rattle.topology_types.specs.Topology.{padded, networkOf}
+use Rattle.topology_sound.specs.Sound.{sound, within}
+use Rattle.topology_sound.specs.Theorems.{SoundNetwork}
+use Rattle.topology_sound.proofs.Sound.{sound-exact, sound-networks}
 use Rattle.order.specs.Calls.{orderBytes}
 use Rattle.order.proofs.Ranges.{keep-none, none-passes, keep-first, first-passes}
-use Rattle.rows.specs.Bytes.{rankOrNone, rowStart}
+use Rattle.table_rows.specs.Bytes.{rankOrNone, rowStart}
 use Rattle.table.specs.Listed.{kindIn, destinationIn, countIn, limitIn, rankIn, byRank, orderIn, inShortestPathMode}
 use Rattle.table.specs.Calls.{soundHeader, soundRanks, differing}
 use Rattle.table.specs.Theorems.{SoundStart, RanksOrdered, RanksInBytes}

@@ -14,10 +14,10 @@ use Rattle.network.specs.Network.{Arc, Network, size}
 use Rattle.network.specs.Distance.{distances}
 use Rattle.network.specs.Row.{fullRow, row}
 use Rattle.network.proofs.Below.{length-below}
-use Rattle.stations.specs.Topology.{padded}
-use Rattle.soundness.proofs.Stores.{getD-number}
+use Rattle.topology_types.specs.Topology.{padded}
+use Rattle.topology_sound.proofs.Stores.{getD-number}
 use Rattle.topology.specs.Written.{joinedOver}
-use Rattle.rows.specs.Bytes.{rankOrNone, rowBytes, headerBytes, rowOf, rowsBytes, tableBytes}
+use Rattle.table_rows.specs.Bytes.{rankOrNone, rowBytes, headerBytes, rowOf, rowsBytes, tableBytes}
 use Rattle.table.specs.Theorems.{RowAt, TableIs, BytesExact}
 use Rattle.table.proofs.Ordered.{as-byte}
 

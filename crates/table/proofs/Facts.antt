@@ -6,14 +6,14 @@ use Rattle.network.specs.Distance as of-distance
 use Rattle.network.specs.Distance.{absent, distanceIn, through, round, rounds, distances}
 use Rattle.network.specs.Order.{reached, leadsInto, shortestNextHops, ready, candidate, candidatesInTurn, holdsEachOnce, firstIs, othersInTurn, accepted}
 use Rattle.network.specs.Row.{rank, sortsBefore, rankedBefore, fullRow, row}
-use Rattle.stations.specs.Inner.{firstOr}
-use Rattle.stations.specs.Outcome.{turnedAway, given}
-use Rattle.stations.specs.Topology.{noLink, padded, contents, held, zeros, seen, networkIn, networkOf}
-use Rattle.soundness.specs.Sound.{within, inLimits, wellLinked, uncrowded, isNoLink, unusedZero, slotted, sound}
+use Rattle.topology_types.specs.Inner.{firstOr}
+use Rattle.topology_types.specs.Outcome.{turnedAway, given}
+use Rattle.topology_types.specs.Topology.{noLink, padded, contents, held, zeros, seen, networkIn, networkOf}
+use Rattle.topology_sound.specs.Sound.{within, inLimits, wellLinked, uncrowded, isNoLink, unusedZero, slotted, sound}
 use Rattle.topology.specs.Written.{joinedOver}
 use Rattle.order.specs.Calls.{modeOf, reachedCount, wrongRanks, ranksAfter, unreadyRanks, atFirst, judging, checking}
 use Rattle.order.specs.Table.{answers, link, twoCosts, T-topology, cutOff, twoParts}
-use Rattle.rows.specs.Bytes.{rankOrNone, rowBytes, headerBytes, rowOf, rowsBytes, tableBytes, rowStart}
+use Rattle.table_rows.specs.Bytes.{rankOrNone, rowBytes, headerBytes, rowOf, rowsBytes, tableBytes, rowStart}
 use Rattle.table.specs.Listed.{kindIn, destinationIn, countIn, limitIn, rankIn, byRank, orderIn, inShortestPathMode}
 use Rattle.table.specs.Calls.{unlessRefused, filling, soundHeader, soundRanks, differing, wrongBytes, tableJudging, tableChecking}
 use Rattle.table.specs.Facts.{holds, lone, slope, F-links, F-topology, F-falling, none, one, two, room}

@@ -11,18 +11,18 @@ use lib.ListN.{length, take}
 use lib.Seq.{drop-length}
 use Rattle.network.specs.Order.{free}
 use Rattle.network.specs.Theorems.Order.{Accepted}
-use Rattle.stations.specs.declared.Topology.{Topology}
-use Rattle.stations.specs.Outcome.{answer, turnedAway, given}
-use Rattle.stations.specs.Topology.{padded, contents, networkIn, networkOf}
-use Rattle.stations.proofs.Given.{given-exact}
-use Rattle.soundness.specs.Sound.{sound}
-use Rattle.soundness.proofs.Sound.{sound-exact}
-use Rattle.placing.specs.declared.Mode.the-variants as mode
+use Rattle.topology_types.specs.declared.Topology.{Topology}
+use Rattle.topology_types.specs.Outcome.{answer, turnedAway, given}
+use Rattle.topology_types.specs.Topology.{padded, contents, networkIn, networkOf}
+use Rattle.topology_types.proofs.Given.{given-exact}
+use Rattle.topology_sound.specs.Sound.{sound}
+use Rattle.topology_sound.proofs.Sound.{sound-exact}
+use Rattle.order_standings.specs.declared.Mode.the-variants as mode
 use Rattle.order.specs.Calls.{modeOf, reachedCount, orderBytes, checking}
 use Rattle.order.specs.Theorems.{upToN}
 use Rattle.order.proofs.Orders.{part-is, checks}
 use Rattle.order.proofs.Verdicts.{checks-each}
-use Rattle.rows.specs.Bytes.{tableBytes}
+use Rattle.table_rows.specs.Bytes.{tableBytes}
 use Rattle.table.specs.Calls.{unlessRefused, filling}
 use Rattle.table.specs.Theorems.{FillsWell, FillRefuses, TableIs, GivenBy, withLimit, GivenIsFilled}
 use Rattle.table.proofs.Bytes.{bytes-exact}

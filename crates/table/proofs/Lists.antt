@@ -23,10 +23,10 @@ use Rattle.network.proofs.Order.{acceptance-exact}
 use Rattle.network.proofs.Pigeon.{member?}
 use Rattle.network.proofs.Rank.{rank-most, rank-in, rank-is-turn}
 use Rattle.network.proofs.Row.{full-row-exact}
-use Rattle.stations.specs.Topology.{networkOf}
-use Rattle.soundness.proofs.Sound.{sound-networks}
+use Rattle.topology_types.specs.Topology.{networkOf}
+use Rattle.topology_sound.proofs.Sound.{sound-networks}
 use Rattle.topology.specs.Written.{joinedOver}
-use Rattle.rows.specs.Bytes.{rowStart}
+use Rattle.table_rows.specs.Bytes.{rowStart}
 use Rattle.table.specs.Listed.{destinationIn, rankIn, placesIn, arcsTo, entriesIn, listed, forwardingBy, orderIn}
 use Rattle.table.specs.Theorems.{TableIs, TablesList, RowsByPath, AcceptedList, TablesCarry}
 use Rattle.table.proofs.Bytes.{row-few}

@@ -17,16 +17,16 @@ use Rattle.network.proofs.Below.{getD-below, length-map-below}
 use Rattle.network.proofs.Lists.{pairwise-split}
 use Rattle.network.proofs.Pigeon.{member?}
 use Rattle.network.proofs.Rank.{rank-in, rank-is-turn}
-use Rattle.stations.specs.Inner.{firstOr}
-use Rattle.stations.specs.Topology.{padded}
+use Rattle.topology_types.specs.Inner.{firstOr}
+use Rattle.topology_types.specs.Topology.{padded}
 use Rattle.order.specs.Calls.{orderBytes}
-use Rattle.placing.proofs.Counts.{keep-append}
+use Rattle.order_standings.proofs.Counts.{keep-append}
 use Rattle.order.proofs.First.{first-below, none-below}
 use Rattle.order.proofs.After.{past-part}
 use Rattle.order.proofs.Reached.{bytes-long}
 use Rattle.order.proofs.Ranges.{getD-mem, mem-getD}
-use Rattle.rows.specs.Bytes.{rankOrNone}
-use Rattle.rows.proofs.RankBytes.{rank-byte-held, rank-byte-none}
+use Rattle.table_rows.specs.Bytes.{rankOrNone}
+use Rattle.table_rows.proofs.RankBytes.{rank-byte-held, rank-byte-none}
 use Rattle.table.specs.Listed.{rankIn, byRank}
 use Rattle.table.specs.Theorems.{RankAt}
 

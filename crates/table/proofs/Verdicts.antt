@@ -13,14 +13,14 @@ use lib.Dec.{T}
 use lib.ListN.{length, getD}
 use Rattle.network.specs.Network.{size}
 use Rattle.network.proofs.Tests.{truth, as-true, as-false}
-use Rattle.stations.specs.declared.Answer.{Answer}
-use Rattle.stations.specs.declared.Topology.{Topology}
-use Rattle.stations.specs.Topology.{networkOf}
-use Rattle.stations.specs.Outcome.{answer}
-use Rattle.soundness.specs.Sound.{sound}
-use Rattle.soundness.proofs.Sound.{sound-networks}
+use Rattle.topology_types.specs.declared.Answer.{Answer}
+use Rattle.topology_types.specs.declared.Topology.{Topology}
+use Rattle.topology_types.specs.Topology.{networkOf}
+use Rattle.topology_types.specs.Outcome.{answer}
+use Rattle.topology_sound.specs.Sound.{sound}
+use Rattle.topology_sound.proofs.Sound.{sound-networks}
 use Rattle.order.specs.Calls.{atFirst}
-use Rattle.rows.specs.Bytes.{tableBytes, rowStart}
+use Rattle.table_rows.specs.Bytes.{tableBytes, rowStart}
 use Rattle.table.specs.Listed.{destinationIn, limitIn}
 use Rattle.table.specs.Calls.{wrongBytes, differing, tableJudging, tableChecking}
 use Rattle.table.specs.Theorems.{TableIs, GivenBy, SomeGive, SoundStart, WrongAt, by-length, by-start, by-byte}

@@ -8,15 +8,15 @@ use lib.ListN.{length, getD, take}
 use Rattle.network.specs.Lists.{below, keep, every}
 use Rattle.network.specs.Network.{Network}
 use Rattle.network.specs.Order.{free, accepted}
-use Rattle.stations.specs.declared.Answer.{Answer}
-use Rattle.stations.specs.declared.Topology.{Topology}
-use Rattle.stations.specs.Limits.{mostNextHops}
-use Rattle.stations.specs.Outcome.{answer, Outcome, turnedAway, given}
-use Rattle.stations.specs.Topology.{networkOf}
-use Rattle.soundness.specs.Sound.{sound, within}
-use Rattle.placing.specs.declared.Mode.the-variants as mode
+use Rattle.topology_types.specs.declared.Answer.{Answer}
+use Rattle.topology_types.specs.declared.Topology.{Topology}
+use Rattle.topology_types.specs.Limits.{mostNextHops}
+use Rattle.topology_types.specs.Outcome.{answer, Outcome, turnedAway, given}
+use Rattle.topology_types.specs.Topology.{networkOf}
+use Rattle.topology_sound.specs.Sound.{sound, within}
+use Rattle.order_standings.specs.declared.Mode.the-variants as mode
 use Rattle.order.specs.Calls.{reachedCount, atFirst, checking}
-use Rattle.rows.specs.Bytes.{rankOrNone, tableBytes, tableLength}
+use Rattle.table_rows.specs.Bytes.{rankOrNone, tableBytes, tableLength}
 use Rattle.table.specs.Listed.{kindIn, destinationIn, countIn, limitIn, rankIn, orderIn}
 
 -- a refusal leaves the buffer as it was; number 0 goes on to the next test

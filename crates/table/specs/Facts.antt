@@ -7,8 +7,8 @@ use mathlib.Core.List.{List, [], _∷_, _++_}
 use lib.Dec.{T}
 use lib.ListN.{replicate, set, take}
 use Rattle.network.specs.Lists.{every, sameNumbers}
-use Rattle.stations.specs.declared.Topology.{Topology}
-use Rattle.stations.specs.Topology.{held, zeros, networkOf}
+use Rattle.topology_types.specs.declared.Topology.{Topology}
+use Rattle.topology_types.specs.Topology.{held, zeros, networkOf}
 use Rattle.order.specs.Table.{answers, link, twoCosts, T-topology, cutOff, twoParts}
 use Rattle.table.specs.Listed.{byRank, orderIn, inShortestPathMode}
 use Rattle.table.specs.Calls.{filling, tableChecking}

@@ -9,13 +9,13 @@ use lib.ListN.{length, take}
 use Rattle.network.specs.Network.{Network}
 use Rattle.network.specs.Order.{free}
 use Rattle.network.specs.Theorems.Order.{Accepted}
-use Rattle.stations.specs.declared.Topology.{Topology}
-use Rattle.stations.specs.Inner.{firstOr}
-use Rattle.stations.specs.Topology.{networkOf}
+use Rattle.topology_types.specs.declared.Topology.{Topology}
+use Rattle.topology_types.specs.Inner.{firstOr}
+use Rattle.topology_types.specs.Topology.{networkOf}
 use Rattle.arcs.specs.declared.Arcs.{Arcs}
 use Rattle.order.specs.Calls.{orderBytes}
 use Rattle.order.specs.Proposed.{Measured}
-use Rattle.rows.specs.Bytes.{tableLength}
+use Rattle.table_rows.specs.Bytes.{tableLength}
 use Rattle.table.specs.Listed.{destinationIn, byRank, orderIn}
 use Rattle.table.specs.Calls.{soundHeader, soundRanks, wrongBytes}
 

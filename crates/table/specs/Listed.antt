@@ -10,9 +10,9 @@ use Rattle.network.specs.Network.{Arc, Network, size, arcsOf}
 use Rattle.network.specs.Order.{shortest-path, accepted}
 use Rattle.network.specs.Forwarding.{Forwarding}
 use Rattle.network.specs.Routing.{firstLive}
-use Rattle.stations.specs.Inner.{firstOr}
+use Rattle.topology_types.specs.Inner.{firstOr}
 use Rattle.topology.specs.Written.{joinedOver}
-use Rattle.rows.specs.Bytes.{rowStart}
+use Rattle.table_rows.specs.Bytes.{rowStart}
 
 -- 01, Rows and tables: the header's kind, destination, router count and K
 unfoldable pub kindIn : List ℕ → ℕ

@@ -13,14 +13,14 @@ use Rattle.network.specs.Row.{rank, row}
 use Rattle.network.specs.Routing.{routers}
 use Rattle.network.specs.Theorems.Order.{Accepted}
 use Rattle.network.specs.Theorems.Routing.{OfTables}
-use Rattle.stations.specs.declared.Topology.{Topology}
-use Rattle.stations.specs.Outcome.{answer, turnedAway}
-use Rattle.stations.specs.Topology.{networkOf}
-use Rattle.soundness.specs.Sound.{sound}
-use Rattle.placing.specs.declared.Mode.the-variants as mode
+use Rattle.topology_types.specs.declared.Topology.{Topology}
+use Rattle.topology_types.specs.Outcome.{answer, turnedAway}
+use Rattle.topology_types.specs.Topology.{networkOf}
+use Rattle.topology_sound.specs.Sound.{sound}
+use Rattle.order_standings.specs.declared.Mode.the-variants as mode
 use Rattle.order.specs.Calls.{checking}
 use Rattle.order.specs.Theorems.{upToN}
-use Rattle.rows.specs.Bytes.{tableBytes}
+use Rattle.table_rows.specs.Bytes.{tableBytes}
 use Rattle.table.specs.Listed.{listed, forwardingBy, byRank, orderIn, inShortestPathMode}
 use Rattle.table.specs.Calls.{filling, tableChecking}
 

@@ -1,10 +1,10 @@
 // Tables (01, Rows and tables): filled for an order, and checked.
 use order::Mode;
-use rows::HEADER;
-use rows::ROW;
-use stations::Answer;
-use stations::Place;
-use stations::Topology;
+use table_rows::HEADER;
+use table_rows::ROW;
+use topology_types::Answer;
+use topology_types::Place;
+use topology_types::Topology;
 
 mod reading;
 pub mod unchecked;
@@ -16,7 +16,7 @@ ghost use Rattle.table.specs.Calls.{filling, tableChecking};
 pub fn fill(t: Topology, destination: Place, order: &[u8], out: &mut [u8]) -> Answer
     ensures { λ r. ⌜ record { answer = r; buffer = now (out .exit) } ≡ filling t (destination .0) (now (order .entry)) (now (out .entry)) ⌝ }
 {
-    if !soundness::is_sound(t) {
+    if !topology_sound::is_sound(t) {
         return Answer { number: 14, at: 0 };
     }
     let d = destination.index();
@@ -38,7 +38,7 @@ pub fn fill(t: Topology, destination: Place, order: &[u8], out: &mut [u8]) -> An
         };
     }
     let reached = order::unchecked::reached_count(&ds, n);
-    rows::unchecked::fill(t, a, ds, destination, t.limit, &order[..reached], out);
+    table_rows::unchecked::fill(t, a, ds, destination, t.limit, &order[..reached], out);
     Answer {
         number: 0,
         at: needed,
@@ -49,7 +49,7 @@ pub fn fill(t: Topology, destination: Place, order: &[u8], out: &mut [u8]) -> An
 pub fn check(t: Topology, table: &[u8]) -> Answer
     ensures { λ r. ⌜ r ≡ tableChecking t (now (table .entry)) ⌝ }
 {
-    if !soundness::is_sound(t) {
+    if !topology_sound::is_sound(t) {
         return Answer { number: 14, at: 0 };
     }
     unchecked::check(t, arcs::unchecked::of(t), table)

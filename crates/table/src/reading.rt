@@ -1,16 +1,16 @@
 // Reading a table's bytes: its header, and where it differs from another.
-use rows::HEADER;
-use rows::ROW;
-use rows::TABLE;
-use stations::NEXT_HOPS;
+use table_rows::HEADER;
+use table_rows::ROW;
+use table_rows::TABLE;
+use topology_types::NEXT_HOPS;
 ghost use mathlib.Core.Path.{_≡_};
 ghost use Prim.Native.Nat.{_≤_};
 ghost use lib.Dec.{eqb};
 ghost use lib.ListN.{length};
 ghost use Rattle.network.specs.Lists.{below, every};
-ghost use Rattle.stations.specs.Inner.{firstOr};
-ghost use Rattle.stations.specs.Limits.{mostRouters};
-ghost use Rattle.rows.specs.Bytes.{tableLength};
+ghost use Rattle.topology_types.specs.Inner.{firstOr};
+ghost use Rattle.topology_types.specs.Limits.{mostRouters};
+ghost use Rattle.table_rows.specs.Bytes.{tableLength};
 ghost use Rattle.table.specs.Listed.{rankIn};
 ghost use Rattle.table.specs.Calls.{soundHeader, differing};
 

@@ -2,24 +2,24 @@
 use super::reading;
 use arcs::Arcs;
 use order::Mode;
-use rows::HEADER;
-use rows::ROW;
-use stations::Answer;
-use stations::Place;
-use stations::ROUTERS;
-use stations::Topology;
+use table_rows::HEADER;
+use table_rows::ROW;
+use topology_types::Answer;
+use topology_types::Place;
+use topology_types::ROUTERS;
+use topology_types::Topology;
 ghost use mathlib.Core.List.{_++_};
 ghost use mathlib.Core.Path.{_≡_};
 ghost use Prim.Native.Nat.{_≤_, _<_};
 ghost use lib.Dec.{T};
 ghost use lib.ListN.{length, take, drop};
 ghost use Rattle.network.specs.Order as «said-order»;
-ghost use Rattle.stations.specs.Limits.{mostRouters};
-ghost use Rattle.stations.specs.Topology.{networkOf};
-ghost use Rattle.soundness.specs.Sound.{sound};
+ghost use Rattle.topology_types.specs.Limits.{mostRouters};
+ghost use Rattle.topology_types.specs.Topology.{networkOf};
+ghost use Rattle.topology_sound.specs.Sound.{sound};
 ghost use Rattle.arcs.specs.Arcs.{Laid};
 ghost use Rattle.order.specs.Calls.{modeOf};
-ghost use Rattle.rows.specs.Bytes.{tableBytes, tableLength};
+ghost use Rattle.table_rows.specs.Bytes.{tableBytes, tableLength};
 ghost use Rattle.table.specs.Listed.{byRank};
 ghost use Rattle.table.specs.Calls.{tableJudging};
 ghost use Rattle.table.specs.Inner.{Started, firstWrong};
@@ -58,7 +58,7 @@ fn first_wrong(
     let limit = table[3];
     let reached = order::unchecked::reached_count(&ds, n);
     let mut room = reading::room_for_table();
-    rows::unchecked::fill(t, a, ds, destination, limit, &order[..reached], &mut room);
+    table_rows::unchecked::fill(t, a, ds, destination, limit, &order[..reached], &mut room);
     if !reading::ranks_agree(n, table, &room[..length]) {
         return 0;
     }
@@ -119,5 +119,5 @@ pub fn build(t: Topology, a: Arcs, destination: Place, mode: Mode, out: &mut [u8
         &mut order,
     );
     let reached = order::unchecked::reached_count(&ds, n);
-    rows::unchecked::fill(t, a, ds, destination, t.limit, &order[..reached], out);
+    table_rows::unchecked::fill(t, a, ds, destination, t.limit, &order[..reached], out);
 }

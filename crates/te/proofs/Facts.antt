@@ -2,7 +2,7 @@
 -- Assumes nothing.
 use lib.Ieee.{ofBits, toBits}
 use Rattle.network.specs.Lists.{every, sameNumbers}
-use Rattle.records.specs.Stream.{bigEndianOn, bigEndian, inBytes}
+use Rattle.stream_rules.specs.Stream.{bigEndianOn, bigEndian, inBytes}
 use Rattle.te.specs.SubTlvs.{typeOf, lengthOf, spanOf, cutShort, numberIn, usable, caseOf, judged, subIn}
 use Rattle.te.specs.Cost.{nothing, gathered, heldToRange, bandwidthCost, maximumCost, costOf, refusal, concluded, faultOf, added, takenFrom, costing}
 use Rattle.te.specs.Facts.{field, fields, outcome, worthIs, holds, max-1250000, max-12500000, max-1, res-12500000, metric, other}

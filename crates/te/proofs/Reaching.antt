@@ -9,7 +9,7 @@ use borrow.Author.Tests.{eq-eqb, ne-eqb}
 use lib.Dec.{eqb, eqb→eq}
 use lib.ListN.{length, drop, length-drop}
 use Rattle.network.proofs.Tests.{truth, eq-test}
-use Rattle.stations.specs.Outcome.{answer}
+use Rattle.topology_types.specs.Outcome.{answer}
 use Rattle.te.specs.declared.Found.{Found}
 use Rattle.te.specs.declared.Found.the-variants.{Refused, Skipped, Is}
 use Rattle.te.specs.declared.SubTlv.{SubTlv}

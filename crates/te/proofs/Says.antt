@@ -10,7 +10,7 @@ use borrow.Author.Tests.{ltb-true, ltb-false}
 use lib.Dec.{ltb, eqb, eqb→eq}
 use lib.ListN.{length}
 use Rattle.network.proofs.Tests.{truth, as-true, as-false, eq-test}
-use Rattle.records.proofs.Stream.{four-at}
+use Rattle.stream_rules.proofs.Stream.{four-at}
 use Rattle.te.specs.declared.Found.{Found}
 use Rattle.te.specs.declared.Found.the-variants.{Refused, Skipped}
 use Rattle.te.specs.SubTlvs.{typeOf, lengthOf, spanOf, numberIn, usable, caseOf, judged, subIn}

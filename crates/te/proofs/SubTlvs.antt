@@ -8,10 +8,10 @@ use native.Mathlib.Omega.{arith}
 use borrow.Author.Tests.{eq-eqb, ne-eqb, le-leb, lt-leb, le-ltb, lt-ltb}
 use lib.ListN.{length, getD, take, drop}
 use lib.Seq.{drop-drop}
-use Rattle.records.specs.Stream.{bigEndian}
+use Rattle.stream_rules.specs.Stream.{bigEndian}
 use Rattle.te.specs.declared.Found.the-variants.{Refused, Skipped}
 use Rattle.te.specs.SubTlvs.{typeOf, lengthOf, spanOf, cutShort, numberIn, caseOf, judged, subIn}
-use Rattle.records.proofs.Stream.{two-at}
+use Rattle.stream_rules.proofs.Stream.{two-at}
 
 -- the number in the two bytes from an offset on
 abbrev pub two : List ℕ → ℕ → ℕ

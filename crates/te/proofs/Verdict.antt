@@ -6,8 +6,8 @@ use mathlib.Core.Logic.{_↔_, _⊎_, inl, inr, ⊎-elim}
 use mathlib.Core.Path.{_≡_, refl, sym, ap, subst, _∙_}
 use native.Mathlib.Omega.{arith}
 use lib.ListN.{length, drop}
-use Rattle.stations.specs.declared.Answer.{Answer}
-use Rattle.stations.specs.Outcome.{answer}
+use Rattle.topology_types.specs.declared.Answer.{Answer}
+use Rattle.topology_types.specs.Outcome.{answer}
 use Rattle.te.specs.declared.Found.the-variants.{Refused}
 use Rattle.te.specs.declared.SubTlv.{SubTlv}
 use Rattle.te.specs.declared.LinkCost.{LinkCost}

@@ -10,7 +10,7 @@ use lib.Dec.{T}
 use lib.IntN.{ℤ, pos}
 use lib.ListN.{length, getD, drop}
 use lib.Ieee.{Float, fin, binary32, ofBits}
-use Rattle.stations.specs.Outcome.{answer}
+use Rattle.topology_types.specs.Outcome.{answer}
 use Rattle.te.specs.declared.Found.{Found}
 use Rattle.te.specs.declared.Found.the-variants.{Refused, Skipped, Is}
 use Rattle.te.specs.declared.SubTlv.{SubTlv}

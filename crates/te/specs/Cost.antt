@@ -6,7 +6,7 @@ use mathlib.Core.List.{List, [], _∷_}
 use lib.Dec.{eqb, leb, ltb}
 use lib.IntN.{pos}
 use lib.Ieee.{Float, nan, inf, fin, up, down}
-use Rattle.stations.specs.Outcome.{answer}
+use Rattle.topology_types.specs.Outcome.{answer}
 use Rattle.te.specs.declared.Found.{Found}
 use Rattle.te.specs.declared.Found.the-variants.{Refused, Skipped, Is}
 use Rattle.te.specs.declared.SubTlv.{SubTlv}

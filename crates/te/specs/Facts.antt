@@ -7,7 +7,7 @@ use mathlib.Core.List.{List, [], _∷_, _++_}
 use lib.Dec.{T, eqb}
 use lib.Ieee.{Float, nan, inf, fin, binary32, up, down, ofBits, toBits}
 use Rattle.network.specs.Lists.{every, sameNumbers}
-use Rattle.records.specs.Stream.{inBytes}
+use Rattle.stream_rules.specs.Stream.{inBytes}
 use Rattle.te.specs.declared.LinkRecord.{LinkRecord}
 use Rattle.te.specs.declared.LinkCost.{LinkCost}
 use Rattle.te.specs.Cost.{costing}

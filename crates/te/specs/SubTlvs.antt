@@ -6,7 +6,7 @@ use mathlib.Core.List.{List}
 use lib.Dec.{eqb, leb, ltb}
 use lib.ListN.{length, take, drop}
 use lib.Ieee.{Float, nan, inf, fin, binary32, up, down, ofBits}
-use Rattle.records.specs.Stream.{bigEndian}
+use Rattle.stream_rules.specs.Stream.{bigEndian}
 use Rattle.te.specs.declared.Found.{Found}
 use Rattle.te.specs.declared.Found.the-variants.{Refused, Skipped, Is}
 use Rattle.te.specs.declared.SubTlv.{SubTlv}

@@ -2,7 +2,7 @@
 mod bandwidth;
 mod reading;
 
-use stations::Answer;
+use topology_types::Answer;
 ghost use mathlib.Core.Path.{_≡_};
 ghost use Rattle.te.specs.Cost.{faultOf, maximumCost, costOf, costing};
 ghost use Rattle.te.specs.Cost as said;

@@ -7,8 +7,8 @@ use native.Mathlib.Nat.{mul-zero, mul-suc}
 use native.Mathlib.Omega.{arith}
 use lib.ListN.{length, take, drop, getD, length-append, take-append-drop}
 use lib.Seq.{take-take}
-use Rattle.stations.proofs.Prefix.{take-more}
-use Rattle.records.specs.Stream.{inBytes}
+use Rattle.topology_types.proofs.Prefix.{take-more}
+use Rattle.stream_rules.specs.Stream.{inBytes}
 use Rattle.topology.specs.Written.{joinedOver, routerBytes}
 use Rattle.topology.specs.Inner.{over}
 use Rattle.topology.proofs.Over.{over-none, over-length, over-over}

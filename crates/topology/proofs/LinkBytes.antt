@@ -7,9 +7,9 @@ use mathlib.Core.Path.{_≡_, refl}
 use borrow.Author.Tests.{eq-eqb, ne-eqb}
 use lib.Dec.{eqb}
 use lib.ListN.{length}
-use Rattle.stations.specs.declared.Link.{Link}
-use Rattle.records.specs.Stream.{inBytes}
-use Rattle.records.specs.Halves.{firstHalf, secondHalf}
+use Rattle.topology_types.specs.declared.Link.{Link}
+use Rattle.stream_rules.specs.Stream.{inBytes}
+use Rattle.stream_rules.specs.Halves.{firstHalf, secondHalf}
 use Rattle.topology.specs.Written.{halfBody, halfBytes, linkBytes}
 
 module _ (l : Link) where

@@ -16,18 +16,18 @@ use Rattle.network.specs.Lists.{keep}
 use Rattle.network.specs.Network.{Arc, arcsAmong}
 use Rattle.network.specs.Theorems.Network.{SoundLinks, SoundLink, SamePair}
 use Rattle.network.proofs.Lists.{pairwise-split}
-use Rattle.stations.specs.declared.Half.{Half}
-use Rattle.stations.specs.declared.Link.{Link}
-use Rattle.stations.specs.Topology.{seen}
-use Rattle.stations.proofs.Arcs.{ending, arcs-more, arcs-stay, ends-at}
-use Rattle.records.specs.declared.Reading.{Reading}
-use Rattle.records.specs.declared.Record.{Record}
-use Rattle.records.specs.declared.Record.the-variants as record-of
-use Rattle.records.specs.Halves.{Listing, firstHalf, secondHalf, sameHalf, opposite, linkOf}
-use Rattle.records.specs.Reading.{fault, withLink, arrived, added, width, isEnd, inTurn}
-use Rattle.records.specs.Theorems.{HalfListed}
-use Rattle.records.proofs.Verdicts.{faults-each}
-use Rattle.records.proofs.InTurn.{goes-on}
+use Rattle.topology_types.specs.declared.Half.{Half}
+use Rattle.topology_types.specs.declared.Link.{Link}
+use Rattle.topology_types.specs.Topology.{seen}
+use Rattle.topology_types.proofs.Arcs.{ending, arcs-more, arcs-stay, ends-at}
+use Rattle.stream_rules.specs.declared.Reading.{Reading}
+use Rattle.stream_rules.specs.declared.Record.{Record}
+use Rattle.stream_rules.specs.declared.Record.the-variants as record-of
+use Rattle.stream_rules.specs.Halves.{Listing, firstHalf, secondHalf, sameHalf, opposite, linkOf}
+use Rattle.stream_rules.specs.Reading.{fault, withLink, arrived, added, width, isEnd, inTurn}
+use Rattle.stream_rules.specs.Theorems.{HalfListed}
+use Rattle.stream_rules.proofs.Verdicts.{faults-each}
+use Rattle.stream_rules.proofs.InTurn.{goes-on}
 use Rattle.topology.proofs.Rewritten.{linkRecords}
 
 -- the reading goes on so, from somewhere

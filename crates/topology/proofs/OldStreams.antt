@@ -11,21 +11,21 @@ use borrow.Author.Tests.{lt-ltb, le-ltb}
 use lib.Dec.{eqb}
 use lib.ListN.{length, drop, drop-of-length-le}
 use lib.Seq.{take-append-seam}
-use Rattle.stations.specs.declared.Half.{Half}
-use Rattle.stations.specs.declared.Topology.{Topology}
-use Rattle.stations.specs.Outcome.{answer, turnedAway, given}
-use Rattle.stations.specs.Topology.{Contents, noLink, padded, held, zeros}
-use Rattle.soundness.specs.Sound.{within}
-use Rattle.records.specs.declared.Reading.{Reading}
-use Rattle.records.specs.declared.Record.{Record}
-use Rattle.records.specs.declared.Record.the-variants as record-of
-use Rattle.records.specs.Stream.{bodyLength, records}
-use Rattle.records.specs.Halves.{Listing, halves}
-use Rattle.records.specs.Reading.{refusal, accepted, routerFault, repeated, crowded, halvesFault, fault, withRouter, withLink, withLimit, arrived, added}
-use Rattle.records.specs.Reading.{width, isEnd, ended, unless, some?, inTurn, nothingListed, reading}
-use Rattle.records.specs.Theorems.{success, refused}
-use Rattle.records.proofs.InTurn.{next-router, next-link, next-half, next-limit, next-unknown, next-end, next-cut, goes-on}
-use Rattle.records.proofs.Stream.{records-drop, no-bytes}
+use Rattle.topology_types.specs.declared.Half.{Half}
+use Rattle.topology_types.specs.declared.Topology.{Topology}
+use Rattle.topology_types.specs.Outcome.{answer, turnedAway, given}
+use Rattle.topology_types.specs.Topology.{Contents, noLink, padded, held, zeros}
+use Rattle.topology_sound.specs.Sound.{within}
+use Rattle.stream_rules.specs.declared.Reading.{Reading}
+use Rattle.stream_rules.specs.declared.Record.{Record}
+use Rattle.stream_rules.specs.declared.Record.the-variants as record-of
+use Rattle.stream_rules.specs.Stream.{bodyLength, records}
+use Rattle.stream_rules.specs.Halves.{Listing, halves}
+use Rattle.stream_rules.specs.Reading.{refusal, accepted, routerFault, repeated, crowded, halvesFault, fault, withRouter, withLink, withLimit, arrived, added}
+use Rattle.stream_rules.specs.Reading.{width, isEnd, ended, unless, some?, inTurn, nothingListed, reading}
+use Rattle.stream_rules.specs.Theorems.{success, refused}
+use Rattle.stream_rules.proofs.InTurn.{next-router, next-link, next-half, next-limit, next-unknown, next-end, next-cut, goes-on}
+use Rattle.stream_rules.proofs.Stream.{records-drop, no-bytes}
 use Rattle.topology.specs.Inner.{over}
 use Rattle.topology.specs.OldLimit.{withOldLimit}
 use Rattle.topology.specs.OldStreams.{HelpExact, Cut, sixteen, readBefore, OldStreamsRead}

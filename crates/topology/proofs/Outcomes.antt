@@ -1,8 +1,8 @@
 -- The test for a sound topology decides which case it is.
 -- Assumes nothing.
 use Rattle.network.proofs.Tests.{as-true}
-use Rattle.stations.specs.Outcome.{turnedAway}
-use Rattle.soundness.specs.Sound.{sound}
+use Rattle.topology_types.specs.Outcome.{turnedAway}
+use Rattle.topology_sound.specs.Sound.{sound}
 use Rattle.topology.specs.Written.{writing}
 use Rattle.topology.specs.Theorems.{WritingExact}
 

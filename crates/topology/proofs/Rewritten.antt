@@ -9,17 +9,17 @@ use native.Mathlib.Omega.{arith}
 use lib.Dec.{eqb}
 use lib.ListN.{length, length-append}
 use lib.Seq.{take-at, drop-at}
-use Rattle.stations.specs.declared.Half.{Half}
-use Rattle.stations.specs.declared.Link.{Link}
-use Rattle.stations.specs.declared.Topology.{Topology}
-use Rattle.stations.specs.Topology.{Contents, contents}
-use Rattle.records.specs.declared.Record.{Record}
-use Rattle.records.specs.declared.Record.the-variants as record-of
-use Rattle.records.specs.Stream.{bodyLength, decoded, halfIn, records}
-use Rattle.records.specs.Halves.{firstHalf, secondHalf}
-use Rattle.records.proofs.Digits.{digits, length-bytes}
-use Rattle.records.proofs.InTurn.{next-limit, next-end}
-use Rattle.records.proofs.Stream.{whole, records-drop, no-bytes}
+use Rattle.topology_types.specs.declared.Half.{Half}
+use Rattle.topology_types.specs.declared.Link.{Link}
+use Rattle.topology_types.specs.declared.Topology.{Topology}
+use Rattle.topology_types.specs.Topology.{Contents, contents}
+use Rattle.stream_rules.specs.declared.Record.{Record}
+use Rattle.stream_rules.specs.declared.Record.the-variants as record-of
+use Rattle.stream_rules.specs.Stream.{bodyLength, decoded, halfIn, records}
+use Rattle.stream_rules.specs.Halves.{firstHalf, secondHalf}
+use Rattle.stream_rules.proofs.Digits.{digits, length-bytes}
+use Rattle.stream_rules.proofs.InTurn.{next-limit, next-end}
+use Rattle.stream_rules.proofs.Stream.{whole, records-drop, no-bytes}
 use Rattle.topology.specs.Written.{joinedOver, routerBytes, halfBody, halfBytes, linkBytes, limitBytes, written}
 
 -- a kind and a whole body

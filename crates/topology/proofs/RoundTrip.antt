@@ -13,21 +13,21 @@ use lib.Dec.{T, eqb}
 use lib.ListN.{length, take, drop, replicate, length-drop, take-append-drop}
 use lib.Seq.{length-take-le}
 use Rattle.network.proofs.Lists.{mem-take}
-use Rattle.stations.specs.declared.Half.{Half}
-use Rattle.stations.specs.declared.Link.{Link}
-use Rattle.stations.specs.declared.Topology.{Topology}
-use Rattle.stations.specs.Topology.{noLink, padded, contents, held, seen, networkOf}
-use Rattle.stations.proofs.Arcs.{arcs-listed}
-use Rattle.soundness.specs.Sound.{sound}
-use Rattle.soundness.specs.Theorems.{Sound}
-use Rattle.soundness.proofs.Sound.{within-fact, routers-listed, links-listed, sound-exact}
-use Rattle.records.specs.declared.Reading.{Reading}
-use Rattle.records.specs.Stream.{inBytes}
-use Rattle.records.specs.Halves.{firstHalf, secondHalf}
-use Rattle.records.specs.Reading.{accepted, reading}
-use Rattle.records.specs.Theorems.{Bytes, success}
-use Rattle.records.proofs.Digits.{byte-below}
-use Rattle.records.proofs.Returned.{reads-sound}
+use Rattle.topology_types.specs.declared.Half.{Half}
+use Rattle.topology_types.specs.declared.Link.{Link}
+use Rattle.topology_types.specs.declared.Topology.{Topology}
+use Rattle.topology_types.specs.Topology.{noLink, padded, contents, held, seen, networkOf}
+use Rattle.topology_types.proofs.Arcs.{arcs-listed}
+use Rattle.topology_sound.specs.Sound.{sound}
+use Rattle.topology_sound.specs.Theorems.{Sound}
+use Rattle.topology_sound.proofs.Sound.{within-fact, routers-listed, links-listed, sound-exact}
+use Rattle.stream_rules.specs.declared.Reading.{Reading}
+use Rattle.stream_rules.specs.Stream.{inBytes}
+use Rattle.stream_rules.specs.Halves.{firstHalf, secondHalf}
+use Rattle.stream_rules.specs.Reading.{accepted, reading}
+use Rattle.stream_rules.specs.Theorems.{Bytes, success}
+use Rattle.stream_rules.proofs.Digits.{byte-below}
+use Rattle.stream_rules.proofs.Returned.{reads-sound}
 use Rattle.topology.specs.Written.{joinedOver, routerBytes, halfBody, halfBytes, linkBytes, limitBytes, written}
 use Rattle.topology.specs.Theorems.{WrittenRead, SoundIsRead, WrittenLong}
 use Rattle.topology.proofs.Joined.{joined-same}

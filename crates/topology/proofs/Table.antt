@@ -1,13 +1,13 @@
 -- The prover computes every fact from the definitions.
 -- Assumes nothing.
 use Rattle.network.specs.Lists.{keep, every, any, member, sameNumbers}
-use Rattle.stations.specs.Topology.{noLink, padded, contents, held, zeros}
-use Rattle.soundness.specs.Sound.{within}
-use Rattle.records.specs.Stream.{bigEndianOn, bigEndian, inBytes, bodyLength, halfIn, decoded, recordIn, records}
-use Rattle.records.specs.Halves.{firstHalf, secondHalf, linkHalves, halves, sameHalf, leaves, opposite, linkOf}
-use Rattle.records.specs.Reading.{refusal, accepted, routerFault, repeated, crowded, halvesFault, fault, withRouter, withLink, withLimit, arrived, added}
-use Rattle.records.specs.Reading.{width, isEnd, ended, unless, some?, inTurn, nothingListed, reading}
-use Rattle.records.specs.Table.{one, two, three, T-stream}
+use Rattle.topology_types.specs.Topology.{noLink, padded, contents, held, zeros}
+use Rattle.topology_sound.specs.Sound.{within}
+use Rattle.stream_rules.specs.Stream.{bigEndianOn, bigEndian, inBytes, bodyLength, halfIn, decoded, recordIn, records}
+use Rattle.stream_rules.specs.Halves.{firstHalf, secondHalf, linkHalves, halves, sameHalf, leaves, opposite, linkOf}
+use Rattle.stream_rules.specs.Reading.{refusal, accepted, routerFault, repeated, crowded, halvesFault, fault, withRouter, withLink, withLimit, arrived, added}
+use Rattle.stream_rules.specs.Reading.{width, isEnd, ended, unless, some?, inTurn, nothingListed, reading}
+use Rattle.stream_rules.specs.Table.{one, two, three, T-stream}
 use Rattle.topology.specs.Written.{joinedOver, routerBytes, halfBody, halfBytes, linkBytes, limitBytes, written}
 use Rattle.topology.specs.Table.{holds, writes, facts, FactsHold}
 

@@ -12,15 +12,15 @@ use lib.Seq.{append-snoc}
 use Rattle.network.specs.Lists.{member, Distinct}
 use Rattle.network.proofs.Tests.{as-false, passes}
 use Rattle.network.proofs.Lists.{member-mem, pairwise-split}
-use Rattle.stations.specs.declared.Link.{Link}
-use Rattle.stations.specs.Topology.{Contents}
-use Rattle.soundness.specs.Sound.{within}
-use Rattle.records.specs.declared.Record.{Record}
-use Rattle.records.specs.declared.Record.the-variants as record-of
-use Rattle.records.specs.Halves.{Listing}
-use Rattle.records.specs.Reading.{accepted, fault, withRouter, withLimit, added, width, isEnd, ended, unless, some?, inTurn, nothingListed}
-use Rattle.records.proofs.NoFault.{NewRouter, router-passes}
-use Rattle.records.proofs.InTurn.{goes-on}
+use Rattle.topology_types.specs.declared.Link.{Link}
+use Rattle.topology_types.specs.Topology.{Contents}
+use Rattle.topology_sound.specs.Sound.{within}
+use Rattle.stream_rules.specs.declared.Record.{Record}
+use Rattle.stream_rules.specs.declared.Record.the-variants as record-of
+use Rattle.stream_rules.specs.Halves.{Listing}
+use Rattle.stream_rules.specs.Reading.{accepted, fault, withRouter, withLimit, added, width, isEnd, ended, unless, some?, inTurn, nothingListed}
+use Rattle.stream_rules.proofs.NoFault.{NewRouter, router-passes}
+use Rattle.stream_rules.proofs.InTurn.{goes-on}
 use Rattle.topology.specs.Written.{joinedOver}
 use Rattle.topology.proofs.LinkTaken.{Goes, first, followed, GoodLinks, linked, link-taken}
 use Rattle.topology.proofs.Rewritten.{routerRecords, linkRecords, recordsOf}

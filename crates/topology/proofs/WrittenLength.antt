@@ -9,9 +9,9 @@ use lib.Dec.{eqb}
 use lib.ListN.{length, take, length-append}
 use lib.Seq.{length-take-le}
 use Rattle.network.specs.Lists.{keep}
-use Rattle.stations.specs.declared.Link.{Link}
-use Rattle.stations.specs.declared.Topology.{Topology}
-use Rattle.stations.specs.Topology.{contents}
+use Rattle.topology_types.specs.declared.Link.{Link}
+use Rattle.topology_types.specs.declared.Topology.{Topology}
+use Rattle.topology_types.specs.Topology.{contents}
 use Rattle.topology.specs.Written.{joinedOver, written, limitBytes, routerBytes, linkBytes}
 use Rattle.topology.proofs.Joined.{router-five, joined-length}
 use Rattle.topology.proofs.LinkBytes.{link-long}

@@ -6,8 +6,8 @@ use mathlib.Core.Path.{_≡_, refl, _∙_}
 use native.Mathlib.Omega.{arith}
 use lib.ListN.{length, take, set, length-append}
 use lib.Seq.{length-take-le}
-use Rattle.stations.specs.declared.Topology.{Topology}
-use Rattle.stations.specs.Topology.{contents}
+use Rattle.topology_types.specs.declared.Topology.{Topology}
+use Rattle.topology_types.specs.Topology.{contents}
 use Rattle.topology.specs.Written.{written, limitBytes, routerBytes, linkBytes, joinedOver}
 use Rattle.topology.specs.Inner.{over}
 use Rattle.topology.proofs.Joined.{router-five, joined-many}

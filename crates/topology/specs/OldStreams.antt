@@ -6,13 +6,13 @@ use mathlib.Core.List.{List, [], _∷_, _++_, List·Memᴰ}
 use mathlib.Core.Logic.{_≢_}
 use mathlib.Core.Path.{_≡_}
 use lib.ListN.{length, take, drop}
-use Rattle.stations.specs.declared.Topology.{Topology}
-use Rattle.stations.specs.Outcome.{answer}
-use Rattle.records.specs.declared.Reading.{Reading}
-use Rattle.records.specs.declared.Record.the-variants as record-of
-use Rattle.records.specs.Stream.{records}
-use Rattle.records.specs.Reading.{inTurn, reading}
-use Rattle.records.specs.Theorems.{success, refused, fourBytes, twoBytes, halfOf}
+use Rattle.topology_types.specs.declared.Topology.{Topology}
+use Rattle.topology_types.specs.Outcome.{answer}
+use Rattle.stream_rules.specs.declared.Reading.{Reading}
+use Rattle.stream_rules.specs.declared.Record.the-variants as record-of
+use Rattle.stream_rules.specs.Stream.{records}
+use Rattle.stream_rules.specs.Reading.{inTurn, reading}
+use Rattle.stream_rules.specs.Theorems.{success, refused, fourBytes, twoBytes, halfOf}
 use Rattle.topology.specs.OldLimit.{withOldLimit}
 
 -- Where there is no room for the stream and two bytes more, 24 at that length, and the buffer stays; else 8 and 16, then the stream, then what stood

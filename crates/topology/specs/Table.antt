@@ -6,8 +6,8 @@ use mathlib.Core.Bool.{Bool}
 use mathlib.Core.List.{List, [], _∷_, _++_}
 use lib.Dec.{T}
 use Rattle.network.specs.Lists.{every, sameNumbers}
-use Rattle.records.specs.Reading.{reading}
-use Rattle.records.specs.Table.{one, two, three, T-stream}
+use Rattle.stream_rules.specs.Reading.{reading}
+use Rattle.stream_rules.specs.Table.{one, two, three, T-stream}
 use Rattle.topology.specs.Written.{written}
 
 pub record Fact : Type 0 where

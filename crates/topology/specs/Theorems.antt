@@ -8,11 +8,11 @@ use mathlib.Core.Path.{_≡_}
 use lib.Dec.{T, eqb}
 use lib.ListN.{length, take}
 use Rattle.network.specs.Lists.{keep}
-use Rattle.stations.specs.declared.Topology.{Topology}
-use Rattle.stations.specs.Outcome.{turnedAway, given}
-use Rattle.soundness.specs.Sound.{sound}
-use Rattle.records.specs.Reading.{reading}
-use Rattle.records.specs.Theorems.{Bytes, success}
+use Rattle.topology_types.specs.declared.Topology.{Topology}
+use Rattle.topology_types.specs.Outcome.{turnedAway, given}
+use Rattle.topology_sound.specs.Sound.{sound}
+use Rattle.stream_rules.specs.Reading.{reading}
+use Rattle.stream_rules.specs.Theorems.{Bytes, success}
 use Rattle.topology.specs.Written.{joinedOver, written, writing}
 
 -- 01, Topology stream: reading what was written returns the same topology.

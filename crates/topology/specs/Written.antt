@@ -4,14 +4,14 @@ use Prim.Native.Nat.{ℕ}
 use mathlib.Core.Bool.{cond}
 use mathlib.Core.List.{List, [], _∷_, _++_}
 use lib.Dec.{eqb}
-use Rattle.stations.specs.declared.Half.{Half}
-use Rattle.stations.specs.declared.Link.{Link}
-use Rattle.stations.specs.declared.Topology.{Topology}
-use Rattle.stations.specs.Topology.{contents}
-use Rattle.stations.specs.Outcome.{Outcome, turnedAway, given}
-use Rattle.soundness.specs.Sound.{sound}
-use Rattle.records.specs.Stream.{inBytes}
-use Rattle.records.specs.Halves.{firstHalf, secondHalf}
+use Rattle.topology_types.specs.declared.Half.{Half}
+use Rattle.topology_types.specs.declared.Link.{Link}
+use Rattle.topology_types.specs.declared.Topology.{Topology}
+use Rattle.topology_types.specs.Topology.{contents}
+use Rattle.topology_types.specs.Outcome.{Outcome, turnedAway, given}
+use Rattle.topology_sound.specs.Sound.{sound}
+use Rattle.stream_rules.specs.Stream.{inBytes}
+use Rattle.stream_rules.specs.Halves.{firstHalf, secondHalf}
 
 -- what f gives over the list, one after the other
 unfoldable pub joinedOver : {A B : Type 0} → (A → List B) → List A → List B

@@ -1,19 +1,19 @@
 // Routers, links and the topology stream (01, Stations, links and limits; Topology stream): read, test and write, under one name.
 mod writing;
 
-pub use soundness::is_sound;
-pub use stations::Answer;
-pub use stations::DEFAULT_NEXT_HOPS;
-pub use stations::LINKS;
-pub use stations::Link;
-pub use stations::NEIGHBOURS;
-pub use stations::NEXT_HOPS;
-pub use stations::Place;
-pub use stations::ROUTERS;
-pub use stations::Rank;
-pub use stations::Topology;
 pub use stream::Reading;
 pub use stream::read;
+pub use topology_sound::is_sound;
+pub use topology_types::Answer;
+pub use topology_types::DEFAULT_NEXT_HOPS;
+pub use topology_types::LINKS;
+pub use topology_types::Link;
+pub use topology_types::NEIGHBOURS;
+pub use topology_types::NEXT_HOPS;
+pub use topology_types::Place;
+pub use topology_types::ROUTERS;
+pub use topology_types::Rank;
+pub use topology_types::Topology;
 ghost use mathlib.Core.Path.{_≡_};
 ghost use Rattle.topology.specs.Written.{writing};
 ghost use Rattle.topology.specs.OldLimit.{withOldLimit};

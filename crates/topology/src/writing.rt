@@ -1,13 +1,13 @@
 // Putting records into a lent buffer, from an offset on. `put_routers`, `put_link` and `put_links` answer the offset after what they put.
-use stations::Half;
-use stations::Link;
-use stations::Topology;
+use topology_types::Half;
+use topology_types::Link;
+use topology_types::Topology;
 ghost use mathlib.Core.List.{_∷_};
 ghost use mathlib.Core.Path.{_≡_};
 ghost use Prim.Native.Nat.{_+_, _*_, _≤_};
 ghost use lib.ListN.{length};
-ghost use Rattle.stations.specs.Topology.{contents};
-ghost use Rattle.stations.specs.Inner.{Counted};
+ghost use Rattle.topology_types.specs.Topology.{contents};
+ghost use Rattle.topology_types.specs.Inner.{Counted};
 ghost use Rattle.topology.specs.Written.{routerBytes, halfBody, linkBytes, limitBytes, joinedOver, written};
 ghost use Rattle.topology.specs.Inner.{over};
 

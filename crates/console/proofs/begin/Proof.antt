@@ -1,7 +1,7 @@
 -- The arrays are those of the definition.
 -- Assumes nothing.
 use mathlib.Core.Path.{refl}
-use Rattle.stations.specs.Topology.{zeros, held, padded, noLink}
+use Rattle.topology_types.specs.Topology.{zeros, held, padded, noLink}
 use Rattle.console.proofs.begin.Statement.{statement}
 use Rattle.console.proofs.begin.Tie as tie
 

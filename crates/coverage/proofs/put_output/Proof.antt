@@ -5,14 +5,14 @@ use mathlib.Core.Path.{_≡_}
 use native.Mathlib.Omega.{arith}
 use borrow.Author.Tests.{eq-eqb, ne-eqb}
 use lib.Dec.{T}
-use Rattle.soundness.specs.Sound.{sound}
-use Rattle.soundness.proofs.Sound.{sound-exact}
-use Rattle.figures.specs.Coverage.{coverage}
-use Rattle.figures.specs.Printed.{coverageText}
-use Rattle.figures.proofs.Right.{figures-right}
-use Rattle.figures.proofs.Printing.{text-length}
-use Rattle.programs.specs.Output.{printed, outputBy}
-use Rattle.programs.proofs.Right.{refused-length, read-sound}
+use Rattle.topology_sound.specs.Sound.{sound}
+use Rattle.topology_sound.proofs.Sound.{sound-exact}
+use Rattle.coverage_rules.specs.Coverage.{coverage}
+use Rattle.coverage_rules.specs.Printed.{coverageText}
+use Rattle.coverage_rules.proofs.Right.{figures-right}
+use Rattle.coverage_rules.proofs.Printing.{text-length}
+use Rattle.program_io.specs.Output.{printed, outputBy}
+use Rattle.program_io.proofs.Right.{refused-length, read-sound}
 use Rattle.coverage.specs.Output.{figuresText, output}
 use borrow.Author.Needs.{needs}
 use Rattle.coverage.proofs.put_output.Statement.{statement}

@@ -7,12 +7,12 @@ use denote.Ref.{now}
 use lib.Dec.{T}
 use lib.ListN.{length}
 use Rattle.network.proofs.Below.{length-map-below}
-use Rattle.stations.specs.Outcome.{turnedAway, given}
-use Rattle.stations.specs.declared.Answer.{Answer}
-use Rattle.soundness.specs.Sound.{sound}
+use Rattle.topology_types.specs.Outcome.{turnedAway, given}
+use Rattle.topology_types.specs.declared.Answer.{Answer}
+use Rattle.topology_sound.specs.Sound.{sound}
 use Rattle.table.specs.Calls.{unlessRefused, tableChecking}
 use Rattle.table.proofs.Verdicts.{tables-each}
-use Rattle.packet.specs.Calls.{figureByte, figures, countingHops}
+use Rattle.forwarding_rules.specs.Calls.{figureByte, figures, countingHops}
 use Rattle.forwarding.proofs.Returned.{passed-table}
 use Rattle.forwarding.proofs.greatest_hops.Statement.{statement}
 use Rattle.forwarding.proofs.greatest_hops.Tie as tie

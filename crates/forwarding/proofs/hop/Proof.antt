@@ -6,10 +6,10 @@ use borrow.Author.Needs.{needs}
 use borrow.Author.Tests.{not-true, not-false, lt-ltb, le-ltb, eq-eqb, ne-eqb}
 use denote.Ref.{now}
 use lib.Dec.{T}
-use Rattle.soundness.specs.Sound.{sound}
-use Rattle.stations.specs.declared.Answer.{Answer}
+use Rattle.topology_sound.specs.Sound.{sound}
+use Rattle.topology_types.specs.declared.Answer.{Answer}
 use Rattle.table.specs.Calls.{tableChecking}
-use Rattle.packet.specs.Calls.{packetIn, hopSays, tested, testedBy, testedOver, hopping}
+use Rattle.forwarding_rules.specs.Calls.{packetIn, hopSays, tested, testedBy, testedOver, hopping}
 use Rattle.forwarding.proofs.Returned.{judged-checked, passed-table, points-at, none-points}
 use Rattle.forwarding.proofs.hop.Statement.{statement}
 use Rattle.forwarding.proofs.hop.Tie as tie

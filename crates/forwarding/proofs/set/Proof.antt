@@ -6,8 +6,8 @@ use native.Mathlib.Omega.{arith}
 use borrow.Author.Needs.{needs}
 use borrow.Author.Tests.{not-true, not-false, lt-ltb, le-ltb}
 use Rattle.network.specs.Forwarding as network
-use Rattle.soundness.specs.Sound.{sound}
-use Rattle.packet.specs.Calls.{packetIn, settingSays, tested, settingAt}
+use Rattle.topology_sound.specs.Sound.{sound}
+use Rattle.forwarding_rules.specs.Calls.{packetIn, settingSays, tested, settingAt}
 use Rattle.forwarding.proofs.set.Statement.{statement}
 use Rattle.forwarding.proofs.set.Tie as tie
 

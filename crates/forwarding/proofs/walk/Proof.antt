@@ -9,12 +9,12 @@ use borrow.Author.Tests.{not-true, not-false, lt-ltb, le-ltb, ne-eqb}
 use denote.Ref.{now}
 use lib.Dec.{T}
 use lib.ListN.{length}
-use Rattle.soundness.specs.Sound.{sound}
-use Rattle.soundness.proofs.Sound.{sound-exact}
-use Rattle.stations.specs.declared.Answer.{Answer}
+use Rattle.topology_sound.specs.Sound.{sound}
+use Rattle.topology_sound.proofs.Sound.{sound-exact}
+use Rattle.topology_types.specs.declared.Answer.{Answer}
 use Rattle.table.specs.Calls.{tableChecking}
-use Rattle.packet.specs.Schedule.{soundLength}
-use Rattle.packet.specs.Calls.{walkSays, tested, testedBy, testedOver, walking}
+use Rattle.forwarding_rules.specs.Schedule.{soundLength}
+use Rattle.forwarding_rules.specs.Calls.{walkSays, tested, testedBy, testedOver, walking}
 use Rattle.forwarding.proofs.Returned.{judged-checked, passed-table, points-at, none-points}
 use Rattle.forwarding.proofs.walk.Statement.{statement}
 use Rattle.forwarding.proofs.walk.Tie as tie

@@ -3,8 +3,8 @@
 use mathlib.Core.Path.{_≡_}
 use native.Mathlib.Omega.{arith}
 use lib.Dec.{T}
-use Rattle.soundness.specs.Sound.{sound}
-use Rattle.programs.proofs.Right.{bytes}
+use Rattle.topology_sound.specs.Sound.{sound}
+use Rattle.program_io.proofs.Right.{bytes}
 use Rattle.ospf.specs.Import.{importing}
 use Rattle.ospf.proofs.Verdict.{import-sound}
 use Rattle.import.specs.Output.{tooLong}

@@ -4,11 +4,11 @@ use mathlib.Core.Path.{_≡_}
 use native.Mathlib.Omega.{arith}
 use borrow.Author.Tests.{eq-eqb, ne-eqb}
 use lib.Dec.{T}
-use Rattle.soundness.specs.Sound.{sound}
-use Rattle.soundness.proofs.Sound.{sound-exact}
-use Rattle.wording.proofs.Tables.{all-length}
-use Rattle.programs.specs.Output.{printed, outputBy}
-use Rattle.programs.proofs.Right.{refused-length, read-sound}
+use Rattle.topology_sound.specs.Sound.{sound}
+use Rattle.topology_sound.proofs.Sound.{sound-exact}
+use Rattle.listing_rules.proofs.Tables.{all-length}
+use Rattle.program_io.specs.Output.{printed, outputBy}
+use Rattle.program_io.proofs.Right.{refused-length, read-sound}
 use Rattle.listing.specs.Output.{output}
 use borrow.Author.Needs.{needs}
 use Rattle.listing.proofs.put_output.Statement.{statement}

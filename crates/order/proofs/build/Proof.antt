@@ -10,9 +10,9 @@ use borrow.Author.Tests.{not-true, not-false, lt-ltb, le-ltb}
 use lib.Dec.{T}
 use lib.ListN.{length}
 use Rattle.network.specs.Order.{build}
-use Rattle.soundness.specs.Sound.{sound}
-use Rattle.stations.specs.Topology.{networkOf}
-use Rattle.stations.specs.Outcome.{given, turnedAway}
+use Rattle.topology_sound.specs.Sound.{sound}
+use Rattle.topology_types.specs.Topology.{networkOf}
+use Rattle.topology_types.specs.Outcome.{given, turnedAway}
 use Rattle.order.specs.Calls.{orderBytes, building, modeOf}
 use Rattle.distances.proofs.Slots.{laid-out}
 use Rattle.order.specs.Proposed.{Lent}

@@ -7,7 +7,7 @@ use native.Mathlib.Omega.{arith}
 use borrow.Author.Needs.{needs}
 use borrow.Author.Tests.{not-true, not-false}
 use lib.Dec.{T}
-use Rattle.soundness.specs.Sound.{sound}
+use Rattle.topology_sound.specs.Sound.{sound}
 use Rattle.distances.proofs.Slots.{laid-out}
 use Rattle.order.proofs.Decided.{unsound, outside, judged}
 use Rattle.order.proofs.check.Statement.{statement}

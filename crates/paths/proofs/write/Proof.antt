@@ -10,14 +10,14 @@ use borrow.Author.Tests.{not-true, not-false, lt-ltb, le-ltb, ne-eqb}
 use denote.Ref.{now}
 use lib.Dec.{T, ltb}
 use lib.ListN.{length, take}
-use Rattle.stations.specs.declared.Answer.{Answer}
-use Rattle.stations.specs.Outcome.{given, turnedAway}
-use Rattle.soundness.specs.Sound.{sound}
+use Rattle.topology_types.specs.declared.Answer.{Answer}
+use Rattle.topology_types.specs.Outcome.{given, turnedAway}
+use Rattle.topology_sound.specs.Sound.{sound}
 use Rattle.table.specs.Calls.{unlessRefused, tableChecking}
 use Rattle.text.proofs.Stores.{put-start}
 use Rattle.forwarding.proofs.Returned.{judged-checked, passed-table}
-use Rattle.ways.specs.Calls.{pathsOf, pathsBytes, writingPaths}
-use Rattle.ways.specs.Theorems.{Passed}
+use Rattle.paths_rules.specs.Calls.{pathsOf, pathsBytes, writingPaths}
+use Rattle.paths_rules.specs.Theorems.{Passed}
 use Rattle.paths.proofs.Start.{beyond, within, needed, front}
 use Rattle.paths.proofs.write.Statement.{statement}
 use Rattle.paths.proofs.write.Tie as tie

@@ -3,9 +3,9 @@
 use mathlib.Core.Path.{sym, _∙_}
 use borrow.Author.Tests.{not-true, not-false}
 use lib.Dec.{T}
-use Rattle.stations.specs.Topology.{padded}
-use Rattle.soundness.specs.Sound.{sound}
-use Rattle.figures.specs.Coverage.{nothingCounted, coverage}
+use Rattle.topology_types.specs.Topology.{padded}
+use Rattle.topology_sound.specs.Sound.{sound}
+use Rattle.coverage_rules.specs.Coverage.{nothingCounted, coverage}
 use borrow.Author.Needs.{needs}
 use Rattle.report.proofs.coverage.Statement.{statement}
 use Rattle.report.proofs.coverage.Tie as tie

@@ -8,12 +8,12 @@ use native.Mathlib.Omega.{arith}
 use borrow.Author.Tests.{not-true, not-false, lt-ltb, le-ltb}
 use lib.Dec.{T, ltb}
 use lib.ListN.{length, take}
-use Rattle.stations.specs.Outcome.{given, turnedAway}
-use Rattle.soundness.specs.Sound.{sound}
+use Rattle.topology_types.specs.Outcome.{given, turnedAway}
+use Rattle.topology_sound.specs.Sound.{sound}
 use Rattle.text.proofs.Stores.{start, put-start}
-use Rattle.wording.specs.Listing.{linesFor, listing}
-use Rattle.wording.proofs.InTurn.{put-length}
-use Rattle.wording.proofs.Tables.{lines-length}
+use Rattle.listing_rules.specs.Listing.{linesFor, listing}
+use Rattle.listing_rules.proofs.InTurn.{put-length}
+use Rattle.listing_rules.proofs.Tables.{lines-length}
 use borrow.Author.Needs.{needs}
 use Rattle.report.proofs.listing.Statement.{statement}
 use Rattle.report.proofs.listing.Tie as tie

@@ -3,7 +3,7 @@ use text::unchecked::lines;
 ghost use Prim.Native.Nat.{_+_, _*_, _≤_, _<_};
 ghost use lib.ListN.{length};
 ghost use Rattle.text.specs.Lines.{Put};
-ghost use Rattle.wording.specs.Inner.{field, fieldsText, Short};
+ghost use Rattle.listing_rules.specs.Inner.{field, fieldsText, Short};
 
 // A space and a number.
 pub(crate) fn put_field(out: &mut [u8], at: usize, n: u8) -> usize

@@ -4,7 +4,7 @@ use Prim.Native.Nat.{_-_, _≤_}
 use mathlib.Core.Path.{_≡_, refl, _∙_}
 use native.Mathlib.Omega.{arith}
 use lib.ListN.{length}
-use Rattle.soundness.proofs.Sound.{sound-exact}
+use Rattle.topology_sound.proofs.Sound.{sound-exact}
 use borrow.Author.Needs.{needs}
 use Rattle.routes.proofs.write_each.Statement.{statement}
 use Rattle.routes.proofs.write_each.Tie as tie

@@ -6,9 +6,9 @@ use native.Mathlib.Omega.{arith}
 use lib.Dec.{T}
 use lib.ListN.{length}
 use lib.Seq.{length-take-le}
-use Rattle.soundness.specs.Sound.{sound}
-use Rattle.wording.proofs.InTurn.{ended}
-use Rattle.programs.proofs.Right.{refused-length, read-sound}
+use Rattle.topology_sound.specs.Sound.{sound}
+use Rattle.listing_rules.proofs.InTurn.{ended}
+use Rattle.program_io.proofs.Right.{refused-length, read-sound}
 use borrow.Author.Needs.{needs}
 use Rattle.routes.proofs.write_for.Statement.{statement}
 use Rattle.routes.proofs.write_for.Tie as tie

@@ -5,14 +5,14 @@ use mathlib.Core.Path.{_≡_, refl, sym, ap, _∙_}
 use native.Mathlib.Omega.{arith}
 use lib.ListN.{length, take}
 use lib.Seq.{take-at, length-take-le}
-use Rattle.soundness.proofs.Sound.{sound-exact}
+use Rattle.topology_sound.proofs.Sound.{sound-exact}
 use Rattle.order.specs.Calls.{modeOf}
-use Rattle.rows.specs.Bytes.{rowStart}
-use Rattle.wording.specs.Listing.{tableFor}
-use Rattle.wording.proofs.InTurn.{put-length}
-use Rattle.wording.proofs.Tables.{long}
-use Rattle.tracing.specs.Inner.{Toward}
-use Rattle.tracing.proofs.From.{lines-length}
+use Rattle.table_rows.specs.Bytes.{rowStart}
+use Rattle.listing_rules.specs.Listing.{tableFor}
+use Rattle.listing_rules.proofs.InTurn.{put-length}
+use Rattle.listing_rules.proofs.Tables.{long}
+use Rattle.paths_lines.specs.Inner.{Toward}
+use Rattle.paths_lines.proofs.From.{lines-length}
 use borrow.Author.Needs.{needs}
 use Rattle.routes.proofs.write_to.Statement.{statement}
 use Rattle.routes.proofs.write_to.Tie as tie

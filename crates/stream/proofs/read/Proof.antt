@@ -7,11 +7,11 @@ use mathlib.Core.Path.{_≡_, refl, sym, ap, _∙_}
 use native.Mathlib.Omega.{arith}
 use borrow.Author.Needs.{needs}
 use lib.ListN.{length, drop}
-use Rattle.records.specs.Halves.{opposite, linkOf}
-use Rattle.records.specs.declared.Record.{Record}
-use Rattle.records.specs.declared.Record.the-variants as record-of
-use Rattle.records.specs.Stream.{recordIn}
-use Rattle.records.specs.Reading.{refusal, fault, added, width, isEnd, ended, nothingListed}
+use Rattle.stream_rules.specs.Halves.{opposite, linkOf}
+use Rattle.stream_rules.specs.declared.Record.{Record}
+use Rattle.stream_rules.specs.declared.Record.the-variants as record-of
+use Rattle.stream_rules.specs.Stream.{recordIn}
+use Rattle.stream_rules.specs.Reading.{refusal, fault, added, width, isEnd, ended, nothingListed}
 use Rattle.stream.specs.declared.bytes.Taken.{Taken}
 use Rattle.stream.specs.Reader.{taken}
 use Rattle.stream.proofs.AtTurn.{turn-past, turn-end, turn-refused, each-byte}

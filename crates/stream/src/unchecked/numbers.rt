@@ -2,7 +2,7 @@
 ghost use mathlib.Core.Path.{_≡_};
 ghost use Prim.Native.Nat.{_+_, _*_, _≤_};
 ghost use lib.ListN.{length, getD, take, drop};
-ghost use Rattle.records.specs.Stream.{bigEndian};
+ghost use Rattle.stream_rules.specs.Stream.{bigEndian};
 
 // The number in the two bytes from at, big-endian.
 pub fn be16(s: &[u8], at: usize) -> u16

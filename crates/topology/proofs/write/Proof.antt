@@ -7,12 +7,12 @@ use native.Mathlib.Omega.{arith}
 use borrow.Author.Needs.{needs}
 use borrow.Author.Tests.{not-true, not-false, lt-ltb, le-ltb}
 use lib.ListN.{length, set, length-set}
-use Rattle.stations.specs.Topology.{contents}
-use Rattle.stations.specs.Outcome.{given, turnedAway}
-use Rattle.stations.specs.Inner.{Counted}
-use Rattle.soundness.specs.Sound.{sound}
-use Rattle.soundness.specs.Theorems.{Sound}
-use Rattle.soundness.proofs.Sound.{sound-exact}
+use Rattle.topology_types.specs.Topology.{contents}
+use Rattle.topology_types.specs.Outcome.{given, turnedAway}
+use Rattle.topology_types.specs.Inner.{Counted}
+use Rattle.topology_sound.specs.Sound.{sound}
+use Rattle.topology_sound.specs.Theorems.{Sound}
+use Rattle.topology_sound.proofs.Sound.{sound-exact}
 use Rattle.topology.specs.Written.{joinedOver, linkBytes, written, writing}
 use Rattle.topology.specs.Inner.{over}
 use Rattle.topology.proofs.Over.{over-start}

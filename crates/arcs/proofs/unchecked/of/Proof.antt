@@ -8,8 +8,8 @@ use native.Mathlib.Numerals.{add-one-le}
 use native.Mathlib.Omega.{arith}
 use borrow.Author.Count.{falls}
 use lib.ListN.{getD, getD-replicate}
-use Rattle.stations.specs.declared.Link.{Link}
-use Rattle.stations.specs.Topology.{seen}
+use Rattle.topology_types.specs.declared.Link.{Link}
+use Rattle.topology_types.specs.Topology.{seen}
 use Rattle.arcs.specs.declared.Arcs.{Arcs}
 use Rattle.arcs.specs.Arcs.{withArc, inSlots, linkBack, slotsBack}
 use Rattle.arcs.proofs.Among.{there, back}

@@ -9,7 +9,7 @@ use native.Mathlib.Numerals.{add-one}
 use lib.ListN.{length, drop, getD}
 use lib.Seq.{drop-length, drop-cons}
 use Rattle.text.specs.Fields.{before, after, field, asks}
-use Rattle.requests.specs.Requests.{setWord}
+use Rattle.console_held.specs.Requests.{setWord}
 use Rattle.console.specs.declared.answers.Shape.{Shape}
 use Rattle.console.specs.declared.answers.Request.{Request}
 use Rattle.console.specs.declared.answers.Request.the-variants.{Unknown}

@@ -1,8 +1,8 @@
 -- Each request has its function, and where it changes nothing the reply is all of it.
 -- Assumes nothing.
 use mathlib.Core.Path.{_≡_, sym, _∙_}
-use Rattle.requests.specs.Replies.{heldIn}
-use Rattle.requests.proofs.Replying.{kept-step, error-step}
+use Rattle.console_held.specs.Replies.{heldIn}
+use Rattle.console_held.proofs.Replying.{kept-step, error-step}
 use Rattle.console.specs.declared.answers.Request.{Request}
 use Rattle.console.specs.Answers.{requestIn, answer, answerTo}
 use borrow.Author.Needs.{needs}

@@ -6,7 +6,7 @@ use borrow.Author.Tests.{le-leb, lt-leb}
 use lib.ListN.{length}
 use lib.Seq.{length-take-le}
 use Rattle.console.specs.Answers.{answerHeld}
-use Rattle.requests.proofs.Replying.{error-step}
+use Rattle.console_held.proofs.Replying.{error-step}
 use borrow.Author.Needs.{needs}
 use Rattle.console.proofs.answers.step_held.Statement.{statement}
 use Rattle.console.proofs.answers.step_held.Tie as tie

@@ -39,17 +39,17 @@ use denote.Triple.Clauses.{ensured, lasts}
 use denote.Triple.Table.{entered, cited}
 use denote.Triple.Walked.{says, Stays, stay-ref, stay-none, stay-none-slice, walkOf, goes-none, goes-none-slice, goes-ref, Walks, ends-at, walked, walk-meets}
 use denote.Exit.{yes}
-use Rattle.stations.specs.declared.Topology.{Topology}
-use Rattle.stations.proofs.Topology as N
-use Rattle.stations.proofs.Topology.Laws as N′
-use Rattle.packet.specs.declared.Packet.{Packet}
-use Rattle.packet.specs.declared.Hopped.{Hopped}
-use Rattle.packet.specs.Calls.{packetIn, hopSays}
-use Rattle.packet.specs.Lent.{hoppingPacket}
-use Rattle.packet.proofs.Packet as P
-use Rattle.packet.proofs.Packet.Laws as P′
-use Rattle.packet.proofs.Hopped as S
-use Rattle.packet.proofs.Hopped.Laws as S′
+use Rattle.topology_types.specs.declared.Topology.{Topology}
+use Rattle.topology_types.proofs.Topology as N
+use Rattle.topology_types.proofs.Topology.Laws as N′
+use Rattle.forwarding_rules.specs.declared.Packet.{Packet}
+use Rattle.forwarding_rules.specs.declared.Hopped.{Hopped}
+use Rattle.forwarding_rules.specs.Calls.{packetIn, hopSays}
+use Rattle.forwarding_rules.specs.Lent.{hoppingPacket}
+use Rattle.forwarding_rules.proofs.Packet as P
+use Rattle.forwarding_rules.proofs.Packet.Laws as P′
+use Rattle.forwarding_rules.proofs.Hopped as S
+use Rattle.forwarding_rules.proofs.Hopped.Laws as S′
 use Rattle.forwarding.specs.declared.lending.LeftByHop.{LeftByHop}
 use Rattle.forwarding.specs.Inner.{hoppingChange}
 use Rattle.forwarding.proofs.lending.LeftByHop as R

@@ -1,7 +1,7 @@
 -- `forwarding::lending::is_moved` meets its contract: a case of the answer is a case of the definition.
 -- Assumes nothing.
 use borrow.Author.Needs.{needs}
-use Rattle.packet.specs.Calls.{hopSays}
+use Rattle.forwarding_rules.specs.Calls.{hopSays}
 use Rattle.forwarding.specs.Inner.{isMoved}
 use Rattle.forwarding.proofs.lending.is_moved.Statement.{statement}
 use Rattle.forwarding.proofs.lending.is_moved.Tie as tie

@@ -1,7 +1,7 @@
 -- `forwarding::lending::is_set` meets its contract: a case of the answer is a case of the definition.
 -- Assumes nothing.
 use borrow.Author.Needs.{needs}
-use Rattle.packet.specs.Calls.{settingSays}
+use Rattle.forwarding_rules.specs.Calls.{settingSays}
 use Rattle.forwarding.specs.Inner.{isSet}
 use Rattle.forwarding.proofs.lending.is_set.Statement.{statement}
 use Rattle.forwarding.proofs.lending.is_set.Tie as tie

@@ -1,7 +1,7 @@
 -- `forwarding::lending::left_by_hop` meets its contract: the packet and the flag are those after what the hop says.
 -- Assumes nothing.
 use borrow.Author.Needs.{needs}
-use Rattle.packet.specs.Lent.{hoppingPacket}
+use Rattle.forwarding_rules.specs.Lent.{hoppingPacket}
 use Rattle.forwarding.specs.Inner.{hoppingChange}
 use Rattle.forwarding.proofs.lending.left_by_hop.Statement.{statement}
 use Rattle.forwarding.proofs.lending.left_by_hop.Tie as tie

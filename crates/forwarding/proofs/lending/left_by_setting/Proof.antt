@@ -1,7 +1,7 @@
 -- `forwarding::lending::left_by_setting` meets its contract: the packet and the flag are those after what the setting says.
 -- Assumes nothing.
 use borrow.Author.Needs.{needs}
-use Rattle.packet.specs.Lent.{settingPacket}
+use Rattle.forwarding_rules.specs.Lent.{settingPacket}
 use Rattle.forwarding.specs.Inner.{settingChange}
 use Rattle.forwarding.proofs.lending.left_by_setting.Statement.{statement}
 use Rattle.forwarding.proofs.lending.left_by_setting.Tie as tie

@@ -40,17 +40,17 @@ use denote.Triple.Table.{entered, cited}
 use denote.Triple.Walked.{says, Stays, stay-none, stay-none-slice, walkOf, goes-none, goes-none-slice, Walks, ends-at, walked, walk-meets}
 use denote.Exit.{yes}
 use denote.Signature.{plain}
-use Rattle.stations.specs.declared.Topology.{Topology}
-use Rattle.stations.proofs.Topology as N
-use Rattle.stations.proofs.Topology.Laws as N′
-use Rattle.packet.specs.declared.Packet.{Packet}
-use Rattle.packet.specs.declared.Hopped.{Hopped}
-use Rattle.packet.specs.Calls.{packetIn, hopSays}
-use Rattle.packet.specs.Lent.{hoppingPacket}
-use Rattle.packet.proofs.Packet as P
-use Rattle.packet.proofs.Packet.Laws as P′
-use Rattle.packet.proofs.Hopped as S
-use Rattle.packet.proofs.Hopped.Laws as S′
+use Rattle.topology_types.specs.declared.Topology.{Topology}
+use Rattle.topology_types.proofs.Topology as N
+use Rattle.topology_types.proofs.Topology.Laws as N′
+use Rattle.forwarding_rules.specs.declared.Packet.{Packet}
+use Rattle.forwarding_rules.specs.declared.Hopped.{Hopped}
+use Rattle.forwarding_rules.specs.Calls.{packetIn, hopSays}
+use Rattle.forwarding_rules.specs.Lent.{hoppingPacket}
+use Rattle.forwarding_rules.proofs.Packet as P
+use Rattle.forwarding_rules.proofs.Packet.Laws as P′
+use Rattle.forwarding_rules.proofs.Hopped as S
+use Rattle.forwarding_rules.proofs.Hopped.Laws as S′
 use Rattle.forwarding.specs.declared.lending.AfterHop.{AfterHop}
 use Rattle.forwarding.proofs.lending.AfterHop as R
 use Rattle.forwarding.proofs.lending.AfterHop.Laws as R′

@@ -1,8 +1,8 @@
 -- `forwarding::lending::packet_after_hop` meets its contract: a case of the answer is a case of the definition.
 -- Assumes nothing.
 use borrow.Author.Needs.{needs}
-use Rattle.packet.specs.Calls.{hopSays}
-use Rattle.packet.specs.Lent.{afterHop}
+use Rattle.forwarding_rules.specs.Calls.{hopSays}
+use Rattle.forwarding_rules.specs.Lent.{afterHop}
 use Rattle.forwarding.proofs.lending.packet_after_hop.Statement.{statement}
 use Rattle.forwarding.proofs.lending.packet_after_hop.Tie as tie
 

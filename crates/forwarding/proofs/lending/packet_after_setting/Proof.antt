@@ -1,8 +1,8 @@
 -- `forwarding::lending::packet_after_setting` meets its contract: a case of the answer is a case of the definition.
 -- Assumes nothing.
 use borrow.Author.Needs.{needs}
-use Rattle.packet.specs.Calls.{settingSays}
-use Rattle.packet.specs.Lent.{afterSetting}
+use Rattle.forwarding_rules.specs.Calls.{settingSays}
+use Rattle.forwarding_rules.specs.Lent.{afterSetting}
 use Rattle.forwarding.proofs.lending.packet_after_setting.Statement.{statement}
 use Rattle.forwarding.proofs.lending.packet_after_setting.Tie as tie
 

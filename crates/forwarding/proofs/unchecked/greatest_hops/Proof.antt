@@ -6,10 +6,10 @@ use borrow.Author.Needs.{needs}
 use denote.Ref.{now}
 use Rattle.network.specs.Lists.{below}
 use Rattle.network.proofs.Below.{below-lt}
-use Rattle.soundness.proofs.Sound.{sound-exact}
+use Rattle.topology_sound.proofs.Sound.{sound-exact}
 use Rattle.order.proofs.Runs.{map-same}
-use Rattle.packet.specs.Calls.{figures}
-use Rattle.hops.specs.Inner.{boundOf}
+use Rattle.forwarding_rules.specs.Calls.{figures}
+use Rattle.forwarding_steps.specs.Inner.{boundOf}
 use Rattle.forwarding.proofs.unchecked.greatest_hops.Statement.{statement}
 use Rattle.forwarding.proofs.unchecked.greatest_hops.Tie as tie
 

@@ -11,11 +11,11 @@ use borrow.Author.Needs.{needs}
 use borrow.Author.Tests.{not-true, not-false}
 use lib.Dec.{leb}
 use lib.ListN.{length, getD, set, replicate}
-use Rattle.stations.specs.declared.Topology.{Topology}
+use Rattle.topology_types.specs.declared.Topology.{Topology}
 use Rattle.arcs.specs.declared.Arcs.{Arcs}
 use Rattle.distances.specs.Slots.{Slots}
-use Rattle.placing.specs.declared.Mode.{Mode}
-use Rattle.placing.specs.Standings.{Standing, Stepped}
+use Rattle.order_standings.specs.declared.Mode.{Mode}
+use Rattle.order_standings.specs.Standings.{Standing, Stepped}
 use Rattle.order.specs.Inner.{Begins}
 use Rattle.order.specs.Proposed.{LaidOut}
 use Rattle.order.proofs.Turn.{every-slot, slots, zeros-small, first-slots, first-room}

@@ -8,9 +8,9 @@ use native.Mathlib.Omega.{arith}
 use denote.Ref.{now}
 use lib.ListN.{length, take}
 use lib.Seq.{length-take-le}
-use Rattle.stations.specs.Inner.{firstOr}
-use Rattle.stations.specs.Topology.{networkOf}
-use Rattle.soundness.proofs.Sound.{sound-exact}
+use Rattle.topology_types.specs.Inner.{firstOr}
+use Rattle.topology_types.specs.Topology.{networkOf}
+use Rattle.topology_sound.proofs.Sound.{sound-exact}
 use Rattle.order.specs.Calls.{modeOf, reachedCount, wrongRanks, ranksAfter, unreadyRanks}
 use Rattle.order.proofs.Turn.{measured-laid, counts-reached}
 use Rattle.order.proofs.Orders.{few-reached, some-reached, proposal-begins}

@@ -10,7 +10,7 @@ use borrow.Author.Tests.{lt-ltb, le-ltb}
 use lib.Dec.{ltb}
 use lib.ListN.{length, getD}
 use Rattle.network.specs.Lists.{numbersFrom, below, keep}
-use Rattle.placing.proofs.Counts.{count-one, count-same, count-most}
+use Rattle.order_standings.proofs.Counts.{count-one, count-same, count-most}
 use Rattle.order.proofs.unchecked.reached_count.Statement.{statement}
 use Rattle.order.proofs.unchecked.reached_count.Tie as tie
 

@@ -5,10 +5,10 @@ use mathlib.Core.Path.{_≡_, refl, sym, ap, _∙_}
 use native.Mathlib.Omega.{arith}
 use borrow.Author.Needs.{needs}
 use lib.ListN.{length}
-use Rattle.records.specs.Reading.{refusal, fault, nothingListed}
-use Rattle.records.specs.declared.Record.the-variants as record-of
+use Rattle.stream_rules.specs.Reading.{refusal, fault, nothingListed}
+use Rattle.stream_rules.specs.declared.Record.the-variants as record-of
 use Rattle.stream.proofs.Filled.{listed, id-slots, ids-are, room-router}
-use Rattle.lsas.proofs.Walk.{Lies, lies}
+use Rattle.ospf_lsas.proofs.Walk.{Lies, lies}
 use Rattle.ospf.proofs.Routed.{Routed, routed-first, routed-off, routed-on, routed-end}
 use Rattle.ospf.proofs.unchecked.routers_of.Statement.{statement}
 use Rattle.ospf.proofs.unchecked.routers_of.Tie as tie

@@ -8,17 +8,17 @@ use native.Mathlib.Omega.{arith}
 use borrow.Author.Needs.{needs}
 use lib.ListN.{length, take, drop, getD, length-map}
 use lib.Seq.{length-take-le, getD-take}
-use Rattle.stations.specs.declared.Half.{Half}
-use Rattle.records.specs.declared.Record.the-variants as record-of
+use Rattle.topology_types.specs.declared.Half.{Half}
+use Rattle.stream_rules.specs.declared.Record.the-variants as record-of
 use Rattle.stream.proofs.AtTurn.{each-byte}
 use Rattle.stream.proofs.Filled.{contents-are, listed, few, id-slots, routers-are, ids-are, indexed, roomy, room-half, past-half}
-use Rattle.stations.specs.Topology.{Contents}
-use Rattle.records.specs.Reading.{refusal, fault, ended}
-use Rattle.records.specs.Inner.{Indexed}
-use Rattle.lsas.specs.Lsa.{links, lsas}
-use Rattle.neighbours.specs.Neighbours.{allOf, halvesOf}
+use Rattle.topology_types.specs.Topology.{Contents}
+use Rattle.stream_rules.specs.Reading.{refusal, fault, ended}
+use Rattle.stream_rules.specs.Inner.{Indexed}
+use Rattle.ospf_lsas.specs.Lsa.{links, lsas}
+use Rattle.ospf_halves.specs.Neighbours.{allOf, halvesOf}
 use Rattle.ospf.specs.Import.{idOf, halvesAt, atLast}
-use Rattle.lsas.proofs.Walk.{Lies, lies}
+use Rattle.ospf_lsas.proofs.Walk.{Lies, lies}
 use Rattle.ospf.proofs.Routed.{here}
 use Rattle.ospf.proofs.Halving.{same-part, all-whole, idsIn, Halving, Within, halving-first, whole-here, room, within-first, halving-next, halving-end, cost-fits, within-off, within-on}
 use Rattle.ospf.proofs.unchecked.with_halves.Statement.{statement}

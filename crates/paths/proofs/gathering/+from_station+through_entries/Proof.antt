@@ -9,9 +9,9 @@ use borrow.Fn.Kinds.{In}
 use borrow.Fn.PlainCycle.{Measures, is, falls, and}
 use denote.Ref.{now}
 use lib.ListN.{getD}
-use Rattle.stations.specs.declared.Topology.{Topology}
-use Rattle.packet.specs.Theorems.{rankByte}
-use Rattle.ways.specs.Theorems.{Passed}
+use Rattle.topology_types.specs.declared.Topology.{Topology}
+use Rattle.forwarding_rules.specs.Theorems.{rankByte}
+use Rattle.paths_rules.specs.Theorems.{Passed}
 use Rattle.paths.proofs.Behind.{none, stopped, then, at-most}
 use Rattle.paths.proofs.Turns.{table-long, few-entries, row-of, arrives, goes-on, Next, past, next, asked-next, asked-again}
 use Rattle.paths.proofs.gathering.from_station.Reads as from-station

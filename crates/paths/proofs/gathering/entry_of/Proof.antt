@@ -3,7 +3,7 @@
 use mathlib.Core.Path.{refl}
 use native.Mathlib.Omega.{arith}
 use borrow.Author.Needs.{needs}
-use Rattle.rows.specs.Bytes.{rowStart}
+use Rattle.table_rows.specs.Bytes.{rowStart}
 use Rattle.paths.specs.Inner.{Reads}
 use Rattle.paths.proofs.gathering.entry_of.Statement.{statement}
 use Rattle.paths.proofs.gathering.entry_of.Tie as tie

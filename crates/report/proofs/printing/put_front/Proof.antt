@@ -4,9 +4,9 @@ use native.Mathlib.Omega.{arith}
 use borrow.Author.Needs.{needs}
 use Rattle.text.proofs.Stores.{behind}
 use Rattle.text.proofs.Texts.{small-length}
-use Rattle.wording.specs.Inner.{frontText}
-use Rattle.wording.proofs.InTurn.{ended}
-use Rattle.wording.proofs.Fields.{field-length, byte-length}
+use Rattle.listing_rules.specs.Inner.{frontText}
+use Rattle.listing_rules.proofs.InTurn.{ended}
+use Rattle.listing_rules.proofs.Fields.{field-length, byte-length}
 use Rattle.report.proofs.printing.put_front.Statement.{statement}
 use Rattle.report.proofs.printing.put_front.Tie as tie
 

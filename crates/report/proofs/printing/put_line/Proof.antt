@@ -7,8 +7,8 @@ use borrow.Author.Needs.{needs}
 use lib.ListN.{length, length-set}
 use Rattle.text.specs.Lines.{newline}
 use Rattle.text.proofs.Stores.{behind}
-use Rattle.wording.proofs.InTurn.{put-length, ended, put-byte}
-use Rattle.wording.proofs.Fields.{front-length, row-length, line-fields}
+use Rattle.listing_rules.proofs.InTurn.{put-length, ended, put-byte}
+use Rattle.listing_rules.proofs.Fields.{front-length, row-length, line-fields}
 use Rattle.report.proofs.printing.put_line.Statement.{statement}
 use Rattle.report.proofs.printing.put_line.Tie as tie
 

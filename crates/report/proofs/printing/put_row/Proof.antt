@@ -3,8 +3,8 @@
 use mathlib.Core.Path.{refl}
 use native.Mathlib.Omega.{arith}
 use borrow.Author.Needs.{needs}
-use Rattle.wording.proofs.InTurn.{put-length}
-use Rattle.wording.proofs.Fields.{row-none, row-some}
+use Rattle.listing_rules.proofs.InTurn.{put-length}
+use Rattle.listing_rules.proofs.Fields.{row-none, row-some}
 use Rattle.report.proofs.printing.put_row.Statement.{statement}
 use Rattle.report.proofs.printing.put_row.Tie as tie
 

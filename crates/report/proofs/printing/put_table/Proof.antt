@@ -6,12 +6,12 @@ use native.Mathlib.Omega.{arith}
 use lib.ListN.{length, getD, take, drop}
 use Rattle.network.specs.Lists.{numbersFrom, below}
 use Rattle.arcs.proofs.Slots.{below-more}
-use Rattle.rows.specs.Bytes.{rowStart}
+use Rattle.table_rows.specs.Bytes.{rowStart}
 use Rattle.table.specs.Listed.{rankIn, placesIn}
-use Rattle.wording.specs.declared.Front.{Front}
-use Rattle.wording.specs.Inner.{mostLine, lineOf, lineIn, tableText, Small}
-use Rattle.wording.proofs.InTurn.{SoFar, none, more}
-use Rattle.wording.proofs.Fields.{line-length}
+use Rattle.listing_rules.specs.declared.Front.{Front}
+use Rattle.listing_rules.specs.Inner.{mostLine, lineOf, lineIn, tableText, Small}
+use Rattle.listing_rules.proofs.InTurn.{SoFar, none, more}
+use Rattle.listing_rules.proofs.Fields.{line-length}
 use Rattle.report.proofs.printing.put_table.Statement.{statement}
 use Rattle.report.proofs.printing.put_table.Tie as tie
 

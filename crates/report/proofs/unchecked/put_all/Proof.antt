@@ -5,11 +5,11 @@ use mathlib.Core.Path.{_≡_}
 use native.Mathlib.Omega.{arith}
 use Rattle.network.specs.Lists.{numbersFrom, below}
 use Rattle.arcs.proofs.Slots.{below-more}
-use Rattle.soundness.proofs.Sound.{sound-exact}
-use Rattle.wording.specs.Listing.{linesFor, allLines}
-use Rattle.wording.specs.Inner.{mostLines}
-use Rattle.wording.proofs.InTurn.{SoFar, none, more}
-use Rattle.wording.proofs.Tables.{lines-length}
+use Rattle.topology_sound.proofs.Sound.{sound-exact}
+use Rattle.listing_rules.specs.Listing.{linesFor, allLines}
+use Rattle.listing_rules.specs.Inner.{mostLines}
+use Rattle.listing_rules.proofs.InTurn.{SoFar, none, more}
+use Rattle.listing_rules.proofs.Tables.{lines-length}
 use Rattle.report.proofs.unchecked.put_all.Statement.{statement}
 use Rattle.report.proofs.unchecked.put_all.Tie as tie
 

@@ -6,11 +6,11 @@ use mathlib.Core.Path.{_≡_, sym, ap, _∙_}
 use native.Mathlib.Omega.{arith}
 use lib.ListN.{length, take}
 use lib.Seq.{take-at}
-use Rattle.soundness.proofs.Sound.{sound-exact}
+use Rattle.topology_sound.proofs.Sound.{sound-exact}
 use Rattle.order.specs.Calls.{modeOf}
-use Rattle.rows.specs.Bytes.{rowStart}
-use Rattle.wording.specs.Listing.{tableFor}
-use Rattle.wording.proofs.Tables.{accepted, long, listable, lines}
+use Rattle.table_rows.specs.Bytes.{rowStart}
+use Rattle.listing_rules.specs.Listing.{tableFor}
+use Rattle.listing_rules.proofs.Tables.{accepted, long, listable, lines}
 use borrow.Author.Needs.{needs}
 use Rattle.report.proofs.unchecked.put_lines.Statement.{statement}
 use Rattle.report.proofs.unchecked.put_lines.Tie as tie

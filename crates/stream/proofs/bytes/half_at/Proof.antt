@@ -4,8 +4,8 @@ use Prim.Native.Nat.{_+_}
 use native.Mathlib.Omega.{arith}
 use borrow.Author.Needs.{needs}
 use denote.Ref.{now}
-use Rattle.records.specs.Stream.{halfIn}
-use Rattle.records.proofs.Stream.{two-bytes, two-at}
+use Rattle.stream_rules.specs.Stream.{halfIn}
+use Rattle.stream_rules.proofs.Stream.{two-bytes, two-at}
 use Rattle.stream.proofs.bytes.half_at.Statement.{statement}
 use Rattle.stream.proofs.bytes.half_at.Tie as tie
 

@@ -8,9 +8,9 @@ use borrow.Author.Needs.{needs}
 use denote.Ref.{now}
 use lib.ListN.{getD, drop-of-length-le}
 use lib.Seq.{drop-cons}
-use Rattle.records.specs.declared.Record.the-variants as record-of
-use Rattle.records.specs.Stream.{recordIn, bodyLength, decoded}
-use Rattle.records.proofs.Stream.{cut-at, whole-at, unknown-at}
+use Rattle.stream_rules.specs.declared.Record.the-variants as record-of
+use Rattle.stream_rules.specs.Stream.{recordIn, bodyLength, decoded}
+use Rattle.stream_rules.proofs.Stream.{cut-at, whole-at, unknown-at}
 use Rattle.stream.proofs.bytes.record_at.Statement.{statement}
 use Rattle.stream.proofs.bytes.record_at.Tie as tie
 

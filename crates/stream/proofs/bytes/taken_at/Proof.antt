@@ -5,8 +5,8 @@ use native.Mathlib.Omega.{arith}
 use borrow.Author.Needs.{needs}
 use denote.Ref.{now}
 use lib.ListN.{drop, length-drop}
-use Rattle.records.specs.Reading.{width}
-use Rattle.records.proofs.Stream.{width-within}
+use Rattle.stream_rules.specs.Reading.{width}
+use Rattle.stream_rules.proofs.Stream.{width-within}
 use Rattle.stream.specs.Reader.{taken}
 use Rattle.stream.proofs.bytes.taken_at.Statement.{statement}
 use Rattle.stream.proofs.bytes.taken_at.Tie as tie

@@ -49,9 +49,9 @@ use denote.Triple.Table.{entered, cited}
 use denote.Triple.Walked.{says, Stays, stay-none, stay-none-slice, walkOf, goes-none, goes-none-slice, Walks, ends-at, walked, walk-meets}
 use denote.Exit.{yes}
 use denote.Triple.Clauses.{ensured, lasts}
-use Rattle.records.specs.declared.Record.{Record}
-use Rattle.records.proofs.Record as S
-use Rattle.records.proofs.Record.Laws as S′
+use Rattle.stream_rules.specs.declared.Record.{Record}
+use Rattle.stream_rules.proofs.Record as S
+use Rattle.stream_rules.proofs.Record.Laws as S′
 use Rattle.stream.specs.Reader.{Next, taken, next}
 use Rattle.stream.specs.declared.reader.Reader.{Reader}
 use Rattle.stream.specs.declared.bytes.Taken.{Taken}

@@ -46,8 +46,8 @@ use denote.Triple.Spec.{Meets, tripleOf}
 use denote.Triple.Table.{entered, cited}
 use denote.Triple.Walked.{says, Stays, stay-ref, walkOf, goes-ref, Walks, ends-at, walked, walk-meets}
 use denote.Triple.Clauses.{ensured, lasts}
-use Rattle.records.proofs.Record as S
-use Rattle.records.proofs.Record.Laws as S′
+use Rattle.stream_rules.proofs.Record as S
+use Rattle.stream_rules.proofs.Record.Laws as S′
 use Rattle.stream.specs.Reader.{Next, taken, next}
 use Rattle.stream.specs.declared.reader.Reader.{Reader}
 use Rattle.stream.specs.declared.bytes.Taken.{Taken}

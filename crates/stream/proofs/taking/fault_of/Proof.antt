@@ -1,7 +1,7 @@
 -- `stream::taking::fault_of` meets its contract, record by record.
 -- Assumes nothing.
 use borrow.Author.Needs.{needs}
-use Rattle.records.specs.Reading.{fault}
+use Rattle.stream_rules.specs.Reading.{fault}
 use Rattle.stream.proofs.taking.fault_of.Statement.{statement}
 use Rattle.stream.proofs.taking.fault_of.Tie as tie
 

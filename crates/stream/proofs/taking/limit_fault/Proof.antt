@@ -1,8 +1,8 @@
 -- `stream::taking::limit_fault` meets its contract: its tests are those of `within`.
 -- Assumes nothing.
 use borrow.Author.Tests.{le-leb, lt-leb}
-use Rattle.stations.specs.Limits.{mostNextHops}
-use Rattle.soundness.specs.Sound.{within}
+use Rattle.topology_types.specs.Limits.{mostNextHops}
+use Rattle.topology_sound.specs.Sound.{within}
 use Rattle.stream.proofs.taking.limit_fault.Statement.{statement}
 use Rattle.stream.proofs.taking.limit_fault.Tie as tie
 

@@ -1,7 +1,7 @@
 -- `stream::taking::width_of` meets its contract, record by record.
 -- Assumes nothing.
 use borrow.Author.Needs.{needs}
-use Rattle.records.specs.Reading.{width}
+use Rattle.stream_rules.specs.Reading.{width}
 use Rattle.stream.proofs.taking.width_of.Statement.{statement}
 use Rattle.stream.proofs.taking.width_of.Tie as tie
 

@@ -1,7 +1,7 @@
 -- `stream::unchecked::blank` meets its contract: all slots are unused, so that what it holds is computed.
 -- Assumes nothing.
 use mathlib.Core.Path.{refl}
-use Rattle.stations.specs.Topology.{noLink, padded, held}
+use Rattle.topology_types.specs.Topology.{noLink, padded, held}
 use Rattle.stream.proofs.unchecked.blank.Statement.{statement}
 use Rattle.stream.proofs.unchecked.blank.Tie as tie
 

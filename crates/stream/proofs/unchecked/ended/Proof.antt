@@ -3,10 +3,10 @@
 use mathlib.Core.Path.{ap}
 use borrow.Author.Needs.{needs}
 use borrow.Author.Tests.{lt-ltb, le-ltb, eq-eqb, ne-eqb}
-use Rattle.records.specs.Reading.{accepted}
-use Rattle.records.specs.Reading as said
-use Rattle.records.specs.Theorems.{success}
-use Rattle.records.proofs.Held.{routers-held}
+use Rattle.stream_rules.specs.Reading.{accepted}
+use Rattle.stream_rules.specs.Reading as said
+use Rattle.stream_rules.specs.Theorems.{success}
+use Rattle.stream_rules.proofs.Held.{routers-held}
 use Rattle.stream.proofs.unchecked.ended.Statement.{statement}
 use Rattle.stream.proofs.unchecked.ended.Tie as tie
 

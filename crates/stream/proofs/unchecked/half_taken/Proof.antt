@@ -8,7 +8,7 @@ use native.Mathlib.Omega.{arith}
 use borrow.Author.Needs.{needs}
 use borrow.Author.Tests.{eq-eqb, ne-eqb}
 use lib.ListN.{getD}
-use Rattle.stations.specs.declared.Half.{Half}
+use Rattle.topology_types.specs.declared.Half.{Half}
 use Rattle.stream.specs.Inner.{oppositeCost, paired}
 use Rattle.stream.proofs.unchecked.half_taken.Statement.{statement}
 use Rattle.stream.proofs.unchecked.half_taken.Tie as tie

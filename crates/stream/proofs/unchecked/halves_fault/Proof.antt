@@ -11,12 +11,12 @@ use borrow.Author.Tests.{lt-ltb, le-ltb, le-leb, lt-leb, eq-eqb, ne-eqb}
 use lib.Dec.{eqb, leb, ltb}
 use lib.ListN.{length, getD}
 use Rattle.network.specs.Lists.{any}
-use Rattle.stations.specs.declared.Half.{Half}
-use Rattle.stations.specs.Limits.{mostRouters, mostHalves, mostNeighbours}
-use Rattle.records.specs.Halves.{Listing, opposite}
-use Rattle.records.specs.Reading.{repeated, crowded, halvesFault}
-use Rattle.records.specs.Inner.{Indexed}
-use Rattle.records.proofs.Faults.{repeated-by, crowded-by, from-6, from-7, from-8, from-9, from-10}
+use Rattle.topology_types.specs.declared.Half.{Half}
+use Rattle.topology_types.specs.Limits.{mostRouters, mostHalves, mostNeighbours}
+use Rattle.stream_rules.specs.Halves.{Listing, opposite}
+use Rattle.stream_rules.specs.Reading.{repeated, crowded, halvesFault}
+use Rattle.stream_rules.specs.Inner.{Indexed}
+use Rattle.stream_rules.proofs.Faults.{repeated-by, crowded-by, from-6, from-7, from-8, from-9, from-10}
 use Rattle.stream.proofs.unchecked.halves_fault.Statement.{statement}
 use Rattle.stream.proofs.unchecked.halves_fault.Tie as tie
 

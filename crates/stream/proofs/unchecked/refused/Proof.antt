@@ -1,8 +1,8 @@
 -- `stream::unchecked::refused` meets its contract: it returns the topology of all zeros.
 -- Assumes nothing.
 use borrow.Author.Needs.{needs}
-use Rattle.stations.specs.Topology.{zeros}
-use Rattle.records.specs.Reading.{refusal}
+use Rattle.topology_types.specs.Topology.{zeros}
+use Rattle.stream_rules.specs.Reading.{refusal}
 use Rattle.stream.proofs.unchecked.refused.Statement.{statement}
 use Rattle.stream.proofs.unchecked.refused.Tie as tie
 

@@ -8,9 +8,9 @@ use borrow.Author.Tests.{le-leb, lt-leb}
 use lib.Dec.{leb}
 use lib.ListN.{take}
 use lib.Seq.{length-take-le}
-use Rattle.stations.specs.Limits.{mostRouters}
-use Rattle.stations.specs.Topology.{Contents}
-use Rattle.records.specs.Reading.{routerFault}
+use Rattle.topology_types.specs.Limits.{mostRouters}
+use Rattle.topology_types.specs.Topology.{Contents}
+use Rattle.stream_rules.specs.Reading.{routerFault}
 use Rattle.stream.proofs.unchecked.router_fault.Statement.{statement}
 use Rattle.stream.proofs.unchecked.router_fault.Tie as tie
 

@@ -7,7 +7,7 @@ use borrow.Author.Needs.{needs}
 use borrow.Author.Tests.{eq-eqb, ne-eqb, lt-ltb, le-ltb, le-leb, lt-leb}
 use lib.Dec.{eqb, ltb}
 use lib.ListN.{getD}
-use Rattle.soundness.specs.Sound.{within}
+use Rattle.topology_sound.specs.Sound.{within}
 use Rattle.table.specs.Listed.{kindIn, destinationIn, countIn, limitIn}
 use Rattle.table.specs.Calls.{soundHeader}
 use Rattle.table.proofs.reading.header_is_sound.Statement.{statement}

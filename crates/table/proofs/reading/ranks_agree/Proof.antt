@@ -12,7 +12,7 @@ use Rattle.network.specs.Lists.{below, every}
 use Rattle.network.proofs.Below.{mem-below, below-lt}
 use Rattle.network.proofs.Lists.{every-all, all-every}
 use Rattle.network.proofs.Tests.{as-true, as-false, eq-test}
-use Rattle.rows.specs.Bytes.{rowStart}
+use Rattle.table_rows.specs.Bytes.{rowStart}
 use Rattle.table.specs.Listed.{rankIn}
 use Rattle.table.proofs.reading.ranks_agree.Statement.{statement}
 use Rattle.table.proofs.reading.ranks_agree.Tie as tie

@@ -9,8 +9,8 @@ use lib.ListN.{length, take, drop, replicate, length-take}
 use lib.Seq.{take-at}
 use Rattle.network.specs.Order.{free, build}
 use Rattle.network.specs.Theorems.Order.{Accepted}
-use Rattle.stations.specs.Topology.{padded, networkOf}
-use Rattle.soundness.proofs.Sound.{sound-exact}
+use Rattle.topology_types.specs.Topology.{padded, networkOf}
+use Rattle.topology_sound.proofs.Sound.{sound-exact}
 use Rattle.distances.specs.Settled.{Settled}
 use Rattle.distances.proofs.Slots.{laid-out}
 use Rattle.order.specs.Proposed.{Lent, Measured}

@@ -12,13 +12,13 @@ use lib.Dec.{T}
 use lib.ListN.{getD}
 use lib.Seq.{length-take-le}
 use Rattle.network.proofs.Tests.{both}
-use Rattle.soundness.proofs.Sound.{sound-exact}
-use Rattle.stations.specs.declared.Answer.{Answer}
-use Rattle.placing.specs.declared.Mode.the-variants as mode
+use Rattle.topology_sound.proofs.Sound.{sound-exact}
+use Rattle.topology_types.specs.declared.Answer.{Answer}
+use Rattle.order_standings.specs.declared.Mode.the-variants as mode
 use Rattle.distances.proofs.Slots.{laid-out}
 use Rattle.order.specs.Calls.{judging}
 use Rattle.order.specs.Proposed.{Measured}
-use Rattle.rows.specs.Bytes.{rowStart}
+use Rattle.table_rows.specs.Bytes.{rowStart}
 use Rattle.table.specs.Listed.{destinationIn, byRank}
 use Rattle.table.specs.Calls.{soundHeader}
 use Rattle.table.proofs.Accepting.{header-place}

@@ -12,12 +12,12 @@ use lib.Dec.{eqb}
 use lib.ListN.{length, getD, take, length-take}
 use lib.Seq.{take-at, take-take}
 use Rattle.network.specs.Lists.{below, every}
-use Rattle.stations.specs.Topology.{padded, networkOf}
-use Rattle.soundness.proofs.Sound.{sound-exact}
+use Rattle.topology_types.specs.Topology.{padded, networkOf}
+use Rattle.topology_sound.proofs.Sound.{sound-exact}
 use Rattle.order.specs.Calls.{reachedCount, orderBytes}
 use Rattle.order.proofs.Turn.{counts-reached}
 use Rattle.order.proofs.Orders.{few-reached}
-use Rattle.rows.specs.Bytes.{tableBytes, rowStart}
+use Rattle.table_rows.specs.Bytes.{tableBytes, rowStart}
 use Rattle.table.specs.Listed.{destinationIn, limitIn, rankIn, orderIn}
 use Rattle.table.specs.Calls.{soundRanks, wrongBytes}
 use Rattle.table.specs.Inner.{firstWrong}

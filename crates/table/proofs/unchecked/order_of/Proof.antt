@@ -13,10 +13,10 @@ use lib.ListN.{length, getD, take, getD-replicate, length-set}
 use lib.Seq.{getD-take, ext-getD, length-take-le}
 use Rattle.network.specs.Lists.{numbersFrom, below, keep}
 use Rattle.network.proofs.Below.{getD-below, length-map-below}
-use Rattle.stations.specs.Inner.{firstOr}
+use Rattle.topology_types.specs.Inner.{firstOr}
 use Rattle.order.proofs.Runs.{down-none, down-more, down-all}
 use Rattle.distances.proofs.Stored.{stored}
-use Rattle.rows.specs.Bytes.{rowStart}
+use Rattle.table_rows.specs.Bytes.{rowStart}
 use Rattle.table.specs.Listed.{rankIn, byRank}
 use Rattle.table.proofs.unchecked.order_of.Statement.{statement}
 use Rattle.table.proofs.unchecked.order_of.Tie as tie

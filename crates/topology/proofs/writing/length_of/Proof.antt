@@ -5,9 +5,9 @@ use native.Mathlib.Omega.{arith}
 use borrow.Author.Needs.{needs}
 use lib.ListN.{length, take}
 use lib.Seq.{length-take-le}
-use Rattle.stations.specs.declared.Topology.{Topology}
-use Rattle.stations.specs.Topology.{contents}
-use Rattle.stations.proofs.Machine.{ids-length, links-length}
+use Rattle.topology_types.specs.declared.Topology.{Topology}
+use Rattle.topology_types.specs.Topology.{contents}
+use Rattle.topology_types.proofs.Machine.{ids-length, links-length}
 use Rattle.topology.proofs.WrittenLength.{links-most, written-parts}
 use Rattle.topology.proofs.writing.length_of.Statement.{statement}
 use Rattle.topology.proofs.writing.length_of.Tie as tie

@@ -5,8 +5,8 @@ use mathlib.Core.Path.{_≡_, refl, ap, _∙_}
 use native.Mathlib.Omega.{arith}
 use lib.ListN.{length, take}
 use lib.Seq.{length-take-le}
-use Rattle.stations.specs.Topology.{contents, noLink}
-use Rattle.stations.proofs.Machine.{links-length}
+use Rattle.topology_types.specs.Topology.{contents, noLink}
+use Rattle.topology_types.proofs.Machine.{links-length}
 use Rattle.topology.specs.Written.{joinedOver, linkBytes}
 use Rattle.topology.proofs.Joined.{firsts-more}
 use Rattle.topology.proofs.WrittenLength.{links-most}

@@ -5,7 +5,7 @@ use mathlib.Core.Path.{_≡_, sym, ap, _∙_}
 use native.Mathlib.Omega.{arith}
 use lib.ListN.{length, take}
 use lib.Seq.{length-take-le, take-all}
-use Rattle.stations.proofs.Prefix.{take-more}
+use Rattle.topology_types.proofs.Prefix.{take-more}
 use Rattle.topology.specs.Inner.{over}
 use Rattle.topology.proofs.Over.{over-none, over-length, over-next}
 use Rattle.topology.proofs.writing.put_bytes.Statement.{statement}

@@ -3,8 +3,8 @@
 use mathlib.Core.Path.{refl}
 use native.Mathlib.Omega.{arith}
 use borrow.Author.Needs.{needs}
-use Rattle.records.specs.Stream.{inBytes}
-use Rattle.records.specs.Halves.{firstHalf, secondHalf}
+use Rattle.stream_rules.specs.Stream.{inBytes}
+use Rattle.stream_rules.specs.Halves.{firstHalf, secondHalf}
 use Rattle.topology.specs.Written.{halfBody, halfBytes}
 use Rattle.topology.proofs.Over.{over-over}
 use Rattle.topology.proofs.LinkBytes.{agreeing-bytes, agreeing-long, differing-bytes, differing-long}

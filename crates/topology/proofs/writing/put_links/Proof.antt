@@ -4,8 +4,8 @@ use Prim.Native.Nat.{_-_}
 use mathlib.Core.Path.{_≡_, refl}
 use native.Mathlib.Omega.{arith}
 use lib.ListN.{length}
-use Rattle.stations.specs.Topology.{contents, noLink}
-use Rattle.stations.proofs.Machine.{links-length}
+use Rattle.topology_types.specs.Topology.{contents, noLink}
+use Rattle.topology_types.proofs.Machine.{links-length}
 use Rattle.topology.specs.Written.{linkBytes}
 use Rattle.topology.proofs.Joined.{FirstPut, first-none, first-length, first-fits, first-next, first-all}
 use Rattle.topology.proofs.writing.put_links.Statement.{statement}

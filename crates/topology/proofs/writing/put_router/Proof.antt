@@ -4,7 +4,7 @@ use native.Mathlib.Nat.{div-one}
 use native.Mathlib.Omega.{arith}
 use borrow.Author.Needs.{needs}
 use lib.ListN.{length-set}
-use Rattle.records.specs.Stream.{inBytes}
+use Rattle.stream_rules.specs.Stream.{inBytes}
 use Rattle.topology.specs.Written.{routerBytes}
 use Rattle.topology.proofs.Over.{over-five}
 use Rattle.topology.proofs.writing.put_router.Statement.{statement}

@@ -5,8 +5,8 @@ use mathlib.Core.Path.{_≡_}
 use native.Mathlib.Omega.{arith}
 use lib.ListN.{length, take}
 use lib.Seq.{length-take-le}
-use Rattle.stations.specs.Topology.{contents}
-use Rattle.stations.proofs.Machine.{ids-length}
+use Rattle.topology_types.specs.Topology.{contents}
+use Rattle.topology_types.proofs.Machine.{ids-length}
 use Rattle.topology.specs.Written.{routerBytes}
 use Rattle.topology.proofs.Joined.{router-five, joined-many, FirstPut, first-none, first-length, first-next, first-all}
 use Rattle.topology.proofs.writing.put_routers.Statement.{statement}

@@ -6,8 +6,8 @@ use native.Mathlib.Omega.{arith}
 use borrow.Author.Needs.{needs}
 use lib.ListN.{length}
 use Rattle.text.proofs.Stores.{behind}
-use Rattle.wording.proofs.InTurn.{ended, put-byte}
-use Rattle.wording.proofs.Fields.{field-length, byte-digits}
+use Rattle.listing_rules.proofs.InTurn.{ended, put-byte}
+use Rattle.listing_rules.proofs.Fields.{field-length, byte-digits}
 use Rattle.report.proofs.unchecked.fields.put_byte_field.Statement.{statement}
 use Rattle.report.proofs.unchecked.fields.put_byte_field.Tie as tie
 

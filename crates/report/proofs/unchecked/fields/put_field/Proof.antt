@@ -6,7 +6,7 @@ use borrow.Author.Needs.{needs}
 use lib.ListN.{length-set}
 use Rattle.text.specs.Fields.{space}
 use Rattle.text.proofs.Stores.{behind}
-use Rattle.wording.proofs.InTurn.{put-length, put-byte}
+use Rattle.listing_rules.proofs.InTurn.{put-length, put-byte}
 use Rattle.report.proofs.unchecked.fields.put_field.Statement.{statement}
 use Rattle.report.proofs.unchecked.fields.put_field.Tie as tie
 

@@ -6,9 +6,9 @@ use native.Mathlib.Numerals.{add-one}
 use native.Mathlib.Omega.{arith}
 use lib.ListN.{length, getD, take}
 use lib.Seq.{take-suc, take-all}
-use Rattle.wording.specs.Inner.{field, fieldsText}
-use Rattle.wording.proofs.InTurn.{SoFar, none, more}
-use Rattle.wording.proofs.Fields.{field-length}
+use Rattle.listing_rules.specs.Inner.{field, fieldsText}
+use Rattle.listing_rules.proofs.InTurn.{SoFar, none, more}
+use Rattle.listing_rules.proofs.Fields.{field-length}
 use Rattle.report.proofs.unchecked.fields.put_fields.Statement.{statement}
 use Rattle.report.proofs.unchecked.fields.put_fields.Tie as tie
 

@@ -4,7 +4,7 @@ use native.Mathlib.Nat.{add-assoc}
 use native.Mathlib.Omega.{arith}
 use borrow.Author.Needs.{needs}
 use denote.Ref.{now}
-use Rattle.records.proofs.Stream.{four-at}
+use Rattle.stream_rules.proofs.Stream.{four-at}
 use Rattle.stream.proofs.unchecked.numbers.be32.Statement.{statement}
 use Rattle.stream.proofs.unchecked.numbers.be32.Tie as tie
 

@@ -1,0 +1,88 @@
+-- What a setting answers, by its two tests in turn, and what one call leaves of the packet, read off what it answers.
+-- Assumes nothing.
+use Prim.Native.Nat.{ℕ, _<_}
+use mathlib.Core.Logic.{_≢_, _⊎_, inl, inr, ⊎-elim}
+use mathlib.Core.Path.{_≡_, refl, ap, _∙_}
+use native.Mathlib.Decide.{decLt}
+use native.Mathlib.Omega.{arith}
+use lib.Dec.{T, ltb, ltb→lt, lt→ltb}
+use Rattle.network.specs.Forwarding as network
+use Rattle.network.specs.Forwarding.{Packet, start}
+use Rattle.network.proofs.Tests.{truth, as-true, as-false}
+use Rattle.topology_types.specs.declared.Topology.{Topology}
+use Rattle.topology_sound.specs.Sound.{sound}
+use Rattle.forwarding_rules.specs.Calls.{Said, done, refused, tested, settingAt, hopping}
+use Rattle.forwarding_rules.specs.Lent.{Left, afterSetting, afterHop, settingPacket, hoppingPacket}
+use Rattle.forwarding_rules.specs.Lists.{lastAfter, after, setIn}
+use Rattle.forwarding_rules.specs.Theorems.{left, SettingsAnswer, SettingsLeave, HopsLeave, CallsByRule}
+use Rattle.forwarding_rules.proofs.Tested.{clash}
+
+pub settings-answer : SettingsAnswer
+unfolding settingAt tested start
+settings-answer t u =
+    record {
+      sets = λ s h. rw (as-true (sound t) s, as-true (ltb u (t .routers)) (lt→ltb u (t .routers) h));
+      not-sound = λ out. rw (as-false (sound t) out);
+      no-place = λ s h. rw (as-true (sound t) s, as-false (ltb u (t .routers)) (λ l. omega (arith, ltb→lt u (t .routers) l)));
+    }
+
+-- a setting that is not refused sets the packet at its start
+pub set-there : (t : Topology) (u : ℕ) (q : Packet ℕ) → settingAt t u ≡ done q → q ≡ record { station = u; hops = 0 }
+set-there t u q e = step (truth (sound t)) (decLt u (t .routers))
+  where
+    step : T (sound t) ⊎ (T (sound t) → ⊥) → Dec (u < t .routers) → q ≡ record { station = u; hops = 0 }
+    step (inl s) (yes h) = cc (settings-answer t u .sets s h)
+    step (inl s) (no h) = clash (cc (settings-answer t u .no-place s (omega arith)))
+    step (inr out) h = clash (cc (settings-answer t u .not-sound out))
+
+pub settings-leave : SettingsLeave
+unfolding settingPacket afterSetting
+settings-leave t u p =
+    record {
+      sets = λ s h. ap after-said (settings-answer t u .sets s h);
+      not-sound = λ out. ap after-said (settings-answer t u .not-sound out);
+      no-place = λ s h. ap after-said (settings-answer t u .no-place s h);
+    }
+  where
+    after-said : Said (Packet ℕ) → Left (Packet ℕ)
+    after-said said = left said (afterSetting p said)
+
+-- only moved changes the packet
+changes : (p : Packet ℕ) (said : Said (network.Hop ℕ)) → afterHop p said ≢ p → (q : Packet ℕ) × (said ≡ done (network.moved q))
+unfolding afterHop
+changes p (done network.delivered) other = absurd (other refl)
+changes p (done (network.moved q)) other = (q, refl)
+changes p (done network.dropped) other = absurd (other refl)
+changes p (refused number at) other = absurd (other refl)
+
+pub hops-leave : HopsLeave
+unfolding hoppingPacket afterHop
+hops-leave t table states p =
+    record {
+      answers = refl;
+      delivers = (ap said, ap after-said);
+      moves = λ q. (ap said, ap after-said);
+      drops = (ap said, ap after-said);
+      refuses = λ number at. (ap said, ap after-said);
+      only-moved = changes p (hopping t table states p);
+    }
+  where
+    said : Left (network.Hop ℕ) → Said (network.Hop ℕ)
+    said l = l .answer
+
+    after-said : Said (network.Hop ℕ) → Left (network.Hop ℕ)
+    after-said said = left said (afterHop p said)
+
+pub calls-by-rule : CallsByRule
+unfolding after settingPacket hoppingPacket setIn afterSetting afterHop lastAfter
+calls-by-rule t table p last =
+    record {
+      set-leaves = λ u. refl;
+      hop-leaves = λ states. refl;
+      sets = λ u q e. (ap (afterSetting p) e, ap (lastAfter last) e ∙ ap (λ (r : Packet ℕ). r .station) (set-there t u q e));
+      set-refused = λ u number at e. (ap (afterSetting p) e, ap (lastAfter last) e);
+      hops = λ states q e. ap (afterHop p) e;
+      stays = λ states h. ⊎-elim (λ e. ap (afterHop p) e) (λ e. ap (afterHop p) e) h;
+      hop-refused = λ states number at e. ap (afterHop p) e;
+      hop-sets-nothing = λ states. refl;
+    }

@@ -1,0 +1,126 @@
+-- `forwarding_steps::unchecked::counting::bounds_of` meets its contract. The loop's invariant: the places of the ranks passed have their greatest hop counts.
+-- Assumes nothing.
+use Prim.Native.Nat.{ℕ, _-_, _≤_, _<_}
+use mathlib.Core.List.{List}
+use mathlib.Core.Path.{ap}
+use native.Mathlib.Omega.{arith}
+use borrow.Author.Needs.{needs}
+use lib.ListN.{getD, replicate, length-replicate, getD-replicate}
+use Rattle.table_rows.specs.Bytes.{rowStart}
+use Rattle.topology_types.specs.declared.Rank.{Rank}
+use Rattle.topology_types.specs.declared.Topology.{Topology}
+use Rattle.forwarding_rules.proofs.Listed.{Over, over}
+use Rattle.forwarding_steps.specs.Inner.{boundOf}
+use Rattle.forwarding_steps.proofs.Bounds.{Known, few, row-of, ended, turn-in, turn-bounded, known-next, all-known}
+use Rattle.forwarding_steps.proofs.unchecked.counting.bounds_of.Statement.{statement}
+use Rattle.forwarding_steps.proofs.unchecked.counting.bounds_of.Tie as tie
+
+abbrev Inv-loop : tie.InvT-loop
+Inv-loop t table order by₀ rank₀ by rank = (rank ≤ t .routers) × Known t table rank by
+
+abbrev μ-loop : tie.MeasureT-loop
+μ-loop t table order by₀ rank₀ by rank = t .routers - rank
+
+-- no place is of a rank below 0
+none-known : (t : Topology) (table : List ℕ) → t .routers ≤ 64 → Known t table 0 (replicate 64 (record { 0 = 255 }))
+unfolding boundOf
+none-known t table most =
+    record {
+      long = length-replicate {A = Rank} 64 (record { 0 = 255 });
+      each = λ v l h. absurd (omega arith);
+      none-there = λ v l e. ap (λ (x : Rank). x .0) (getD-replicate {A = Rank} 64 v (record { 0 = 255 }) (record { 0 = 0 }) (omega arith));
+    }
+
+-- what the table that was checked gives
+accepted : (c : tie.Start Inv-loop μ-loop) → Over (c .args .t) (c .args .table .now)
+accepted c = over (c .args .t) (c .pre .0) (c .args .table .now) (c .pre .1)
+
+most : (c : tie.Start Inv-loop μ-loop) → c .args .t .routers ≤ 64
+most c = few (c .args .t) (c .pre .0) (c .args .table .now) (accepted c)
+
+-- from a turn back to the loop, the order and the start
+abbrev looped : tie.Then1 Inv-loop μ-loop → tie.At-loop Inv-loop μ-loop
+looped c = c .before .before
+
+abbrev start : tie.Then1 Inv-loop μ-loop → tie.Start Inv-loop μ-loop
+start c = looped c .before .before .before
+
+order-of-requires : tie.Need-order-of-requires Inv-loop μ-loop
+unfolding rowStart
+order-of-requires c κs = let o = accepted (c .before) in (most (c .before), omega (arith, o .given .bytes .long, o .routers-are))
+
+loop-holds : tie.Need-loop-holds Inv-loop μ-loop
+loop-holds c = (omega arith, none-known _ _ (most (c .before .before)))
+
+returns : tie.Need-returns Inv-loop μ-loop
+returns c =
+    let turn = c .before in
+    let s = start turn in
+    let at = looped turn .loop in
+    let o = accepted s in
+    let slots = looped turn .before .order-of in
+    record {
+      long = at .inv .1 .long;
+      each =
+          all-known (s .args .t) (s .pre .0) (s .args .table .now) o (at .rank) (at .by) (at .inv .1)
+          (ended (s .args .t) (s .pre .0) (s .args .table .now) o (slots .result) (slots .ensures) (at .rank) (turn .if1 .taken) (c .if2 .taken));
+    }
+
+-- the place of a turn
+place-in : (c : tie.Else2 Inv-loop μ-loop) → getD (looped (c .before) .before .order-of .result) (looped (c .before) .loop .rank) 0 < start (c .before) .args .t .routers
+place-in c =
+    let s = start (c .before) in
+    let slots = looped (c .before) .before .order-of in
+    turn-in (s .args .t) (s .pre .0) (s .args .table .now) (accepted s) (slots .result) (slots .ensures) (looped (c .before) .loop .rank) (c .before .if1 .taken)
+    (c .if2 .left)
+
+greatest-of-requires : tie.Need-greatest-of-requires Inv-loop μ-loop
+greatest-of-requires c κs =
+    let s = start (c .before) in
+    let at = looped (c .before) .loop in
+    let slots = looped (c .before) .before .order-of in (
+      row-of (s .args .t) (s .pre .0) (s .args .table .now) (accepted s) _ (place-in c),
+      turn-bounded (s .args .t) (s .pre .0) (s .args .table .now) (accepted s) (slots .result) (slots .ensures) (at .rank) (c .before .if1 .taken)
+          (c .if2 .left) (at .by) (at .inv .1),
+    )
+
+loop-again : tie.Need-loop-again Inv-loop μ-loop
+loop-again c =
+    let e = c .before in
+    let s = start (e .before) in
+    let at = looped (e .before) .loop in
+    let slots = looped (e .before) .before .order-of in (
+      omega (arith, e .before .if1 .taken),
+      known-next (s .args .t) (s .pre .0) (s .args .table .now) (accepted s) (slots .result) (slots .ensures) (at .rank) (e .before .if1 .taken) (e .if2 .left)
+          (at .by) (at .inv .1) (c .greatest-of .result) (c .greatest-of .ensures),
+    )
+
+returns-2 : tie.Need-returns-2 Inv-loop μ-loop
+returns-2 c =
+    let at = c .before .before .loop in
+    let s = c .before .before .before .before .before in
+    let o = accepted s in
+    record {
+      long = at .inv .1 .long;
+      each =
+          all-known (s .args .t) (s .pre .0) (s .args .table .now) o (at .rank) (at .by) (at .inv .1)
+          (λ v h m. omega (arith, c .if1 .left, o .rank-is v h .reached m, o .rank-below v h));
+    }
+
+pub bounds-of-spec : {M : Type 1} → statement M
+bounds-of-spec =
+    tie.close
+    (tie.spec
+    Inv-loop
+    μ-loop
+    order-of-requires
+    loop-holds
+    (λ c. omega (arith, most (start c), c .if1 .taken))
+    (λ c. search needs)
+    returns
+    greatest-of-requires
+    (λ c. omega (arith, most (start (c .before .before)), place-in (c .before)))
+    (λ c. omega (arith, most (start (c .before .before)), c .before .before .if1 .taken))
+    (λ c. omega (arith, c .before .before .if1 .taken))
+    loop-again
+    returns-2)

@@ -1,0 +1,76 @@
+// The greatest hop counts, from the lowest rank up.
+use table_rows::FRONT;
+use table_rows::HEADER;
+use table_rows::ROW;
+use topology_types::ROUTERS;
+use topology_types::Rank;
+use topology_types::Topology;
+ghost use mathlib.Core.List.{_++_, map};
+ghost use mathlib.Core.Path.{_≡_};
+ghost use Prim.Native.Nat.{suc, _≤_};
+ghost use lib.Dec.{T};
+ghost use lib.ListN.{length, drop};
+ghost use Rattle.network.specs.Lists.{below, greatestBy};
+ghost use Rattle.topology_types.specs.Limits.{mostRouters};
+ghost use Rattle.topology_sound.specs.Sound.{sound};
+ghost use Rattle.table.specs.Listed.{placesIn};
+ghost use Rattle.table.specs.Calls.{tableChecking};
+ghost use Rattle.forwarding_steps.specs.Inner.{RowOf, boundOf, Bounded, Figures};
+
+// The greatest hop count of every place, as far as it is known: a hop bound is a rank, 255 where a place has none (02, #107).
+pub struct Bounds {
+    pub by: [Rank; ROUTERS],
+}
+
+// One more than the greatest of the row's entries, 0 if there is none.
+fn greatest_of(table: &[u8], bounds: Bounds, u: usize) -> Rank
+    requires { ⌜ RowOf (now table) u × Bounded (now table) u (bounds .by) ⌝ }
+    ensures { λ r. ⌜ r .0 ≡ greatestBy (λ v. suc (boundOf (bounds .by) v)) (placesIn (now (table .entry)) u) ⌝ }
+{
+    let row = HEADER + ROW * u;
+    let mut best: u8 = 0;
+    let mut i = table[row + 2] as usize;
+    while 0 < i {
+        i -= 1;
+        let v = table[row + FRONT + i] as usize;
+        let bound = bounds.by[v];
+        let longer = bound.0 + 1;
+        if best < longer {
+            best = longer;
+        }
+    }
+    Rank(best)
+}
+
+// The greatest hop count of every place over an accepted table, from the lowest rank up: by then those of the row's entries are known. The order ends where
+// no place has the rank.
+pub fn bounds_of(t: Topology, table: &[u8]) -> Bounds
+    requires { ⌜ T (sound t) × (tableChecking t (now table) ≡ record { number = 0; at = 0 }) ⌝ }
+    ensures { λ r. ⌜ Figures t (now (table .entry)) r ⌝ }
+{
+    let order = table::unchecked::order_of(t.routers, table);
+    let mut by = [Rank(255); ROUTERS];
+    let mut rank: usize = 0;
+    while rank < t.routers {
+        let u = order[rank] as usize;
+        if u == 255 {
+            return Bounds { by: by };
+        }
+        by[u] = greatest_of(table, Bounds { by: by }, u);
+        rank += 1;
+    }
+    Bounds { by: by }
+}
+
+// The bounds of the first n places, each a byte.
+pub fn put_bounds(bounds: Bounds, n: usize, out: &mut [u8])
+    requires { ⌜ (n ≤ mostRouters) × (n ≤ length (now out)) ⌝ }
+    ensures { λ _. ⌜ now (out .exit) ≡ map (boundOf (bounds .by)) (below n) ++ drop n (now (out .entry)) ⌝ }
+{
+    let mut u: usize = 0;
+    while u < n {
+        let bound = bounds.by[u];
+        out[u] = bound.0;
+        u += 1;
+    }
+}

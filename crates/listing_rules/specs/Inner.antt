@@ -1,0 +1,79 @@
+-- What the inner functions of `report` ask of the bytes that they print, and what they make of them; of the open contracts only those of its `unchecked`
+-- name it, for the room that they ask for and the fields that `put_fields` puts.
+-- Assumes nothing.
+use Prim.Native.Nat.{ℕ, _+_, _≤_, _<_}
+use mathlib.Core.List.{List, _∷_, _++_}
+use mathlib.Core.Path.{_≡_}
+use lib.ListN.{length, getD}
+use Rattle.network.specs.Lists.{below}
+use Rattle.topology_types.specs.Limits.{mostRouters, mostNextHops}
+use Rattle.topology.specs.Written.{joinedOver}
+use Rattle.table_rows.specs.Bytes.{rowStart, tableLength}
+use Rattle.table.specs.Listed.{rankIn, placesIn}
+use Rattle.text.specs.Fields.{space}
+use Rattle.text.specs.Numbers.{numberText}
+use Rattle.listing_rules.specs.declared.Front.{Front}
+use Rattle.listing_rules.specs.Listing.{rowFields, lineText}
+
+-- room for a line: two numbers of two digits and two of three, at most 16 entries of two, the space before each but the first, and the line's end
+abbrev pub mostLine : ℕ
+mostLine = 62
+
+-- room for the lines of a destination
+abbrev pub mostLines : ℕ
+mostLines = 3968
+
+-- a number behind a space
+abbrev pub field : ℕ → List ℕ
+field n = space ∷ numberText n
+
+-- numbers, a space before each
+unfoldable pub fieldsText : List ℕ → List ℕ
+fieldsText numbers = joinedOver field numbers
+
+-- numbers of one digit or two
+abbrev pub Short : List ℕ → Type 0
+Short numbers = (i : ℕ) → i < length numbers → getD numbers i 0 < 100
+
+-- the row with a space before each field
+unfoldable pub rowText : List ℕ → List ℕ
+rowText row = joinedOver (λ f. space ∷ f) (rowFields row)
+
+-- numbers of one digit or two, at most as many as a row has
+pub record Row (row : List ℕ) : Type 0 where
+  pub few : length row ≤ mostNextHops
+  pub small : Short row
+
+-- the fields before the row, each but the first behind a space
+unfoldable pub frontText : Front → List ℕ
+frontText f =
+    numberText (f .destination)
+    ++ ((space ∷ numberText (f .router)) ++ ((space ∷ numberText (f .rank)) ++ (space ∷ numberText (f .hops))))
+
+unfoldable pub lineOf : Front → List ℕ → List ℕ
+lineOf f row = lineText (f .destination) (f .router) (f .rank) (f .hops) row
+
+-- places of one digit or two; rank and hops are bytes, 255 where there is no path
+pub record Small (f : Front) : Type 0 where
+  pub destination : f .destination < 100
+  pub router : f .router < 100
+  pub rank : f .rank < 256
+  pub hops : f .hops < 256
+
+-- the bytes of a table for so many routers, and the hop counts by place, as far as lines are made of them
+pub record Listable (table hops : List ℕ) (n d : ℕ) : Type 0 where
+  pub destination : d < n
+  pub routers : n ≤ mostRouters
+  pub long : length table ≡ tableLength n
+  pub counted : n ≤ length hops
+  pub rank : (u : ℕ) → u < n → rankIn table u < 256
+  pub hop-count : (u : ℕ) → u < n → getD hops u 0 < 256
+  pub entries : (u : ℕ) → u < n → getD table (rowStart u + 2) 0 ≤ mostNextHops
+  pub row : (u : ℕ) → u < n → Row (placesIn table u)
+
+-- the line of a place, and the lines of a table
+unfoldable pub lineIn : List ℕ → List ℕ → ℕ → ℕ → List ℕ
+lineIn table hops d u = lineText d u (rankIn table u) (getD hops u 0) (placesIn table u)
+
+unfoldable pub tableText : List ℕ → List ℕ → ℕ → ℕ → List ℕ
+tableText table hops d n = joinedOver (lineIn table hops d) (below n)

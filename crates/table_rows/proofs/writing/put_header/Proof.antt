@@ -1,0 +1,28 @@
+-- The four stores put the header, by the laws of `over`.
+-- Assumes nothing.
+use mathlib.Core.List.{[], _∷_}
+use mathlib.Core.Path.{refl}
+use native.Mathlib.Omega.{arith}
+use borrow.Author.Needs.{needs}
+use lib.ListN.{length-set}
+use Rattle.topology.proofs.Over.{over-two, over-next}
+use Rattle.table_rows.specs.Bytes.{headerBytes}
+use Rattle.table_rows.proofs.writing.put_header.Statement.{statement}
+use Rattle.table_rows.proofs.writing.put_header.Tie as tie
+
+returns : tie.Need-returns
+unfolding headerBytes
+returns c =
+    rw (over-two (c .args .out .now) 0 16 (c .args .destination .0) (omega arith), over-next (c .args .out .now) 0 (16 ∷ c .args .destination .0 ∷ []) (c .args .count) 2 refl (omega arith))
+    (over-next (c .args .out .now) 0 (16 ∷ c .args .destination .0 ∷ c .args .count ∷ []) (c .args .limit) 3 refl (omega arith))
+
+pub put-header-spec : {M : Type 1} → statement M
+put-header-spec =
+    tie.close
+    (tie.spec
+    (λ c. search needs)
+    (λ c. simp length-set (omega arith))
+    (λ c. simp length-set (omega arith))
+    (λ c. search needs)
+    (λ c. search needs)
+    returns)
