@@ -19,7 +19,7 @@ use Rattle.topology_types.specs.declared.Topology.{Topology}
 use Rattle.topology_types.specs.Topology.{contents, seen, networkIn, networkOf}
 use Rattle.topology_sound.specs.Sound.{sound}
 use Rattle.topology_sound.proofs.Sound.{routers-listed, sound-exact, sound-networks}
-use Rattle.arcs.specs.Arcs.{linkBack, networkBack}
+use Rattle.arcs.specs.Back.{linkBack, networkBack}
 use Rattle.arcs.specs.Theorems.{BackExact}
 use Rattle.arcs.proofs.Filled.{Next}
 use Rattle.arcs.proofs.Links.{firstLinks, links-of}

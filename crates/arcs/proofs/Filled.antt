@@ -11,7 +11,7 @@ use Rattle.network.specs.Lists.{below, numbersFrom}
 use Rattle.network.specs.Network.{Arc, Link, arcsAmong}
 use Rattle.topology_types.proofs.Arcs.{arcs-stay}
 use Rattle.arcs.specs.declared.Arcs.{Arcs}
-use Rattle.arcs.specs.Arcs.{slotArcs, withArc, Slotted}
+use Rattle.arcs.specs.Inner.{slotArcs, withArc, Slotted}
 use Rattle.arcs.proofs.Slots.{length-arcs, still-slotted, count-elsewhere, arc-there, arcs-elsewhere}
 use Rattle.arcs.proofs.Among.{there, back, among-first, among-second, among-neither}
 

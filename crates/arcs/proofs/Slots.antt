@@ -14,7 +14,7 @@ use Rattle.network.specs.Lists.{below, numbersFrom}
 use Rattle.network.specs.Network.{Arc}
 use Rattle.network.proofs.Below.{below-lt, length-map-below}
 use Rattle.arcs.specs.declared.Arcs.{Arcs}
-use Rattle.arcs.specs.Arcs.{slotArc, slotArcs, withArc, Slotted}
+use Rattle.arcs.specs.Inner.{slotArc, slotArcs, withArc, Slotted}
 
 -- a router has as many arcs as its count says
 pub length-arcs : (a : Arcs) (u : ℕ) → length (slotArcs a u) ≡ getD (a .count) u 0

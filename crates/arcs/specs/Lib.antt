@@ -1,2 +1,3 @@
-pub mod Arcs
 pub mod Theorems
+pub mod Inner
+pub mod Back

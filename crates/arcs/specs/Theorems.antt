@@ -9,7 +9,7 @@ use Rattle.network.specs.Network.{Network, arcsOf, size, WellFormed}
 use Rattle.topology_types.specs.Topology.{networkOf}
 use Rattle.topology_types.specs.declared.Topology.{Topology}
 use Rattle.topology_sound.specs.Sound.{sound}
-use Rattle.arcs.specs.Arcs.{networkBack}
+use Rattle.arcs.specs.Back.{networkBack}
 
 -- of the first `count` places, u has an arc to v in `back` if and only if v has one to u in n, over the same link and at the same cost
 abbrev pub Opposite : Network → Network → ℕ → Type 0

@@ -10,7 +10,7 @@ ghost use lib.Dec.{T};
 ghost use lib.ListN.{getD};
 ghost use Rattle.topology_types.specs.Limits.{mostRouters, mostNeighbours};
 ghost use Rattle.topology_sound.specs.Sound.{sound};
-ghost use Rattle.arcs.specs.Arcs.{Laid, inSlots, withArc};
+ghost use Rattle.arcs.specs.Inner.{Laid, inSlots, withArc};
 
 // An arc of the router at u to v, in the next slot of u: c is its cost, b what going from v to u costs.
 fn add<'a>(

@@ -11,13 +11,15 @@ use lib.Dec.{eqb, ltb, leb}
 use lib.ListN.{length, take, drop, length-append}
 use lib.Seq.{sets, sets-eq, length-sets, length-take-le, take-at, drop-drop}
 use Rattle.text.specs.Fields.{before}
-use Rattle.text.specs.Lines.{fits, countWith, bufferWith, newline}
+use Rattle.text.specs.Inner.{fits, countWith, bufferWith}
+use Rattle.text.specs.Lines.{newline}
 use Rattle.text.proofs.Scan.{no-rest, take-before}
 use Rattle.console.specs.declared.Session.{Session}
-use Rattle.console_held.specs.Requests.{Held, refused}
-use Rattle.console_held.specs.Replies.{heldIn}
-use Rattle.console.specs.Answers.{answer, answerHeld}
-use Rattle.console.specs.Session.{Line, some, tooLong, State, longer, heldAfter, lineEnds, lineGrows, taken, lineIn, stateOf, PartTaken}
+use Rattle.console_held.specs.Requests.{Held, noRequest}
+use Rattle.console_held.specs.Inner.{heldIn}
+use Rattle.console.specs.Answers.{responseTo, answerHeld}
+use Rattle.console.specs.Session.{Line, some, tooLong, State, longer, heldAfter, lineEnds, lineGrows, sessionAfter}
+use Rattle.console.specs.Inner.{lineGathered, stateOf, PartTaken}
 
 -- a line with a part more, byte by byte
 with-part : ℕ → List ℕ → Line → Line
@@ -53,69 +55,69 @@ module _ (most : ℕ) where
       next false e f = stays-long part
 
   -- a part that goes to the end of the text
-  goes-on : (text : List ℕ) (s : State) → length text ≤ length (before newline text) → taken most text s ≡ grown most (before newline text) s
-  unfolding taken before lineGrows grown with-part
+  goes-on : (text : List ℕ) (s : State) → length text ≤ length (before newline text) → sessionAfter most text s ≡ grown most (before newline text) s
+  unfolding sessionAfter before lineGrows grown with-part
   goes-on [] s h = refl
   goes-on (c ∷ text) s h = next (eqb c newline) h (goes-on text (lineGrows most c s))
     where
       next : (b : Bool) → suc (length text) ≤ length (cond b [] (c ∷ before newline text)) →
           (length text ≤ length (before newline text) →
-          taken most text (lineGrows most c s) ≡ grown most (before newline text) (lineGrows most c s)) →
-          taken most text (cond b (lineEnds s) (lineGrows most c s)) ≡ grown most (cond b [] (c ∷ before newline text)) s
+          sessionAfter most text (lineGrows most c s) ≡ grown most (before newline text) (lineGrows most c s)) →
+          sessionAfter most text (cond b (lineEnds s) (lineGrows most c s)) ≡ grown most (cond b [] (c ∷ before newline text)) s
       next true k e = absurd (omega arith)
       next false k e = e (omega arith)
 
   ended : List ℕ → List ℕ → State → State
-  ended part text s = taken most (drop (suc (length part)) text) (lineEnds (grown most part s))
+  ended part text s = sessionAfter most (drop (suc (length part)) text) (lineEnds (grown most part s))
 
   -- a part that a newline ends
-  ends : (text : List ℕ) (s : State) → length (before newline text) < length text → taken most text s ≡ ended (before newline text) text s
-  unfolding ended taken before lineGrows grown with-part
+  ends : (text : List ℕ) (s : State) → length (before newline text) < length text → sessionAfter most text s ≡ ended (before newline text) text s
+  unfolding ended sessionAfter before lineGrows grown with-part
   ends [] s h = absurd (omega arith)
   ends (c ∷ text) s h = next (eqb c newline) h (ends text (lineGrows most c s))
     where
       next : (b : Bool) → length (cond b [] (c ∷ before newline text)) < suc (length text) →
           (length (before newline text) < length text →
-          taken most text (lineGrows most c s) ≡ ended (before newline text) text (lineGrows most c s)) →
-          taken most text (cond b (lineEnds s) (lineGrows most c s)) ≡ ended (cond b [] (c ∷ before newline text)) (c ∷ text) s
+          sessionAfter most text (lineGrows most c s) ≡ ended (before newline text) text (lineGrows most c s)) →
+          sessionAfter most text (cond b (lineEnds s) (lineGrows most c s)) ≡ ended (cond b [] (c ∷ before newline text)) (c ∷ text) s
       next true k e = refl
       next false k e = e (omega arith)
 
 -- the line in the buffer
 module _ (buffer : List ℕ) (count : ℕ) where
-  in-buffer : count ≤ length buffer → lineIn buffer count ≡ some (take count buffer)
-  unfolding lineIn
+  in-buffer : count ≤ length buffer → lineGathered buffer count ≡ some (take count buffer)
+  unfolding lineGathered
   in-buffer h = rw (le-leb count (length buffer) h)
 
-  not-in-buffer : length buffer < count → lineIn buffer count ≡ tooLong
-  unfolding lineIn
+  not-in-buffer : length buffer < count → lineGathered buffer count ≡ tooLong
+  unfolding lineGathered
   not-in-buffer h = rw (lt-leb count (length buffer) h)
 
   -- and what is held when it is answered
-  held-in-buffer : (h : Held) → answerHeld h buffer count .held ≡ heldAfter h (lineIn buffer count)
-  unfolding answerHeld heldAfter lineIn
+  held-in-buffer : (h : Held) → answerHeld h buffer count .held ≡ heldAfter h (lineGathered buffer count)
+  unfolding answerHeld heldAfter lineGathered
   held-in-buffer h = cases (leb count (length buffer))
     where
-      cases : (b : Bool) → (cond b (answer h (take count buffer)) (refused h)) .held ≡ heldAfter h (cond b (some (take count buffer)) tooLong)
+      cases : (b : Bool) → (cond b (responseTo h (take count buffer)) (noRequest h)) .held ≡ heldAfter h (cond b (some (take count buffer)) tooLong)
       cases true = refl
       cases false = refl
 
 -- the line with a part more that was gathered
 module _ (buffer part : List ℕ) (count : ℕ) where
-  line-fits : count + length part ≤ length buffer → lineIn (sets buffer count part) (count + length part) ≡ some (take count buffer ++ part)
-  unfolding lineIn
+  line-fits : count + length part ≤ length buffer → lineGathered (sets buffer count part) (count + length part) ≡ some (take count buffer ++ part)
+  unfolding lineGathered
   line-fits h =
       let l = length-append (take count buffer) part ∙ ap (λ (n : ℕ). n + length part) (length-take-le count buffer (omega arith)) in
       rw (length-sets, le-leb (count + length part) (length buffer) h, sets-eq part buffer count h)
       (ap some (take-at (take count buffer ++ part) (drop (count + length part) buffer) (count + length part) l))
 
-  line-with : lineIn (bufferWith buffer count part) (countWith buffer count part) ≡ with-part (length buffer) part (lineIn buffer count)
+  line-with : lineGathered (bufferWith buffer count part) (countWith buffer count part) ≡ with-part (length buffer) part (lineGathered buffer count)
   unfolding bufferWith countWith fits
   line-with = cases (leb (count + length part) (length buffer)) refl (leb count (length buffer)) refl
     where
       cases : (b : Bool) → leb (count + length part) (length buffer) ≡ b → (d : Bool) → leb count (length buffer) ≡ d →
-          lineIn (cond b (sets buffer count part) buffer) (cond b (count + length part) (length buffer + 1)) ≡
-          with-part (length buffer) part (lineIn buffer count)
+          lineGathered (cond b (sets buffer count part) buffer) (cond b (count + length part) (length buffer + 1)) ≡
+          with-part (length buffer) part (lineGathered buffer count)
       cases true e d k =
           let h = leb-true (count + length part) (length buffer) e in
           let l = length-take-le count buffer (omega arith) in
@@ -133,7 +135,7 @@ module _ (buffer part : List ℕ) (count : ℕ) where
 -- what is held after a part
 module _ (s : Session) (table entry part : List ℕ) (r : Session) (table′ exit : List ℕ) where
   gathered-line : {last : Bool} (p : PartTaken s table entry part last r table′ exit) →
-      lineIn exit (p .count) ≡ with-part (length entry) part (lineIn entry (s .count))
+      lineGathered exit (p .count) ≡ with-part (length entry) part (lineGathered entry (s .count))
   gathered-line p = rw (p .gathered .stored, p .gathered .counted) (line-with entry part (s .count))
 
   line-goes-on : PartTaken s table entry part false r table′ exit → stateOf r table′ exit ≡ grown (length entry) part (stateOf s table entry)
@@ -147,12 +149,12 @@ module _ (s : Session) (table entry part : List ℕ) (r : Session) (table′ exi
       rw (p .held, p .counted, held-in-buffer exit (p .count) (heldIn (s .held) table), gathered-line p, in-buffer exit 0 (omega arith))
 
   whole-part : (rest : List ℕ) → part ≡ before newline rest → PartTaken s table entry part (ltb (length part) (length rest)) r table′ exit →
-      taken (length entry) (drop (length part + 1) rest) (stateOf r table′ exit) ≡ taken (length entry) rest (stateOf s table entry)
-  unfolding ended taken
+      sessionAfter (length entry) (drop (length part + 1) rest) (stateOf r table′ exit) ≡ sessionAfter (length entry) rest (stateOf s table entry)
+  unfolding ended sessionAfter
   whole-part rest e p = cases (ltb (length part) (length rest)) refl p
     where
       cases : (last : Bool) → ltb (length part) (length rest) ≡ last → PartTaken s table entry part last r table′ exit →
-          taken (length entry) (drop (length part + 1) rest) (stateOf r table′ exit) ≡ taken (length entry) rest (stateOf s table entry)
+          sessionAfter (length entry) (drop (length part + 1) rest) (stateOf r table′ exit) ≡ sessionAfter (length entry) rest (stateOf s table entry)
       cases true t q =
           let h = ltb-true (length part) (length rest) t in
           rw (line-ends q, add-one, e) (sym (ends (length entry) rest (stateOf s table entry) (omega (arith, ap length e))))
@@ -165,7 +167,7 @@ module _ (s : Session) (table entry part : List ℕ) (r : Session) (table′ exi
 pub next-part : (most : ℕ) (text rest : List ℕ) (at n : ℕ) {s : Session} {table entry : List ℕ} {r : Session} {table′ exit : List ℕ} →
     rest ≡ drop at text → n ≡ length (before newline rest) → length entry ≡ most →
     PartTaken s table entry (take n rest) (ltb n (length rest)) r table′ exit →
-    taken most (drop (at + (n + 1)) text) (stateOf r table′ exit) ≡ taken most rest (stateOf s table entry)
+    sessionAfter most (drop (at + (n + 1)) text) (stateOf r table′ exit) ≡ sessionAfter most rest (stateOf s table entry)
 next-part most text rest at n {s} {table} {entry} {r} {table′} {exit} d e l p =
     let q = rw (e, take-before) at p in
     rw (← l, ← drop-drop (n + 1) at text, ← d, e) (whole-part s table entry (before newline rest) r table′ exit rest refl q)

@@ -1,17 +1,13 @@
--- Which request a line is, what it answers, and what is held from then on. `answer` is the whole of it.
+-- Which request a line is, what it answers, and what is held from then on. `responseTo` is the whole of it.
 -- Assumes nothing.
-use Prim.Native.Nat.{ℕ, _≤_}
+use Prim.Native.Nat.{ℕ}
 use mathlib.Core.Bool.{cond}
 use mathlib.Core.List.{List, [], _∷_}
-use mathlib.Core.Path.{_≡_}
 use lib.Dec.{leb}
 use lib.ListN.{length, take}
 use Rattle.text.specs.Fields.{asks}
-use Rattle.text.specs.Lines.{Put}
-use Rattle.console_held.specs.Requests.{Held, Answered, unchanged, refused, setWord, readIn, importIn, loadIn, loadPacketIn, setIn, hopIn}
-use Rattle.console_replies.specs.Calls.{writeIn, orderIn, checkOrderIn, fillIn, checkTable, countIn, walkIn, listIn, oldStreamIn, coverageOf, pathsIn, teIn}
-use Rattle.console_held.specs.Replies.{heldIn}
-use Rattle.console.specs.declared.answers.Turn.{Turn}
+use Rattle.console_held.specs.Requests.{Held, Answered, unchanged, noRequest, setWord, readIn, importIn, loadIn, loadPacketIn, setIn, hopIn}
+use Rattle.console_replies.specs.Calls.{writeIn, buildIn, checkOrderIn, fillIn, checkTable, greatestIn, walkIn, listIn, oldStreamIn, coverageOf, pathsIn, teIn}
 use Rattle.console.specs.declared.answers.Request.{Request}
 use Rattle.console.specs.declared.answers.Request.the-variants as request
 
@@ -123,12 +119,12 @@ requestIn line = formed forms line
 unfoldable pub answerTo : Request → Held → List ℕ → Answered
 answerTo request.Topology h line = readIn h line
 answerTo request.Write h line = unchanged h (writeIn (h .topology) line)
-answerTo request.Order h line = unchanged h (orderIn (h .topology) line)
+answerTo request.Order h line = unchanged h (buildIn (h .topology) line)
 answerTo request.CheckOrder h line = unchanged h (checkOrderIn (h .topology) line)
 answerTo request.Fill h line = unchanged h (fillIn (h .topology) line)
 answerTo request.LoadTable h line = loadIn h line
 answerTo request.CheckTable h line = unchanged h (checkTable h)
-answerTo request.Greatest h line = unchanged h (countIn h line)
+answerTo request.Greatest h line = unchanged h (greatestIn h line)
 answerTo request.LoadPacket h line = loadPacketIn h line
 answerTo request.Set h line = setIn h line
 answerTo request.Hop h line = hopIn h line
@@ -139,19 +135,12 @@ answerTo request.Coverage h line = unchanged h (coverageOf (h .topology))
 answerTo request.Paths h line = unchanged h (pathsIn h line)
 answerTo request.Import h line = importIn h line
 answerTo request.Te h line = unchanged h (teIn line)
-answerTo request.Unknown h line = refused h
+answerTo request.Unknown h line = noRequest h
 
 -- what a line answers
-unfoldable pub answer : Held → List ℕ → Answered
-answer h line = answerTo (requestIn line) h line
+unfoldable pub responseTo : Held → List ℕ → Answered
+responseTo h line = answerTo (requestIn line) h line
 
 -- what a line answers of which so many bytes have come, if the buffer holds them all; one that is too long is no request
 unfoldable pub answerHeld : Held → List ℕ → ℕ → Answered
-answerHeld h buffer count = cond (leb count (length buffer)) (answer h (take count buffer)) (refused h)
-
--- A line was answered: what it leaves is held, and the line that answers was put at the start of a lent buffer, which it fits.
-pub record Told (a : Answered) (r : Turn) (table entry exit : List ℕ) : Type 0 where
-  pub held : heldIn (r .held) table ≡ a .held
-  pub size : r .held .size ≤ length table
-  pub fits : length (a .text) ≤ length entry
-  pub put : Put entry 0 (a .text) (r .count) exit
+answerHeld h buffer count = cond (leb count (length buffer)) (responseTo h (take count buffer)) (noRequest h)

@@ -12,8 +12,9 @@ ghost use Prim.Native.Nat.{_≤_};
 ghost use lib.ListN.{length};
 ghost use Rattle.console_held.specs.Requests.{mostLine};
 ghost use Rattle.console_replies.specs.Calls.{lent, mostRoom, mostAnswer};
-ghost use Rattle.console_held.specs.Replies.{Ready, Stepped, heldIn};
-ghost use Rattle.console.specs.Answers.{Told, requestIn, answer, answerHeld};
+ghost use Rattle.console_held.specs.Inner.{TableReady, StepServed, heldIn};
+ghost use Rattle.console.specs.Answers.{requestIn, responseTo, answerHeld};
+ghost use Rattle.console.specs.Inner.{Told};
 
 // The requests, by their first word and the number of fields after it.
 pub enum Request {
@@ -88,8 +89,8 @@ fn request_in(line: &[u8]) -> Request
 
 // Each request has its function.
 fn step(h: Holding, table: &mut [u8], line: &[u8], buffer: &mut [u8]) -> Step
-    requires { ⌜ Ready h (now table) × (length (now line) ≤ mostLine) × (now buffer ≡ lent mostRoom) ⌝ }
-    ensures { λ r. ⌜ Stepped (answer (heldIn h (now (table .entry))) (now (line .entry))) r (now (table .exit)) (now (buffer .exit)) ⌝ }
+    requires { ⌜ TableReady h (now table) × (length (now line) ≤ mostLine) × (now buffer ≡ lent mostRoom) ⌝ }
+    ensures { λ r. ⌜ StepServed (responseTo (heldIn h (now (table .entry))) (now (line .entry))) r (now (table .exit)) (now (buffer .exit)) ⌝ }
 {
     let t = h.topology;
     let request = request_in(line);
@@ -157,8 +158,8 @@ fn step(h: Holding, table: &mut [u8], line: &[u8], buffer: &mut [u8]) -> Step
 
 // The line of which count bytes have come, if the buffer holds them all.
 fn step_held(h: Holding, table: &mut [u8], line: &[u8], count: usize, buffer: &mut [u8]) -> Step
-    requires { ⌜ Ready h (now table) × (length (now line) ≤ mostLine) × (now buffer ≡ lent mostRoom) ⌝ }
-    ensures { λ r. ⌜ Stepped (answerHeld (heldIn h (now (table .entry))) (now (line .entry)) count) r (now (table .exit)) (now (buffer .exit)) ⌝ }
+    requires { ⌜ TableReady h (now table) × (length (now line) ≤ mostLine) × (now buffer ≡ lent mostRoom) ⌝ }
+    ensures { λ r. ⌜ StepServed (answerHeld (heldIn h (now (table .entry))) (now (line .entry)) count) r (now (table .exit)) (now (buffer .exit)) ⌝ }
 {
     if count <= line.len() {
         return step(h, table, &line[..count], buffer);
@@ -177,7 +178,7 @@ pub(crate) fn respond(
     count: usize,
     out: &mut [u8],
 ) -> Turn
-    requires { ⌜ Ready h (now table) × (length (now line) ≤ mostLine) × (mostAnswer ≤ length (now out)) ⌝ }
+    requires { ⌜ TableReady h (now table) × (length (now line) ≤ mostLine) × (mostAnswer ≤ length (now out)) ⌝ }
     ensures { λ r. ⌜ Told (answerHeld (heldIn h (now (table .entry))) (now (line .entry)) count) r (now (table .exit)) (now (out .entry)) (now (out .exit)) ⌝ }
 {
     let mut buffer = putting::lent();

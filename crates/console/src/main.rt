@@ -44,8 +44,8 @@ ghost use Prim.Native.Nat.{_≤_};
 ghost use lib.ListN.{length};
 ghost use Rattle.topology_types.specs.Topology.{zeros};
 ghost use Rattle.console_held.specs.Requests.{mostLine, mostTable};
-ghost use Rattle.console_held.specs.Replies.{Ready};
-ghost use Rattle.console.specs.Session.{LineAnswered, PartTaken, TextTaken};
+ghost use Rattle.console_held.specs.Inner.{TableReady};
+ghost use Rattle.console.specs.Inner.{LineAnswered, PartTaken, TextTaken};
 
 // What is held, but for the table's bytes; how many bytes of a line have come, LINE + 1 if it is too long; and whether to go on.
 struct Session {
@@ -87,7 +87,7 @@ fn begin() -> Session
 
 // Answers the line of count bytes in the buffer.
 fn answer(s: Session, table: &mut [u8], line: &[u8]) -> Session
-    requires { ⌜ Ready (s .held) (now table) × (length (now line) ≡ mostLine) ⌝ }
+    requires { ⌜ TableReady (s .held) (now table) × (length (now line) ≡ mostLine) ⌝ }
     ensures { λ r. ⌜ LineAnswered s (now (table .entry)) (now (line .entry)) r (now (table .exit)) ⌝ }
 {
     let mut out = putting::room_for_answer();
@@ -106,7 +106,7 @@ fn answer(s: Session, table: &mut [u8], line: &[u8]) -> Session
 
 // A part more of the line, and its answer if that was the last.
 fn take_part(s: Session, table: &mut [u8], line: &mut [u8], part: &[u8], is_last: bool) -> Session
-    requires { ⌜ Ready (s .held) (now table) × (length (now line) ≡ mostLine) ⌝ }
+    requires { ⌜ TableReady (s .held) (now table) × (length (now line) ≡ mostLine) ⌝ }
     ensures { λ r. ⌜ PartTaken s (now (table .entry)) (now (line .entry)) (now (part .entry)) «is_last» r (now (table .exit)) (now (line .exit)) ⌝ }
 {
     let mut next = s;
@@ -120,7 +120,7 @@ fn take_part(s: Session, table: &mut [u8], line: &mut [u8], part: &[u8], is_last
 
 // The lines of what was read, of which the first may have begun before and the last may go on.
 fn take(s: Session, table: &mut [u8], line: &mut [u8], text: &[u8]) -> Session
-    requires { ⌜ Ready (s .held) (now table) × (length (now line) ≡ mostLine) ⌝ }
+    requires { ⌜ TableReady (s .held) (now table) × (length (now line) ≡ mostLine) ⌝ }
     ensures { λ r. ⌜ TextTaken s (now (table .entry)) (now (line .entry)) (now (text .entry)) r (now (table .exit)) (now (line .exit)) ⌝ }
 {
     let mut next = s;
@@ -136,7 +136,7 @@ fn take(s: Session, table: &mut [u8], line: &mut [u8], text: &[u8]) -> Session
 
 // Reads once.
 fn read_some(s: Session, table: &mut [u8], line: &mut [u8]) -> Session
-    requires { ⌜ Ready (s .held) (now table) × (length (now line) ≡ mostLine) ⌝ }
+    requires { ⌜ TableReady (s .held) (now table) × (length (now line) ≡ mostLine) ⌝ }
     ensures { λ r. ⌜ r .held .size ≤ length (now (table .exit)) ⌝ }
 {
     let mut text = io::large_buffer();

@@ -17,8 +17,8 @@ use Rattle.console_held.specs.declared.unchecked.holding.Reply.{Reply}
 use Rattle.console_held.specs.declared.unchecked.holding.Step.{Step}
 use Rattle.console_held.specs.declared.unchecked.holding.Holding.{Holding}
 use Rattle.console_held.specs.declared.unchecked.holding.Reply.the-variants.{Error, Says}
-use Rattle.console_held.specs.Requests.{Held, unchanged, refused, carrying, answerOf, takenAnswer, takenBy, takenIn}
-use Rattle.console_held.specs.Replies.{Replies, Stepped, heldIn, replyText, roomOf}
+use Rattle.console_held.specs.Requests.{Held, unchanged, noRequest, carrying, answerOf, takenAnswer, takenBy, takenIn}
+use Rattle.console_held.specs.Inner.{Replies, StepServed, heldIn, replyText, roomOf}
 
 pub error-reply : {buffer : List ℕ} → Replies errorLine Error buffer
 unfolding replyText roomOf
@@ -34,25 +34,25 @@ plain-reply e = record { says = refl; room = omega arith }
 
 -- a request that changes nothing
 pub kept-step : {h : Holding} {table text : List ℕ} {r : Reply} {buffer : List ℕ} → h .size ≤ length table → Replies text r buffer →
-    Stepped (unchanged (heldIn h table) text) record { held = h; reply = r } table buffer
+    StepServed (unchanged (heldIn h table) text) record { held = h; reply = r } table buffer
 unfolding unchanged
 kept-step s p = record { held = refl; size = s; replies = p }
 
 pub error-step : {h : Holding} {table buffer : List ℕ} → h .size ≤ length table →
-    Stepped (refused (heldIn h table)) record { held = h; reply = Error } table buffer
-unfolding refused
+    StepServed (noRequest (heldIn h table)) record { held = h; reply = Error } table buffer
+unfolding noRequest
 error-step s = kept-step s error-reply
 
 -- a request that changes the packet alone
 pub carried-step : (h : Holding) (p : Packet) {table text : List ℕ} {r : Reply} {buffer : List ℕ} {s : Step} →
     s ≡ record { held = record { topology = h .topology; size = h .size; packet = p }; reply = r } → h .size ≤ length table → Replies text r buffer →
-    Stepped (record { held = carrying (heldIn h table) (packetIn p); text = text }) s table buffer
+    StepServed (record { held = carrying (heldIn h table) (packetIn p); text = text }) s table buffer
 unfolding carrying heldIn
 carried-step h p e k q = rw (e) (record { held = refl; size = k; replies = q })
 
 -- a request that takes a topology, whose field holds no bytes
 pub none-taken : (call : List ℕ → Reading) {h : Holding} (line : List ℕ) {table buffer : List ℕ} → byteCount (field 1 line) ≡ Wrong → h .size ≤ length table →
-    Stepped (takenIn call (heldIn h table) line) record { held = h; reply = Error } table buffer
+    StepServed (takenIn call (heldIn h table) line) record { held = h; reply = Error } table buffer
 unfolding takenIn takenBy
 none-taken call line e s = rw (e) (error-step s)
 

@@ -51,8 +51,8 @@ unfoldable pub unchanged : Held → List ℕ → Answered
 unchanged h text = record { held = h; text = text }
 
 -- a line that is no request answers `error` and changes nothing
-unfoldable pub refused : Held → Answered
-refused h = unchanged h errorLine
+unfoldable pub noRequest : Held → Answered
+noRequest h = unchanged h errorLine
 
 -- what is held, with this packet
 unfoldable pub carrying : Held → Packet ℕ → Held
@@ -109,12 +109,12 @@ takenAnswer h r = record { held = record { topology = r .topology; table = h .ta
 -- a call that takes a topology from bytes, where the field is of this count, and its bytes
 unfoldable pub takenBy : (List ℕ → Reading) → Held → Value → List ℕ → Answered
 takenBy call h (Is n) given = takenAnswer h (call given)
-takenBy call h Wrong given = refused h
+takenBy call h Wrong given = noRequest h
 
 -- `load-table TABLE`, where the field is of this count, and its bytes: they are held from then on, beside the topology and the packet
 unfoldable pub loadBy : Held → Value → List ℕ → Answered
 loadBy h (Is n) table = record { held = record { topology = h .topology; table = table; packet = h .packet }; text = answerLine 0 0 }
-loadBy h Wrong table = refused h
+loadBy h Wrong table = noRequest h
 
 -- `shortest`
 unfoldable pub shortestWord : List ℕ
@@ -134,18 +134,18 @@ aimOf Wrong word = aim.Wrong
 -- `load-packet STATION HOPS`, where the fields hold this: it is held from then on
 unfoldable pub loadPacketBy : Held → Value → Value → Answered
 loadPacketBy h (Is station) (Is hops) = record { held = carrying h (record { station = station; hops = hops }); text = answerLine 0 0 }
-loadPacketBy h (Is station) Wrong = refused h
-loadPacketBy h Wrong hops = refused h
+loadPacketBy h (Is station) Wrong = noRequest h
+loadPacketBy h Wrong hops = noRequest h
 
 -- `set START`, where the field holds this
-unfoldable pub setBy : Held → Value → Answered
-setBy h (Is u) = setAnswer h (settingPacket (h .topology) u (h .packet))
-setBy h Wrong = refused h
+unfoldable pub settingBy : Held → Value → Answered
+settingBy h (Is u) = setAnswer h (settingPacket (h .topology) u (h .packet))
+settingBy h Wrong = noRequest h
 
 -- `hop STATES`, where the field is of this count, and its bytes
 unfoldable pub hopBy : Held → Value → List ℕ → Answered
 hopBy h (Is n) states = hopAnswer h (hoppingPacket (h .topology) (h .table) states (h .packet))
-hopBy h Wrong states = refused h
+hopBy h Wrong states = noRequest h
 
 -- such a call, by the field of its line
 unfoldable pub takenIn : (List ℕ → Reading) → Held → List ℕ → Answered
@@ -169,7 +169,7 @@ unfoldable pub loadPacketIn : Held → List ℕ → Answered
 loadPacketIn h line = loadPacketBy h (number mostByte (field 1 line)) (number mostByte (field 2 line))
 
 unfoldable pub setIn : Held → List ℕ → Answered
-setIn h line = setBy h (number mostByte (field 1 line))
+setIn h line = settingBy h (number mostByte (field 1 line))
 
 unfoldable pub hopIn : Held → List ℕ → Answered
 hopIn h line = hopBy h (byteCount (field 1 line)) (bytes (field 1 line))

@@ -14,7 +14,7 @@ use Rattle.topology_sound.specs.Sound.{sound}
 use Rattle.topology_sound.proofs.Sound.{sound-exact}
 use Rattle.topology.specs.Written.{joinedOver}
 use Rattle.text.specs.Fields.{space}
-use Rattle.text.specs.Lines.{Put}
+use Rattle.text.specs.Inner.{Put}
 use Rattle.text.specs.Numbers.{lastDigits, numberText}
 use Rattle.text.proofs.Stores.{behind, put-start}
 use Rattle.listing_rules.specs.Listing.{spaced}
@@ -25,7 +25,7 @@ use Rattle.coverage_rules.specs.Printed.{Fraction, fractions, numbers, fraction
 use Rattle.coverage_rules.proofs.Right.{figures-right, coverage-refuses}
 use Rattle.coverage_rules.proofs.Printing.{text-length}
 use Rattle.console_held.specs.declared.unchecked.holding.Reply.the-variants.{Line}
-use Rattle.console_held.specs.Replies.{Replies, replyText, roomOf}
+use Rattle.console_held.specs.Inner.{Replies, replyText, roomOf}
 use Rattle.console_replies.specs.Calls.{coverageLine, coverageOf}
 
 followed : ℕ → List ℕ

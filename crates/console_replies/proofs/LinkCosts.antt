@@ -14,14 +14,15 @@ use Rattle.te.specs.SubTlvs.{usable}
 use Rattle.te.specs.Cost.{costing}
 use Rattle.te.proofs.Patterns.{number-if-usable}
 use Rattle.te.proofs.Reaching.{records-kept}
-use Rattle.text.specs.Lines.{Put, newline}
+use Rattle.text.specs.Inner.{Put}
+use Rattle.text.specs.Lines.{newline}
 use Rattle.text.specs.Numbers.{numberText}
 use Rattle.text.proofs.Stores.{start}
 use Rattle.text.proofs.Texts.{number-length}
 use Rattle.listing_rules.specs.Listing.{spaced}
 use Rattle.listing_rules.proofs.InTurn.{put-length}
 use Rattle.console_held.specs.declared.unchecked.holding.Reply.the-variants.{Line}
-use Rattle.console_held.specs.Replies.{Replies, replyText, roomOf}
+use Rattle.console_held.specs.Inner.{Replies, replyText, roomOf}
 
 -- 20 digits and a space each
 spaced-most : (ns : List ℕ) → length (spaced (map numberText ns)) ≤ 21 * length ns

@@ -13,7 +13,7 @@ use Rattle.text.specs.declared.unchecked.fields.Value.the-variants.{Is}
 use Rattle.text.specs.Numbers.{number}
 use Rattle.text.proofs.Numbers.{number-bound}
 use Rattle.console_held.specs.declared.unchecked.holding.Reply.the-variants.{Leaves}
-use Rattle.console_held.specs.Replies.{Replies, replyText, roomOf}
+use Rattle.console_held.specs.Inner.{Replies, replyText, roomOf}
 use Rattle.console_replies.specs.Calls.{mostRoom, lent, bufferOf}
 use Rattle.console_replies.proofs.Lent.{lent-length, lent-start}
 

@@ -141,8 +141,8 @@ teBy Wrong value = errorLine
 unfoldable pub writeIn : Topology → List ℕ → List ℕ
 writeIn t line = writeBy t (number mostRoom (field 1 line))
 
-unfoldable pub orderIn : Topology → List ℕ → List ℕ
-orderIn t line = orderBy t (aimIn line) (number mostRoom (field 3 line))
+unfoldable pub buildIn : Topology → List ℕ → List ℕ
+buildIn t line = orderBy t (aimIn line) (number mostRoom (field 3 line))
 
 unfoldable pub checkOrderIn : Topology → List ℕ → List ℕ
 checkOrderIn t line = checkOrderBy t (aimIn line) (byteCount (field 3 line)) (bytes (field 3 line))
@@ -155,8 +155,8 @@ fillIn t line =
 unfoldable pub checkTable : Held → List ℕ
 checkTable h = answerOf (tableChecking (h .topology) (h .table))
 
-unfoldable pub countIn : Held → List ℕ → List ℕ
-countIn h line = countBy h (number mostRoom (field 1 line))
+unfoldable pub greatestIn : Held → List ℕ → List ℕ
+greatestIn h line = countBy h (number mostRoom (field 1 line))
 
 unfoldable pub listIn : Topology → List ℕ → List ℕ
 listIn t line = listBy t (number mostByte (field 1 line)) (number mostRoom (field 2 line))

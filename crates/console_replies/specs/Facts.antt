@@ -8,7 +8,7 @@ use lib.Dec.{T}
 use Rattle.network.specs.Lists.{every, sameNumbers}
 use Rattle.topology_types.specs.declared.Topology.{Topology}
 use Rattle.topology_types.specs.Topology.{zeros}
-use Rattle.order.specs.Table.{T-topology}
+use Rattle.order.specs.Facts.{T-topology}
 use Rattle.table.specs.Facts.{lone}
 use Rattle.te.specs.Cost.{costing}
 use Rattle.console_replies.specs.Calls.{coverageOf, costLine}

@@ -9,17 +9,17 @@ use Rattle.topology_types.specs.Topology.{noLink, padded, contents, held, zeros
 use Rattle.topology_sound.specs.Sound.{within, inLimits, wellLinked, uncrowded, isNoLink, unusedZero, slotted, sound}
 use Rattle.stream_rules.specs.Stream.{bigEndianOn, bigEndian, bodyLength, halfIn, decoded, recordIn, records}
 use Rattle.stream_rules.specs.Halves.{firstHalf, secondHalf, linkHalves, halves, sameHalf, leaves, opposite, linkOf}
-use Rattle.stream_rules.specs.Reading.{refusal, accepted, routerFault, repeated, crowded, halvesFault, fault, withRouter, withLink, withLimit, arrived, added}
-use Rattle.stream_rules.specs.Reading.{width, isEnd, ended, unless, some?, inTurn, nothingListed, reading}
-use Rattle.stream_rules.specs.Table.{T-stream, inSequence, routers}
+use Rattle.stream_rules.specs.Reading.{refusal, acceptedReading, routerFault, repeated, crowded, halvesFault, fault, withRouter, withLink, withLimit, arrived, added}
+use Rattle.stream_rules.specs.Reading.{width, isEnd, ended, unless, anyRecord?, inTurn, nothingListed, reading}
+use Rattle.stream_rules.specs.Facts.{T-stream, inSequence, routers}
 use Rattle.topology.specs.Written.{joinedOver}
 use Rattle.text.specs.Lines.{refusedWord, answerText, answerLine, wordLine}
 use Rattle.text.specs.Numbers.{lastDigits, numberText}
 use Rattle.listing_rules.specs.Listing.{spaced}
-use Rattle.coverage_rules.specs.Coverage.{rowFor, pairsTo, pairsOf, hasTwo, coveredAmong, listedFor, counted, coverage}
+use Rattle.coverage_rules.specs.Coverage.{rowFor, pairsTo, pairsOf, hasTwo, coveredAmong, listedFor, figuresCounted, coverage}
 use Rattle.coverage_rules.specs.Printed.{overLinks, fractions, fractionText, fractionsText, coverageText}
 use Rattle.program_io.specs.Output.{refusedLine, printed, outputBy}
-use Rattle.coverage.specs.Output.{figuresText, output}
+use Rattle.coverage.specs.Output.{figuresText, coverageOutput}
 use Rattle.coverage.specs.Facts.{holds, refused, facts, FactsHold}
 
 pub facts-hold : FactsHold
@@ -32,9 +32,9 @@ unfolding numbersFrom below keep every any leastBy greatestBy ahead foremost ins
     within inLimits wellLinked uncrowded isNoLink unusedZero slotted sound
     bigEndianOn bigEndian bodyLength halfIn decoded recordIn records
     linkHalves firstHalf secondHalf halves sameHalf leaves opposite linkOf
-    refusal accepted routerFault repeated crowded halvesFault fault withRouter withLink withLimit arrived added
-    width isEnd ended unless some? inTurn nothingListed reading
+    refusal acceptedReading routerFault repeated crowded halvesFault fault withRouter withLink withLimit arrived added
+    width isEnd ended unless anyRecord? inTurn nothingListed reading
     T-stream inSequence routers joinedOver refusedWord answerText answerLine wordLine lastDigits numberText spaced
-    rowFor pairsTo pairsOf hasTwo coveredAmong listedFor counted coverage overLinks fractions fractionText fractionsText coverageText
-    refusedLine printed outputBy figuresText output holds refused facts
+    rowFor pairsTo pairsOf hasTwo coveredAmong listedFor figuresCounted coverage overLinks fractions fractionText fractionsText coverageText
+    refusedLine printed outputBy figuresText coverageOutput holds refused facts
 facts-hold = tt

@@ -4,11 +4,11 @@ use mathlib.Core.Path.{_∙_}
 use Rattle.stream_rules.proofs.Returned.{reads-sound}
 use Rattle.coverage_rules.proofs.Right.{figures-right, lines-right}
 use Rattle.program_io.proofs.Right.{all-print}
-use Rattle.coverage.specs.Output.{figuresText, output}
-use Rattle.coverage.specs.Theorems.{PrintsRight}
+use Rattle.coverage.specs.Output.{figuresText, coverageOutput}
+use Rattle.coverage.specs.Theorems.{CoveragePrintsRight}
 
-pub prints-right : PrintsRight
-unfolding output figuresText
+pub prints-right : CoveragePrintsRight
+unfolding coverageOutput figuresText
 prints-right stream bytes =
     record {
       refused = all-print figuresText stream .refused;

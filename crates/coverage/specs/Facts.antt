@@ -6,8 +6,8 @@ use mathlib.Core.List.{List, [], _∷_, _++_}
 use lib.Dec.{T}
 use lib.ListN.{take}
 use Rattle.network.specs.Lists.{every, sameNumbers}
-use Rattle.stream_rules.specs.Table.{routers, T-stream}
-use Rattle.coverage.specs.Output.{output}
+use Rattle.stream_rules.specs.Facts.{routers, T-stream}
+use Rattle.coverage.specs.Output.{coverageOutput}
 
 -- a stream, and what is printed for it
 pub record Fact : Type 0 where
@@ -15,7 +15,7 @@ pub record Fact : Type 0 where
   pub prints : List ℕ
 
 unfoldable pub holds : Fact → Bool
-holds f = sameNumbers (output (f .stream)) (f .prints)
+holds f = sameNumbers (coverageOutput (f .stream)) (f .prints)
 
 -- `refused ` and what stands behind it
 unfoldable pub refused : List ℕ → List ℕ

@@ -12,5 +12,5 @@ unfoldable pub figuresText : Topology → List ℕ
 figuresText t = coverageText (coverage t)
 
 -- the whole output: the figures; a refused stream prints the listing's line
-unfoldable pub output : List ℕ → List ℕ
-output stream = outputBy figuresText stream
+unfoldable pub coverageOutput : List ℕ → List ℕ
+coverageOutput stream = outputBy figuresText stream

@@ -11,22 +11,22 @@ use Rattle.stream_rules.specs.Theorems.{Bytes}
 use Rattle.topology.specs.Written.{joinedOver}
 use Rattle.text.specs.Numbers.{numberText}
 use Rattle.coverage_rules.specs.Coverage.{coverage}
-use Rattle.coverage_rules.specs.Theorems.{lineWith, Figures}
-use Rattle.coverage.specs.Output.{output}
+use Rattle.coverage_rules.specs.Theorems.{figureLine, Figures}
+use Rattle.coverage.specs.Output.{coverageOutput}
 
 -- 02, #102: a refused stream prints the listing's line: `refused`, number, at; any other the figures of the topology read, two numbers a line, one space
 -- between: the pairs first, then a line for each destination, by place
-pub record Prints (stream : List ℕ) : Type 0 where
+pub record CoveragePrints (stream : List ℕ) : Type 0 where
   pub refused : reading stream .answer .number ≢ 0 →
-      output stream
+      coverageOutput stream
       ≡ 114 ∷ 101 ∷ 102 ∷ 117 ∷ 115 ∷ 101 ∷ 100 ∷ 32 ∷ (numberText (reading stream .answer .number)
       ++ (32 ∷ (numberText (reading stream .answer .at) ++ (10 ∷ []))))
   pub counted : reading stream .answer .number ≡ 0 →
       let t = reading stream .topology in
-      output stream
-      ≡ lineWith (coverage t .covered) (coverage t .pairs)
-      ++ joinedOver (λ d. lineWith (getD (coverage t .listed) d 0) (t .links)) (below (t .routers))
+      coverageOutput stream
+      ≡ figureLine (coverage t .covered) (coverage t .pairs)
+      ++ joinedOver (λ d. figureLine (getD (coverage t .listed) d 0) (t .links)) (below (t .routers))
   pub figures : reading stream .answer .number ≡ 0 → Figures (reading stream .topology)
 
-abbrev pub PrintsRight : Type 0
-PrintsRight = (stream : List ℕ) → Bytes stream → Prints stream
+abbrev pub CoveragePrintsRight : Type 0
+CoveragePrintsRight = (stream : List ℕ) → Bytes stream → CoveragePrints stream

@@ -11,7 +11,7 @@ ghost use Prim.Native.Nat.{_<_};
 ghost use lib.Dec.{T};
 ghost use lib.ListN.{length};
 ghost use Rattle.topology_sound.specs.Sound.{sound};
-ghost use Rattle.arcs.specs.Arcs.{Laid};
+ghost use Rattle.arcs.specs.Inner.{Laid};
 ghost use Rattle.coverage_rules.specs.Coverage.{pairsTo, coveredAmong, listedFor};
 ghost use Rattle.coverage_rules.specs.Inner.{twoIn, allIn, Countable};
 

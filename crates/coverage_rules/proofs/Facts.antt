@@ -8,11 +8,11 @@ use Rattle.network.specs.Row.{rank, sortsBefore, rankedBefore, fullRow, row}
 use Rattle.topology_types.specs.Topology.{noLink, padded, contents, held, zeros, seen, networkIn, networkOf}
 use Rattle.topology_sound.specs.Sound.{within, inLimits, wellLinked, uncrowded, isNoLink, unusedZero, slotted, sound}
 use Rattle.topology.specs.Written.{joinedOver}
-use Rattle.order.specs.Table.{answers, link, T-topology, cutOff, twoParts, pair}
+use Rattle.order.specs.Facts.{answers, link, T-topology, cutOff, twoParts, pair}
 use Rattle.table.specs.Facts.{lone, F-links, F-topology}
 use Rattle.text.specs.Numbers.{lastDigits, numberText}
 use Rattle.listing_rules.specs.Listing.{spaced}
-use Rattle.coverage_rules.specs.Coverage.{rowFor, pairsTo, pairsOf, hasTwo, coveredAmong, listedFor, counted, nothingCounted, coverage}
+use Rattle.coverage_rules.specs.Coverage.{rowFor, pairsTo, pairsOf, hasTwo, coveredAmong, listedFor, figuresCounted, nothingCounted, coverage}
 use Rattle.coverage_rules.specs.Printed.{overLinks, fractions, numbers, fractionText, fractionsText, coverageText}
 use Rattle.coverage_rules.specs.Facts.{holds, facts, FactsHold}
 
@@ -25,6 +25,6 @@ unfolding numbersFrom below keep every any leastBy greatestBy ahead foremost ins
     noLink padded contents held zeros seen networkIn networkOf
     within inLimits wellLinked uncrowded isNoLink unusedZero slotted sound
     joinedOver answers link T-topology cutOff twoParts pair lone F-links F-topology lastDigits numberText spaced
-    rowFor pairsTo pairsOf hasTwo coveredAmong listedFor counted nothingCounted coverage
+    rowFor pairsTo pairsOf hasTwo coveredAmong listedFor figuresCounted nothingCounted coverage
     overLinks fractions numbers fractionText fractionsText coverageText holds facts
 facts-hold = tt

@@ -24,9 +24,9 @@ use Rattle.order_standings.proofs.Keeping.{kept-most}
 use Rattle.table.proofs.Lists.{places-are, no-path-row}
 use Rattle.listing_rules.specs.Listing.{spaced}
 use Rattle.listing_rules.proofs.Tables.{given}
-use Rattle.coverage_rules.specs.Coverage.{rowFor, pairsOf, hasTwo, coveredAmong, listedFor, counted, nothingCounted, coverage}
+use Rattle.coverage_rules.specs.Coverage.{rowFor, pairsOf, hasTwo, coveredAmong, listedFor, figuresCounted, nothingCounted, coverage}
 use Rattle.coverage_rules.specs.Printed.{Fraction, overLinks, fractions, numbers, fractionText, fractionsText, coverageText}
-use Rattle.coverage_rules.specs.Theorems.{HowMany, PairOf, FiguresRight, CoverageRefuses, lineWith, LinesRight}
+use Rattle.coverage_rules.specs.Theorems.{HowMany, PairOf, FiguresRight, CoverageRefuses, figureLine, FigureLinesRight}
 use Rattle.coverage_rules.proofs.Lists.{joined-as}
 use Rattle.coverage_rules.proofs.Pairs.{pairs-once, pairs-each, pairs-many}
 use Rattle.coverage_rules.proofs.Links.{listed-most}
@@ -38,7 +38,7 @@ zeros-at (suc n) zero = refl
 zeros-at (suc n) (suc i) = zeros-at n i
 
 module _ (t : Topology) (good : T (sound t)) where
-  pub is-counted : coverage t ≡ counted t
+  pub is-counted : coverage t ≡ figuresCounted t
   unfolding coverage
   is-counted = rw (as-true (sound t) good)
 
@@ -49,11 +49,11 @@ module _ (t : Topology) (good : T (sound t)) where
   many = length-map-below (listedFor t) (t .routers)
 
   listed-at : (d : ℕ) → d < t .routers → getD (coverage t .listed) d 0 ≡ listedFor t d
-  unfolding counted padded
+  unfolding figuresCounted padded
   listed-at d h = rw is-counted (List·getD-append sums _ 0 d (rw many h) ∙ getD-below (listedFor t) (t .routers) d 0 h)
 
   unused : (d : ℕ) → t .routers ≤ d → getD (coverage t .listed) d 0 ≡ 0
-  unfolding counted padded
+  unfolding figuresCounted padded
   unused d past =
       let rest : List ℕ = replicate (64 - length sums) 0 in
       let behind : d ≡ length sums + (d - length sums) = omega (arith, many) in
@@ -61,7 +61,7 @@ module _ (t : Topology) (good : T (sound t)) where
       (ap (λ (i : ℕ). getD (sums ++ rest) i 0) behind ∙ getD-append-add sums rest (d - length sums) 0 ∙ zeros-at (64 - length sums) (d - length sums))
 
   every-pair : HowMany (PairOf t) (coverage t .pairs)
-  unfolding counted
+  unfolding figuresCounted
   every-pair =
       record {
         all = pairsOf (t .routers);
@@ -74,7 +74,7 @@ module _ (t : Topology) (good : T (sound t)) where
       }
 
   covered-pairs : HowMany (λ p. PairOf t p × (2 ≤ length (rowFor t (p .destination) (p .router)))) (coverage t .covered)
-  unfolding counted coveredAmong hasTwo every-pair
+  unfolding figuresCounted coveredAmong hasTwo every-pair
   covered-pairs =
       record {
         all = keep (hasTwo t) (pairsOf (t .routers));
@@ -87,7 +87,7 @@ module _ (t : Topology) (good : T (sound t)) where
       }
 
 pub figures-right : FiguresRight
-unfolding counted coveredAmong rowFor listedFor
+unfolding figuresCounted coveredAmong rowFor listedFor
 figures-right t good =
     let s = sound-networks t good in
     record {
@@ -117,7 +117,7 @@ pub coverage-refuses : CoverageRefuses
 unfolding coverage nothingCounted padded
 coverage-refuses t out = rw (as-false (sound t) out)
 
-line-is : (f : Fraction) → fractionText 10 f ≡ lineWith (f .part) (f .whole)
+line-is : (f : Fraction) → fractionText 10 f ≡ figureLine (f .part) (f .whole)
 unfolding fractionText spaced
 line-is f = simp append-assoc
 
@@ -126,7 +126,7 @@ in-order : (t : Topology) → T (sound t) → (f : Fraction → List ℕ) →
     joinedOver f (fractions (coverage t))
     ≡ f (record { part = coverage t .covered; whole = coverage t .pairs })
     ++ joinedOver (λ d. f (record { part = getD (coverage t .listed) d 0; whole = t .links })) (below (t .routers))
-unfolding fractions overLinks counted padded joinedOver
+unfolding fractions overLinks figuresCounted padded joinedOver
 in-order t good f =
     let links : coverage t .links ≡ t .links = rw (is-counted t good) in
     let front : take (coverage t .destinations) (coverage t .listed) ≡ sums t good =
@@ -136,7 +136,7 @@ in-order t good f =
     (joined-as f _ (λ n. f (record { part = n; whole = t .links })) (sums t good) (λ n m. refl)
     ∙ joined-as _ (listedFor t) _ (below (t .routers)) (λ d m. rw (listed-at t good d (below-lt _ m)))))
 
-pub lines-right : LinesRight
+pub lines-right : FigureLinesRight
 unfolding coverageText fractionsText numbers
 lines-right t good =
     record { in-order = in-order t good (λ f. f .part ∷ f .whole ∷ []); lines = simp line-is at (in-order t good (fractionText 10)) }

@@ -48,8 +48,8 @@ unfoldable pub listedFor : Topology → ℕ → ℕ
 listedFor t d = length (joinedOver (rowFor t d) (below (t .routers)))
 
 -- 02, #102: the figures of a sound topology; a link counts once, where 001 doubles it
-unfoldable pub counted : Topology → Coverage
-counted t =
+unfoldable pub figuresCounted : Topology → Coverage
+figuresCounted t =
     record {
       answer = answer 0 0;
       covered = coveredAmong t (pairsOf (t .routers));
@@ -66,4 +66,4 @@ nothingCounted =
 
 -- 02, #102, refused: 14 only
 unfoldable pub coverage : Topology → Coverage
-coverage t = cond (sound t) (counted t) nothingCounted
+coverage t = cond (sound t) (figuresCounted t) nothingCounted

@@ -8,7 +8,7 @@ use lib.ListN.{length, getD}
 use Rattle.network.specs.Lists.{every, sameNumbers}
 use Rattle.topology_types.specs.declared.Topology.{Topology}
 use Rattle.topology_types.specs.Topology.{zeros}
-use Rattle.order.specs.Table.{answers, T-topology, cutOff, twoParts, pair}
+use Rattle.order.specs.Facts.{answers, T-topology, cutOff, twoParts, pair}
 use Rattle.table.specs.Facts.{lone, F-topology}
 use Rattle.coverage_rules.specs.Coverage.{pairsTo, coveredAmong, coverage}
 use Rattle.coverage_rules.specs.Printed.{fractionText, numbers, coverageText}

@@ -74,16 +74,16 @@ CoverageRefuses =
     coverage t ≡ record { answer = answer 14 0; covered = 0; pairs = 0; destinations = 0; links = 0; listed = replicate 64 0 }
 
 -- two numbers, one space between, 32; a newline, 10, ends the line
-abbrev pub lineWith : ℕ → ℕ → List ℕ
-lineWith part whole = numberText part ++ (32 ∷ (numberText whole ++ (10 ∷ [])))
+abbrev pub figureLine : ℕ → ℕ → List ℕ
+figureLine part whole = numberText part ++ (32 ∷ (numberText whole ++ (10 ∷ [])))
 
 -- 02, #102: the numbers as they are, unreduced: the pairs' two first, then two for each destination, by place; and each two in a line.
-pub record Lines (t : Topology) : Type 0 where
+pub record FigureLines (t : Topology) : Type 0 where
   pub in-order : numbers (coverage t)
       ≡ coverage t .covered ∷ coverage t .pairs ∷ joinedOver (λ d. getD (coverage t .listed) d 0 ∷ t .links ∷ []) (below (t .routers))
   pub lines : coverageText (coverage t)
-      ≡ lineWith (coverage t .covered) (coverage t .pairs)
-      ++ joinedOver (λ d. lineWith (getD (coverage t .listed) d 0) (t .links)) (below (t .routers))
+      ≡ figureLine (coverage t .covered) (coverage t .pairs)
+      ++ joinedOver (λ d. figureLine (getD (coverage t .listed) d 0) (t .links)) (below (t .routers))
 
-abbrev pub LinesRight : Type 0
-LinesRight = (t : Topology) → T (sound t) → Lines t
+abbrev pub FigureLinesRight : Type 0
+FigureLinesRight = (t : Topology) → T (sound t) → FigureLines t

@@ -12,8 +12,7 @@ use lib.Seq.{length-take-le, getD-take, ext-getD}
 use Rattle.network.specs.Network.{Network}
 use Rattle.network.specs.Distance.{PathTo, arrived, along, pathCost, absent, distanceIn, distances, distance}
 use Rattle.arcs.specs.declared.Arcs.{Arcs}
-use Rattle.distances.specs.Settled.{Settled}
-use Rattle.distances.specs.Inner.{Closed}
+use Rattle.distances.specs.Inner.{Settled, Closed}
 use Rattle.distances.proofs.Unsettled.{none-open}
 use Rattle.distances.proofs.Ways.{Given, exact, absent-is, slot-back, by-place}
 use Rattle.distances.proofs.Run.{Run}

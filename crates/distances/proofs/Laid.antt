@@ -8,12 +8,11 @@ use Rattle.network.specs.Lists.{below}
 use Rattle.topology_types.specs.declared.Topology.{Topology}
 use Rattle.topology_types.specs.Topology.{networkOf}
 use Rattle.topology_sound.proofs.Sound.{sound-networks}
-use Rattle.arcs.specs.Arcs.{inSlots, networkBack}
+use Rattle.arcs.specs.Inner.{inSlots}
+use Rattle.arcs.specs.Back.{networkBack}
 use Rattle.arcs.specs.Theorems.{Opposite}
 use Rattle.arcs.proofs.Back.{back-exact}
-use Rattle.distances.specs.Slots.{Slots}
-use Rattle.distances.specs.Settled.{LaidIn, Settled}
-use Rattle.distances.specs.Inner.{Searched, Nearest, Relaxed}
+use Rattle.distances.specs.Inner.{Slots, LaidIn, Settled, Searched, Nearest, Relaxed}
 use Rattle.distances.proofs.Slots.{Held, back-held, all-slots}
 use Rattle.distances.proofs.Ways.{Given}
 use Rattle.distances.proofs.Run.{Run, begun}

@@ -9,8 +9,7 @@ use native.Mathlib.Nat.{le-refl}
 use native.Mathlib.Omega.{arith}
 use lib.ListN.{length, getD, set, length-set}
 use lib.Seq.{getD-set-same}
-use Rattle.distances.specs.Slots.{slotTo}
-use Rattle.distances.specs.Inner.{Relaxed}
+use Rattle.distances.specs.Inner.{slotTo, Relaxed}
 use Rattle.distances.proofs.Stored.{stored}
 
 pub relaxed-none : (to back : List ℕ) (u : ℕ) (ds : List ℕ) → length ds ≡ 64 → Relaxed to back u 0 ds ds

@@ -14,8 +14,7 @@ use Rattle.network.specs.Network.{Network}
 use Rattle.network.specs.Distance.{arrived, pathCost, distance}
 use Rattle.network.proofs.Below.{length-below}
 use Rattle.arcs.specs.declared.Arcs.{Arcs}
-use Rattle.distances.specs.Slots.{slotTo}
-use Rattle.distances.specs.Inner.{Open, Closed}
+use Rattle.distances.specs.Inner.{slotTo, Open, Closed}
 use Rattle.distances.proofs.Unsettled.{below-at, unsettled, all-open}
 use Rattle.distances.proofs.Ways.{Given, exact, at-most-absent, absent-is}
 

@@ -14,10 +14,10 @@ use Rattle.topology_types.specs.Topology.{networkOf}
 use Rattle.topology_sound.specs.Sound.{sound}
 use Rattle.topology_sound.proofs.Sound.{sound-exact, sound-networks}
 use Rattle.arcs.specs.declared.Arcs.{Arcs}
-use Rattle.arcs.specs.Arcs.{slotArc, slotArcs, Holds, networkBack, Laid}
+use Rattle.arcs.specs.Inner.{slotArc, slotArcs, ArcsHeld, Laid}
+use Rattle.arcs.specs.Back.{networkBack}
 use Rattle.arcs.proofs.Back.{back-exact, few-back}
-use Rattle.distances.specs.Slots.{slotTo, AllSlots}
-use Rattle.distances.specs.Settled.{LaidIn}
+use Rattle.distances.specs.Inner.{slotTo, AllSlots, LaidIn}
 
 -- the slots hold the arcs of the network, which has `count` routers and is within the limits
 pub record Held (n : Network) (a : Arcs) (count : ℕ) : Type 0 where
@@ -25,15 +25,15 @@ pub record Held (n : Network) (a : Arcs) (count : ℕ) : Type 0 where
   pub sized : size n ≡ count
   pub most : count ≤ 64
   pub few : (u : ℕ) → u < count → length (arcsOf n u) ≤ 16
-  pub holds : Holds n a
+  pub holds : ArcsHeld n a
 
-pub sound-held : (t : Topology) (a : Arcs) → T (sound t) → Holds (networkOf t) a → Held (networkOf t) a (t .routers)
+pub sound-held : (t : Topology) (a : Arcs) → T (sound t) → ArcsHeld (networkOf t) a → Held (networkOf t) a (t .routers)
 sound-held t a s h =
     let tested = sound-exact t .0 s in
     let seen = sound-networks t s in
     record { formed = seen .well-formed; sized = seen .routers; most = tested .routers-most; few = tested .neighbours; holds = h }
 
-pub back-held : (t : Topology) (a : Arcs) → T (sound t) → Holds (networkBack t) a → Held (networkBack t) a (t .routers)
+pub back-held : (t : Topology) (a : Arcs) → T (sound t) → ArcsHeld (networkBack t) a → Held (networkBack t) a (t .routers)
 back-held t a s h =
     let seen = back-exact t s in
     record { formed = seen .well-formed; sized = seen .routers; most = sound-exact t .0 s .routers-most; few = few-back t s; holds = h }

@@ -12,8 +12,7 @@ use lib.ListN.{length, getD, set, length-set}
 use lib.Seq.{getD-set-same, getD-set-other}
 use Rattle.network.specs.Network.{Network}
 use Rattle.arcs.specs.declared.Arcs.{Arcs}
-use Rattle.distances.specs.Slots.{slotTo}
-use Rattle.distances.specs.Inner.{Open, Closed, Searched, Nearest, Relaxed}
+use Rattle.distances.specs.Inner.{slotTo, Open, Closed, Searched, Nearest, Relaxed}
 use Rattle.distances.proofs.Stored.{stored}
 use Rattle.distances.proofs.Unsettled.{one-open, one-less}
 use Rattle.distances.proofs.Ways.{Given, along-slot}

@@ -13,9 +13,9 @@ use Rattle.network.specs.Theorems.Distance.{DistanceExact}
 use Rattle.network.proofs.Below.{below-lt}
 use Rattle.network.proofs.Distance.{distances-exact, rounds-exact, rounds-settle}
 use Rattle.arcs.specs.declared.Arcs.{Arcs}
-use Rattle.arcs.specs.Arcs.{slotArc, slotArcs}
+use Rattle.arcs.specs.Inner.{slotArc, slotArcs}
 use Rattle.arcs.specs.Theorems.{Opposite}
-use Rattle.distances.specs.Slots.{slotTo}
+use Rattle.distances.specs.Inner.{slotTo}
 use Rattle.distances.proofs.Slots.{Held, slot-listed, slot-place}
 
 -- a network, a place of it as destination, and slots that hold the arcs of the other ends

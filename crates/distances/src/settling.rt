@@ -9,8 +9,7 @@ ghost use Prim.Native.Nat.{_*_, _<_, _≤_};
 ghost use lib.ListN.{length, set, replicate};
 ghost use Rattle.network.specs.Lists.{below};
 ghost use Rattle.topology_types.specs.Limits.{mostRouters};
-ghost use Rattle.distances.specs.Slots.{Slots};
-ghost use Rattle.distances.specs.Inner.{Searched, Nearest, Relaxed};
+ghost use Rattle.distances.specs.Inner.{Slots, Searched, Nearest, Relaxed};
 
 // The mark of a settled router: more than any distance with a place behind it.
 pub(crate) const SETTLED: u32 = 536870912;

@@ -8,7 +8,7 @@ ghost use Prim.Native.Nat.{_<_, _≤_};
 ghost use Rattle.topology_types.specs.Limits.{mostRouters};
 ghost use Rattle.topology_types.specs.declared.Topology.{Topology};
 ghost use Rattle.topology_types.specs.Topology.{networkOf};
-ghost use Rattle.distances.specs.Settled.{LaidIn, Settled};
+ghost use Rattle.distances.specs.Inner.{LaidIn, Settled};
 
 // One more than the greatest cost: n times this is more than any path costs that visits no router of n twice, and stands for an absent distance.
 pub const STEP: u32 = 65536;

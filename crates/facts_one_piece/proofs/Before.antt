@@ -29,12 +29,12 @@ use Rattle.topology_types.specs.Outcome.{answer, given}
 use Rattle.topology_types.specs.Topology.{padded, contents, seen, networkIn, networkOf}
 use Rattle.topology_types.proofs.Given.{given-exact}
 use Rattle.topology_sound.specs.Sound.{sound}
-use Rattle.topology_sound.specs.Theorems.{plain}
+use Rattle.topology_sound.specs.Theorems.{asLink}
 use Rattle.topology_sound.proofs.Sound.{sound-exact, sound-networks}
 use Rattle.order_standings.specs.declared.Mode.{Mode}
 use Rattle.order_standings.specs.declared.Mode.the-variants as mode
-use Rattle.order.specs.Calls.{modeOf, reachedCount, orderBytes, wrongRanks, ranksAfter, unreadyRanks, atFirst, building, judging, checking}
-use Rattle.order.specs.Theorems.{upToN, Holds}
+use Rattle.order.specs.Calls.{modeOf, reachedCount, orderBytes, wrongRanks, ranksAfter, unreadyRanks, refusedAtFirst, building, judging, checking}
+use Rattle.order.specs.Theorems.{upToN, OrderHeld}
 use Rattle.order.proofs.Orders.{checks-exact, reached-right}
 use Rattle.order.proofs.After.{all-none}
 use Rattle.order.proofs.Decided.{judged, other-length}
@@ -61,7 +61,7 @@ module _ (t : Topology) (good : T (sound t)) (one : InOnePiece t) where
   paths d u d-in u-in =
       let w = sound-exact t .0 good in
       let ids = take (t .routers) (t .id) in
-      let links = map plain (take (t .links) (t .link)) in
+      let links = map asLink (take (t .links) (t .link)) in
       let listed : length ids ≡ t .routers = length-take-le (t .routers) (t .id) (omega (arith, w .id-slots, w .routers-most)) in
       linked-connected ids links (sound-links-exact ids links .1 (w .linked)) 0 (λ v h. one v (omega arith)) d u (omega arith) (omega arith)
 
@@ -87,7 +87,7 @@ module _ (t : Topology) (good : T (sound t)) (one : InOnePiece t) where
 
     -- an order as it was judged before is the whole of the bytes
     holds-whole : (m : Mode) (meant : network.Mode) (bytes : List ℕ) →
-        ((checking t d m bytes ≡ answer 0 0) ↔ ((held : List ℕ) × Holds t d meant bytes held)) → (checking t d m bytes ≡ answer 0 0) ↔ Accepted (networkOf t) d meant bytes
+        ((checking t d m bytes ≡ answer 0 0) ↔ ((held : List ℕ) × OrderHeld t d meant bytes held)) → (checking t d m bytes ≡ answer 0 0) ↔ Accepted (networkOf t) d meant bytes
     holds-whole m meant bytes (on, back) = (
       λ e. let (held, h) = on e in subst (Accepted (networkOf t) d meant) (sym (h .bytes-are ∙ no-more (h .accepted))) (h .accepted),
       λ a. back (bytes, record { accepted = a; bytes-are = sym (no-more a) }),
@@ -95,15 +95,15 @@ module _ (t : Topology) (good : T (sound t)) (one : InOnePiece t) where
 
     whole-judged : (m : Mode) (bytes : List ℕ) → length bytes ≡ t .routers → judging t d m bytes
         ≡ cond (not (eqb (length bytes) (t .routers))) (answer 17 (length bytes))
-        (atFirst 18 (wrongRanks (t .routers) bytes)
+        (refusedAtFirst 18 (wrongRanks (t .routers) bytes)
         (cond (not (eqb (getD bytes 0 0) d)) (answer 19 0)
-        (atFirst 20 (unreadyRanks (networkOf t) d (modeOf m) bytes) (answer 0 0))))
+        (refusedAtFirst 20 (unreadyRanks (networkOf t) d (modeOf m) bytes) (answer 0 0))))
     unfolding judging
     whole-judged m bytes size =
         let part : take (reachedCount (networkOf t) d) bytes ≡ bytes = take-all (reachedCount (networkOf t) d) bytes (omega (arith, all-reached)) in
         let after : ranksAfter (reachedCount (networkOf t) d) bytes ≡ [] =
         all-none bytes (reachedCount (networkOf t) d) (λ r h k. absurd (omega (arith, all-reached))) in
-        rw (part, after) (unfold atFirst in refl)
+        rw (part, after) (unfold refusedAtFirst in refl)
 
     -- all ranks are reached, so 17 to 20 go over the whole order, and after it there is no rank
     checked : (m : Mode) (bytes : List ℕ) → checking t d m bytes ≡ judgedWhole t d m bytes
@@ -112,14 +112,14 @@ module _ (t : Topology) (good : T (sound t)) (one : InOnePiece t) where
       where
         cases : Dec (length bytes ≡ t .routers) → judging t d m bytes
             ≡ cond (not (eqb (length bytes) (t .routers))) (answer 17 (length bytes))
-            (atFirst 18 (wrongRanks (t .routers) bytes)
+            (refusedAtFirst 18 (wrongRanks (t .routers) bytes)
             (cond (not (eqb (getD bytes 0 0) d)) (answer 19 0)
-            (atFirst 20 (unreadyRanks (networkOf t) d (modeOf m) bytes) (answer 0 0))))
+            (refusedAtFirst 20 (unreadyRanks (networkOf t) d (modeOf m) bytes) (answer 0 0))))
         cases (no other) = sym (other-length t d m bytes other) ∙ rw (ne-eqb (length bytes) (t .routers) other)
         cases (yes size) = whole-judged m bytes size
 
     module _ (m : Mode) (meant : network.Mode) (same : modeOf m ≡ meant)
-        (exact : (bytes : List ℕ) → (checking t d m bytes ≡ answer 0 0) ↔ ((held : List ℕ) × Holds t d meant bytes held)) where
+        (exact : (bytes : List ℕ) → (checking t d m bytes ≡ answer 0 0) ↔ ((held : List ℕ) × OrderHeld t d meant bytes held)) where
       order-is : upToN t (network.build (networkOf t) d meant) ≡ network.build (networkOf t) d meant
       order-is = whole-bytes _ (built-long (networkOf t) (sound-networks t good .well-formed) d inside meant ∙ all-reached)
 

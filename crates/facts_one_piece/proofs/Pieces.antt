@@ -14,7 +14,7 @@ use Rattle.topology_types.specs.declared.Topology.{Topology}
 use Rattle.topology_types.specs.Topology.{noLink, padded, contents, held, seen, networkIn, networkOf}
 use Rattle.topology_sound.specs.Sound.{within, inLimits, wellLinked, uncrowded, isNoLink, unusedZero, slotted, sound}
 use Rattle.topology_sound.proofs.Sound.{sound-networks}
-use Rattle.order.specs.Table.{link, T-topology, twoParts}
+use Rattle.order.specs.Facts.{link, T-topology, twoParts}
 use Rattle.facts_one_piece.specs.Theorems.{PiecesTold}
 
 abbrev ends : Topology → ℕ → Type 0

@@ -21,17 +21,17 @@ use Rattle.topology_types.specs.Outcome.{answer, given}
 use Rattle.topology_types.specs.Topology.{networkOf}
 use Rattle.topology_sound.specs.Sound.{sound}
 use Rattle.order_standings.specs.declared.Mode.{Mode}
-use Rattle.order.specs.Calls.{modeOf, wrongRanks, unreadyRanks, atFirst, building, checking}
+use Rattle.order.specs.Calls.{modeOf, wrongRanks, unreadyRanks, refusedAtFirst, building, checking}
 use Rattle.order.specs.Theorems.{upToN, InBoth}
-use Rattle.order.specs.Table.{T-topology, twoParts}
+use Rattle.order.specs.Facts.{T-topology, twoParts}
 use Rattle.table.specs.Listed.{orderIn}
 use Rattle.table.specs.Calls.{filling, tableChecking}
-use Rattle.table.specs.Theorems.{RankAt, GivenBy, withLimit}
+use Rattle.table.specs.Theorems.{RankAt, GivenBy, limitSetTo}
 use Rattle.forwarding_rules.specs.Calls.{figure, figures}
-use Rattle.forwarding_rules.specs.Lists.{Call, set-at, hop-under, afterAll, lastSetIn}
+use Rattle.forwarding_rules.specs.Lists.{PacketCall, set-at, hop-under, afterAll, lastSetIn}
 use Rattle.forwarding_rules.specs.Theorems.{destinationByte, FigureExact, SoundStates, SoundSchedule, ShortestWalk}
 use Rattle.paths_rules.specs.Calls.{pathsOf}
-use Rattle.listing_rules.specs.Theorems.{LineIs, Lists}
+use Rattle.listing_rules.specs.Theorems.{LineIs, LinesListed}
 
 -- every router has a path to place 0
 abbrev pub InOnePiece : Topology → Type 0
@@ -45,9 +45,9 @@ PiecesTold = T (sound T-topology) × InOnePiece T-topology × T (sound twoParts)
 unfoldable pub judgedWhole : Topology → ℕ → Mode → List ℕ → Answer
 judgedWhole t d m order =
     cond (not (eqb (length order) (t .routers))) (answer 17 (length order))
-    (atFirst 18 (wrongRanks (t .routers) order)
+    (refusedAtFirst 18 (wrongRanks (t .routers) order)
     (cond (not (eqb (getD order 0 0) d)) (answer 19 0)
-    (atFirst 20 (unreadyRanks (networkOf t) d (modeOf m) order) (answer 0 0))))
+    (refusedAtFirst 20 (unreadyRanks (networkOf t) d (modeOf m) order) (answer 0 0))))
 
 -- Orders for d in one mode: what is built is the order by 01's rule, a byte for each router; checking tests 17 to 20 over all of it, and answers 0 if and
 -- only if it is accepted; an accepted order holds every place, and no 255 stands after it.
@@ -72,12 +72,12 @@ pub record Filled (t : Topology) (d : ℕ) (order buffer : List ℕ) : Type 0 wh
 pub record Stations (t : Topology) (table : List ℕ) : Type 0 where
   pub figures-are : figures t table ≡ map (figure t table) (below (t .routers))
   pub by-walks : (u : ℕ) → u < t .routers → FigureExact t table u
-  pub never-passed : (p : Packet ℕ) (first : ℕ) → first < t .routers → (cs : List Call) →
+  pub never-passed : (p : Packet ℕ) (first : ℕ) → first < t .routers → (cs : List PacketCall) →
       (lastSetIn t table cs first < t .routers)
       × (afterAll t table (set-at first ∷ cs) p .hops ≤ getD (figures t table) (lastSetIn t table cs first) 0)
-  pub reached : (p : Packet ℕ) (s : ℕ) → s < t .routers → (cs : List Call) × (lastSetIn t table cs s ≡ s)
+  pub reached : (p : Packet ℕ) (s : ℕ) → s < t .routers → (cs : List PacketCall) × (lastSetIn t table cs s ≡ s)
       × (afterAll t table (set-at s ∷ cs) p .hops ≡ getD (figures t table) s 0)
-      × ((c : Call) → List·Memᴰ c cs → (states : List ℕ) × (c ≡ hop-under states) × SoundStates t states)
+      × ((c : PacketCall) → List·Memᴰ c cs → (states : List ℕ) × (c ≡ hop-under states) × SoundStates t states)
   pub shortest : Accepted (networkOf t) (destinationByte table) shortest-path (orderIn (t .routers) table) → (u : ℕ) → u < t .routers →
       (schedule : List ℕ) → SoundSchedule t schedule → ((b : ℕ) → List·Memᴰ b schedule → b ≡ 1) → ShortestWalk t table u schedule
   pub longest-one : (u : ℕ) → u < t .routers → (p : List ℕ) × List·Memᴰ p (pathsOf t table u) × (length p ≡ suc (getD (figures t table) u 0))
@@ -91,14 +91,14 @@ pub record AsBefore (t : Topology) : Type 0 where
       4 + 19 * t .routers ≤ length buffer → Filled t d order buffer
   -- 01, Rows and tables: a table is what filling gives for its order
   pub refilled : (table : List ℕ) (d limit : ℕ) (order : List ℕ) → GivenBy t table d limit order → (buffer : List ℕ) → length buffer ≡ length table →
-      filling (withLimit t limit) d order buffer ≡ record { answer = answer 0 (length table); buffer = table }
+      filling (limitSetTo t limit) d order buffer ≡ record { answer = answer 0 (length table); buffer = table }
   -- a rank byte is the rank, of every place, where a table is given, begun or listed
   pub rank-is : (d : ℕ) → d < t .routers → (order : List ℕ) → Accepted (networkOf t) d free order → (u : ℕ) → u < t .routers → (byte : ℕ) →
       RankAt order u byte ↔ (byte ≡ rank order u)
   pub stations : (table : List ℕ) → tableChecking t table ≡ answer 0 0 → Stations t table
   -- the listing's lines name a rank and a greatest hop count for every router
   pub listed : (d : ℕ) → d < t .routers → (buffer : List ℕ) →
-      (l : Lists t d buffer) × ((u : ℕ) → u < t .routers → LineIs t d (l .order) (l .table) u (l .line u))
+      (l : LinesListed t d buffer) × ((u : ℕ) → u < t .routers → LineIs t d (l .order) (l .table) u (l .line u))
 
 abbrev pub OnePieceAsBefore : Type 0
 OnePieceAsBefore = (t : Topology) → T (sound t) → InOnePiece t → AsBefore t

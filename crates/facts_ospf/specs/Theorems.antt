@@ -17,12 +17,12 @@ use Rattle.topology_sound.specs.Sound.{sound}
 use Rattle.topology_sound.specs.Theorems.{SoundNetwork}
 use Rattle.stream_rules.specs.Theorems.{Bytes}
 use Rattle.order.specs.Calls.{checking}
-use Rattle.order.specs.Theorems.{InBoth, Holds, BuiltWell}
+use Rattle.order.specs.Theorems.{InBoth, OrderHeld, BuiltWell}
 use Rattle.table.specs.Listed.{orderIn}
 use Rattle.table.specs.Calls.{tableChecking}
 use Rattle.table.specs.Theorems.{FilledWell, SomeGive}
 use Rattle.forwarding_rules.specs.Calls.{done, walking}
-use Rattle.forwarding_rules.specs.Theorems.{destinationByte, Reached, SoundSchedule, Reports, FigureExact, CutOff, CallsBounded, ShortestWalk, Standing, SoundStates, HopByRule, WalkEnds, ByHops}
+use Rattle.forwarding_rules.specs.Theorems.{destinationByte, Reached, SoundSchedule, Reports, FigureExact, CutOff, CallsBounded, ShortestWalk, PacketStands, SoundStates, HopByRule, WalkEnds, ByHops}
 use Rattle.ospf.specs.Import.{importing}
 
 -- demand 2: distances are exact, orders are built by 01's rule, checking answers 0 exactly for the bytes of those that it accepts, tables are filled from
@@ -33,7 +33,7 @@ pub record OrdersAndRows (t : Topology) : Type 0 where
   pub distances : (d : ℕ) → d < t .routers → (u : ℕ) → DistanceExact (networkOf t) d u
   pub built : (d : ℕ) → d < t .routers → InBoth (λ m meant. (buffer : List ℕ) → t .routers ≤ length buffer → BuiltWell t d m meant buffer)
   pub checked : (d : ℕ) → d < t .routers →
-      InBoth (λ m meant. (bytes : List ℕ) → (checking t d m bytes ≡ answer 0 0) ↔ ((order : List ℕ) × Holds t d meant bytes order))
+      InBoth (λ m meant. (bytes : List ℕ) → (checking t d m bytes ≡ answer 0 0) ↔ ((order : List ℕ) × OrderHeld t d meant bytes order))
   pub filled : (d : ℕ) → d < t .routers → (order : List ℕ) → Accepted (networkOf t) d free order → (buffer : List ℕ) → 4 + 19 * t .routers ≤ length buffer →
       FilledWell t d order buffer
   pub proposed : (table : List ℕ) → (tableChecking t table ≡ answer 0 0) ↔ SomeGive t table
@@ -49,7 +49,7 @@ pub record HopCounts (t : Topology) (table : List ℕ) : Type 0 where
   pub by-walks : (u : ℕ) → u < t .routers → Reached t table u → FigureExact t table u
   pub cut-off : (u : ℕ) → u < t .routers → (Reached t table u → ⊥) → CutOff t table u
   pub by-hops : CallsBounded t table
-  pub each-hop : (states : List ℕ) (p : Packet ℕ) → Standing t p → SoundStates t states → HopByRule t table states p
+  pub each-hop : (states : List ℕ) (p : Packet ℕ) → PacketStands t p → SoundStates t states → HopByRule t table states p
   pub ends : (u : ℕ) → u < t .routers → (schedule : List ℕ) → SoundSchedule t schedule → WalkEnds t table u schedule
   pub walks-too : (u : ℕ) (schedule : List ℕ) (w : Walk ℕ) → walking t table u schedule ≡ done w →
       (cost : ℕ) × ByHops t table schedule (record { station = u; hops = 0 }) w cost

@@ -10,30 +10,29 @@ use Rattle.network.specs.Order.{candidatesInTurn, holdsEachOnce, firstIs, other
 use Rattle.network.specs.Row.{rank, sortsBefore, rankedBefore, fullRow, row}
 use Rattle.network.specs.Forwarding.{hopTo, hop, walkOn, walkEnd, walk, start, longest}
 use Rattle.network.specs.Routing.{up, firstLive}
-use Rattle.topology_types.specs.Inner.{firstOr}
-use Rattle.topology_types.specs.Outcome.{turnedAway, given}
+use Rattle.topology_types.specs.Outcome.{firstOr, turnedAway, given}
 use Rattle.topology_types.specs.Topology.{noLink, padded, contents, held, zeros, seen, networkIn, networkOf}
 use Rattle.topology_sound.specs.Sound.{within, inLimits, wellLinked, uncrowded, isNoLink, unusedZero, slotted, sound}
 use Rattle.stream_rules.specs.Stream.{bigEndianOn, bigEndian, bodyLength, halfIn, decoded, recordIn, records}
 use Rattle.stream_rules.specs.Halves.{firstHalf, secondHalf, linkHalves, halves, sameHalf, leaves, opposite, linkOf}
-use Rattle.stream_rules.specs.Reading.{refusal, accepted, routerFault, repeated, crowded, halvesFault, fault, withRouter, withLink, withLimit, arrived, added}
-use Rattle.stream_rules.specs.Reading.{width, isEnd, ended, unless, some?, inTurn, nothingListed, reading}
-use Rattle.stream_rules.specs.Table.{T-stream}
+use Rattle.stream_rules.specs.Reading.{refusal, acceptedReading, routerFault, repeated, crowded, halvesFault, fault, withRouter, withLink, withLimit, arrived, added}
+use Rattle.stream_rules.specs.Reading.{width, isEnd, ended, unless, anyRecord?, inTurn, nothingListed, reading}
+use Rattle.stream_rules.specs.Facts.{T-stream}
 use Rattle.topology.specs.Written.{joinedOver}
-use Rattle.order.specs.Calls.{modeOf, reachedCount, orderBytes, building, wrongRanks, ranksAfter, unreadyRanks, atFirst, judging, checking}
-use Rattle.order.specs.Table.{answers}
+use Rattle.order.specs.Calls.{modeOf, reachedCount, orderBytes, building, wrongRanks, ranksAfter, unreadyRanks, refusedAtFirst, judging, checking}
+use Rattle.order.specs.Facts.{answers}
 use Rattle.table_rows.specs.Bytes.{rankOrNone, rowBytes, headerBytes, rowOf, rowsBytes, tableBytes, rowStart}
 use Rattle.table.specs.Listed.{kindIn, destinationIn, countIn, limitIn, rankIn, placesIn, arcsTo, entriesIn, listed, byRank, orderIn}
 use Rattle.table.specs.Calls.{unlessRefused, filling, soundHeader, soundRanks, differing, wrongBytes, tableJudging, tableChecking}
 use Rattle.table.specs.Facts.{room}
 use Rattle.forwarding_rules.specs.Schedule.{rowIn, rowCounts, rowsIn, soundLength, wrongStates}
 use Rattle.forwarding_rules.specs.Calls.{tested, testedBy, testedOver, figure, figureByte, figures, countingHops, settingAt, hopping, walking}
-use Rattle.forwarding_rules.specs.Lent.{afterSetting, afterHop, settingPacket, hoppingPacket}
-use Rattle.forwarding_rules.specs.Lists.{after, afterAll}
-use Rattle.facts_starred.specs.Fact.{upBut, leftAt}
-use Rattle.facts_starred.specs.Chain.{wrote, endsSo, byTable, byOrder, byReading, follows}
-use Rattle.facts_starred.specs.Starred.{link, F-network, F-stream, alone-stream, from, F-schedule, starred, StarredHold}
-use Rattle.facts_starred.specs.Apart.{cutOff, twoParts, pair, threeUp, apart, ApartHold}
+use Rattle.forwarding_rules.specs.Lent.{packetAfterSetting, packetAfterHop, settingPacket, hoppingPacket}
+use Rattle.forwarding_rules.specs.Lists.{afterOne, afterAll}
+use Rattle.facts_starred.specs.Facts.Fact.{upBut, leftAt}
+use Rattle.facts_starred.specs.Facts.Chain.{wrote, endsSo, byTable, byOrder, byReading, follows}
+use Rattle.facts_starred.specs.Facts.Starred.{link, F-network, F-stream, alone-stream, from, F-schedule, starred, StarredHold}
+use Rattle.facts_starred.specs.Facts.Apart.{cutOff, twoParts, pair, threeUp, apart, ApartHold}
 
 chains-hold : StarredHold × ApartHold
 unfolding numbersFrom below keep every any leastBy greatestBy ahead foremost insert sort member distinct sameNumbers wins
@@ -47,14 +46,14 @@ unfolding numbersFrom below keep every any leastBy greatestBy ahead foremost ins
     within inLimits wellLinked uncrowded isNoLink unusedZero slotted sound
     bigEndianOn bigEndian bodyLength halfIn decoded recordIn records
     linkHalves firstHalf secondHalf halves sameHalf leaves opposite linkOf
-    refusal accepted routerFault repeated crowded halvesFault fault withRouter withLink withLimit arrived added
-    width isEnd ended unless some? inTurn nothingListed reading
-    T-stream joinedOver modeOf reachedCount orderBytes building wrongRanks ranksAfter unreadyRanks atFirst judging checking answers
+    refusal acceptedReading routerFault repeated crowded halvesFault fault withRouter withLink withLimit arrived added
+    width isEnd ended unless anyRecord? inTurn nothingListed reading
+    T-stream joinedOver modeOf reachedCount orderBytes building wrongRanks ranksAfter unreadyRanks refusedAtFirst judging checking answers
     rankOrNone rowBytes headerBytes rowOf rowsBytes tableBytes rowStart
     kindIn destinationIn countIn limitIn rankIn placesIn arcsTo entriesIn listed byRank orderIn
     unlessRefused filling soundHeader soundRanks differing wrongBytes tableJudging tableChecking room
     rowIn rowCounts rowsIn soundLength wrongStates tested testedBy testedOver figure figureByte figures countingHops settingAt hopping walking
-    afterSetting afterHop settingPacket hoppingPacket after afterAll
+    packetAfterSetting packetAfterHop settingPacket hoppingPacket afterOne afterAll
     upBut leftAt wrote endsSo byTable byOrder byReading follows
     link F-network F-stream alone-stream from F-schedule starred cutOff twoParts pair threeUp apart
 chains-hold = (tt, tt)

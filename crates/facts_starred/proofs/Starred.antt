@@ -16,13 +16,13 @@ use Rattle.topology_types.specs.Topology.{noLink, padded, contents, held, zeros
 use Rattle.topology_sound.specs.Sound.{within}
 use Rattle.stream_rules.specs.Stream.{bigEndianOn, bigEndian, bodyLength, halfIn, decoded, recordIn, records}
 use Rattle.stream_rules.specs.Halves.{firstHalf, secondHalf, linkHalves, halves, sameHalf, leaves, opposite, linkOf}
-use Rattle.stream_rules.specs.Reading.{refusal, accepted, routerFault, repeated, crowded, halvesFault, fault, withRouter, withLink, withLimit, arrived, added}
-use Rattle.stream_rules.specs.Reading.{width, isEnd, ended, unless, some?, inTurn, nothingListed, reading}
-use Rattle.stream_rules.specs.Table.{T-stream}
-use Rattle.order.specs.Calls.{atFirst}
-use Rattle.facts_starred.specs.Fact.{upBut, leftAt, callOf, samePaths, claimHolds, holds}
-use Rattle.facts_starred.specs.Starred.{link, twoCosts, T-network, F-network, alone, slope, slope-stream, about, F-stream, alone-stream, from}
-use Rattle.facts_starred.specs.Starred.{T-reversed, allUp, further, FurtherHold, WorkedWellFormed, StreamsRead}
+use Rattle.stream_rules.specs.Reading.{refusal, acceptedReading, routerFault, repeated, crowded, halvesFault, fault, withRouter, withLink, withLimit, arrived, added}
+use Rattle.stream_rules.specs.Reading.{width, isEnd, ended, unless, anyRecord?, inTurn, nothingListed, reading}
+use Rattle.stream_rules.specs.Facts.{T-stream}
+use Rattle.order.specs.Calls.{refusedAtFirst}
+use Rattle.facts_starred.specs.Facts.Fact.{upBut, leftAt, callOf, samePaths, claimHolds, holds}
+use Rattle.facts_starred.specs.Facts.Starred.{link, twoCosts, T-network, F-network, alone, slope, slope-stream, about, F-stream, alone-stream, from}
+use Rattle.facts_starred.specs.Facts.Starred.{T-reversed, allUp, further, FurtherHold, WorkedWellFormed, StreamsRead}
 
 pub further-hold : FurtherHold
 unfolding numbersFrom below keep every any leastBy greatestBy ahead foremost insert sort member sameNumbers wins
@@ -47,7 +47,7 @@ unfolding numbersFrom below keep every any leastBy member
     noLink padded contents held zeros seen networkIn networkOf within
     bigEndianOn bigEndian bodyLength halfIn decoded recordIn records
     linkHalves firstHalf secondHalf halves sameHalf leaves opposite linkOf
-    refusal accepted routerFault repeated crowded halvesFault fault withRouter withLink withLimit arrived added
-    width isEnd ended unless some? inTurn nothingListed reading
+    refusal acceptedReading routerFault repeated crowded halvesFault fault withRouter withLink withLimit arrived added
+    width isEnd ended unless anyRecord? inTurn nothingListed reading
     T-stream link twoCosts T-network F-network alone slope F-stream alone-stream slope-stream
 streams-read = (refl, refl, refl, refl, refl)

@@ -1,4 +1,1 @@
-pub mod Fact
-pub mod Chain
-pub mod Starred
-pub mod Apart
+pub mod Facts

@@ -8,9 +8,8 @@ use mathlib.Core.Path.{_≡_, ap, _∙_}
 use native.Mathlib.Omega.{arith}
 use lib.ListN.{length}
 use Rattle.network.specs.Lists.{below}
-use Rattle.topology_types.specs.Inner.{firstOr}
+use Rattle.topology_types.specs.Outcome.{firstOr, answer}
 use Rattle.topology_types.specs.declared.Topology.{Topology}
-use Rattle.topology_types.specs.Outcome.{answer}
 use Rattle.topology_sound.specs.Sound.{sound}
 use Rattle.order.proofs.Decided.{none-there, ranks-below}
 use Rattle.table.specs.Calls.{tableJudging, tableChecking}

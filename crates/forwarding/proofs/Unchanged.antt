@@ -10,7 +10,7 @@ use Rattle.network.specs.Forwarding as network
 use Rattle.network.specs.Forwarding.{Packet}
 use Rattle.topology_types.specs.declared.Topology.{Topology}
 use Rattle.forwarding_rules.specs.Calls.{Said, done, refused, settingAt, hopping}
-use Rattle.forwarding_rules.specs.Lent.{Left, afterSetting, afterHop, settingPacket, hoppingPacket}
+use Rattle.forwarding_rules.specs.Lent.{Left, packetAfterSetting, packetAfterHop, settingPacket, hoppingPacket}
 use Rattle.forwarding.specs.Inner.{Change, isSet, isMoved, settingChange, hoppingChange}
 
 module _ {A : Type 0} where
@@ -25,13 +25,13 @@ module _ {A : Type 0} where
   kept p q s y same x e h =
       ap (λ (c : Change A). leaving (c .left .answer) p) e ∙ ap (leaving s) (same (subst (λ (z : Bool). T (not z)) (ap (λ (c : Change A). c .changed) e) h))
 
-not-set : (p : Packet ℕ) (s : Said (Packet ℕ)) → T (not (isSet s)) → p ≡ afterSetting p s
-unfolding isSet afterSetting
+not-set : (p : Packet ℕ) (s : Said (Packet ℕ)) → T (not (isSet s)) → p ≡ packetAfterSetting p s
+unfolding isSet packetAfterSetting
 not-set p (done q) h = absurd h
 not-set p (refused number at) h = refl
 
-not-moved : (p : Packet ℕ) (s : Said (network.Hop ℕ)) → T (not (isMoved s)) → p ≡ afterHop p s
-unfolding isMoved afterHop
+not-moved : (p : Packet ℕ) (s : Said (network.Hop ℕ)) → T (not (isMoved s)) → p ≡ packetAfterHop p s
+unfolding isMoved packetAfterHop
 not-moved p (done network.delivered) h = refl
 not-moved p (done (network.moved q)) h = absurd h
 not-moved p (done network.dropped) h = refl

@@ -6,7 +6,7 @@ use topology_types::Place;
 use topology_types::Topology;
 ghost use mathlib.Core.Path.{_≡_};
 ghost use Rattle.forwarding_rules.specs.Calls.{packetIn, settingSays, hopSays};
-ghost use Rattle.forwarding_rules.specs.Lent.{afterSetting, afterHop, settingPacket, hoppingPacket};
+ghost use Rattle.forwarding_rules.specs.Lent.{packetAfterSetting, packetAfterHop, settingPacket, hoppingPacket};
 ghost use Rattle.forwarding.specs.Inner.{isSet, isMoved, settingChange, hoppingChange};
 
 // What a setting of a packet answers, and the packet as it leaves it.
@@ -59,7 +59,7 @@ fn is_moved(answer: Hopped) -> bool
 
 // A setting not refused leaves the packet that it set, a refused one the packet of before.
 fn packet_after_setting(answer: Setting, packet: Packet) -> Packet
-    ensures { λ r. ⌜ packetIn r ≡ afterSetting (packetIn packet) (settingSays answer) ⌝ }
+    ensures { λ r. ⌜ packetIn r ≡ packetAfterSetting (packetIn packet) (settingSays answer) ⌝ }
 {
     match answer {
         Setting::Set(set) => set,
@@ -69,7 +69,7 @@ fn packet_after_setting(answer: Setting, packet: Packet) -> Packet
 
 // Only moved changes the packet.
 fn packet_after_hop(answer: Hopped, packet: Packet) -> Packet
-    ensures { λ r. ⌜ packetIn r ≡ afterHop (packetIn packet) (hopSays answer) ⌝ }
+    ensures { λ r. ⌜ packetIn r ≡ packetAfterHop (packetIn packet) (hopSays answer) ⌝ }
 {
     match answer {
         Hopped::Delivered => packet,

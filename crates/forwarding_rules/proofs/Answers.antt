@@ -17,7 +17,7 @@ use Rattle.topology_sound.specs.Sound.{sound}
 use Rattle.table.specs.Calls.{tableChecking}
 use Rattle.forwarding_rules.specs.Schedule.{rowsIn, soundLength}
 use Rattle.forwarding_rules.specs.Calls.{Said, done, refused, by, tested, hopping, walking}
-use Rattle.forwarding_rules.specs.Theorems.{Standing, WholeRows, HopAnswers, HopsAnswer, WalkAnswers, WalksAnswer}
+use Rattle.forwarding_rules.specs.Theorems.{PacketStands, WholeRows, HopAnswers, HopsAnswer, WalkAnswers, WalksAnswer}
 use Rattle.forwarding_rules.proofs.Schedules.{sound-length}
 use Rattle.forwarding_rules.proofs.Tested.{clash, Decides, decides, decides-below, pass, stop, fork, numbers, points, flat-three, flat-four, flat-five, ending, Ends, ends}
 
@@ -49,7 +49,7 @@ module _ (t : Topology) (table states : List ℕ) (p : Packet ℕ) where
 
   -- what neither 14 nor 15 is, is said where the topology is sound, the packet stands, and the tests of the table and the states end so
   standing : {r : Said (network.Hop ℕ)} {Y : Type 0} → (refused 14 0 ≡ r → ⊥) → ((at : ℕ) → refused 15 at ≡ r → ⊥) →
-      (T (sound t) → (hopEnding ≡ r) ↔ Y) → (hopping t table states p ≡ r) ↔ (Standing t p × Y)
+      (T (sound t) → (hopEnding ≡ r) ↔ Y) → (hopping t table states p ≡ r) ↔ (PacketStands t p × Y)
   unfolding hopping
   standing not-14 not-15 on =
       Iff·trans
@@ -59,7 +59,7 @@ module _ (t : Topology) (table states : List ℕ) (p : Packet ℕ) where
       (λ (good, (s, (h, y))). (record { is-sound = good; station = s; hops = h }, y), λ (s, y). (s .is-sound, (s .station, (s .hops, y))))
 
   pub hops-done : (h : network.Hop ℕ) → (hopping t table states p ≡ done h)
-      ↔ (Standing t p × ((tableChecking t table ≡ answer 0 0) × ((length states ≡ t .links)
+      ↔ (PacketStands t p × ((tableChecking t table ≡ answer 0 0) × ((length states ≡ t .links)
       × (((b : ℕ) → List·Memᴰ b states → b ≤ 1) × (hop (by t table) states p ≡ h)))))
   hops-done h = standing (λ s. clash (cc)) (λ a s. clash (cc)) (λ good. hop-ends good .ends-done h)
 

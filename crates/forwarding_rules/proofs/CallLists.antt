@@ -25,9 +25,9 @@ use Rattle.topology_types.specs.Outcome.{answer}
 use Rattle.topology_sound.specs.Sound.{sound}
 use Rattle.table.specs.Calls.{tableChecking}
 use Rattle.forwarding_rules.specs.Calls.{Said, done, refused, settingAt, hopping}
-use Rattle.forwarding_rules.specs.Lent.{afterSetting, afterHop, settingPacket, hoppingPacket}
-use Rattle.forwarding_rules.specs.Lists.{Call, set-at, hop-under, lastAfter, after, afterAll, setIn, lastSetIn}
-use Rattle.forwarding_rules.specs.Theorems.{Standing, CallsBounded, CallsExact}
+use Rattle.forwarding_rules.specs.Lent.{packetAfterSetting, packetAfterHop, settingPacket, hoppingPacket}
+use Rattle.forwarding_rules.specs.Lists.{PacketCall, set-at, hop-under, lastAfter, afterOne, afterAll, setAfter, lastSetIn}
+use Rattle.forwarding_rules.specs.Theorems.{PacketStands, CallsBounded, CallsExact}
 use Rattle.forwarding_rules.proofs.Calls.{settings-answer}
 use Rattle.forwarding_rules.proofs.Listed.{Over, over, reached-or, figure-reached, figure-unreached, hops-unreached}
 use Rattle.forwarding_rules.proofs.Answers.{hops-done}
@@ -38,8 +38,8 @@ kinds : {A : Type 0} (said : Said A) → ((x : A) × (said ≡ done x)) ⊎ ((nu
 kinds (done x) = inl (x, refl)
 kinds (refused number at) = inr (number, at, refl)
 
-after-done : (p : Packet ℕ) (h : network.Hop ℕ) → afterHop p (done h) ≡ calls.afterHop p h
-unfolding afterHop calls.afterHop
+after-done : (p : Packet ℕ) (h : network.Hop ℕ) → packetAfterHop p (done h) ≡ calls.afterHop p h
+unfolding packetAfterHop calls.afterHop
 after-done p network.delivered = refl
 after-done p (network.moved q) = refl
 after-done p network.dropped = refl
@@ -52,27 +52,27 @@ module _ (t : Topology) (good : T (sound t)) (table : List ℕ) (right : tableCh
   tests = callTests (networkOf t) (o .d) (o .limit) (o .order)
 
   -- network's call and the call here
-  here : calls.Call f → Call
+  here : calls.Call f → PacketCall
   here (calls.setting u) = set-at u
   here (calls.hopping states) = hop-under states
 
-  there : Call → calls.Call f
+  there : PacketCall → calls.Call f
   there (set-at u) = calls.setting u
   there (hop-under states) = calls.hopping states
 
-  again : (cs : List Call) → map here (map there cs) ≡ cs
+  again : (cs : List PacketCall) → map here (map there cs) ≡ cs
   unfolding here there
   again [] = refl
-  again (set-at u ∷ cs) = ap (λ (rest : List Call). set-at u ∷ rest) (again cs)
-  again (hop-under states ∷ cs) = ap (λ (rest : List Call). hop-under states ∷ rest) (again cs)
+  again (set-at u ∷ cs) = ap (λ (rest : List PacketCall). set-at u ∷ rest) (again cs)
+  again (hop-under states ∷ cs) = ap (λ (rest : List PacketCall). hop-under states ∷ rest) (again cs)
 
   -- a setting sets the packet below N, and leaves it elsewhere
-  sets : (u : ℕ) (p : Packet ℕ) (last : ℕ) → (afterSetting p (settingAt t u) ≡ cond (ltb u (size (networkOf t))) (start u) p)
+  sets : (u : ℕ) (p : Packet ℕ) (last : ℕ) → (packetAfterSetting p (settingAt t u) ≡ cond (ltb u (size (networkOf t))) (start u) p)
       × (lastAfter last (settingAt t u) ≡ cond (ltb u (size (networkOf t))) u last)
-  unfolding afterSetting lastAfter start
+  unfolding packetAfterSetting lastAfter start
   sets u p last = step (decLt u (t .routers))
     where
-      step : Dec (u < t .routers) → (afterSetting p (settingAt t u) ≡ cond (ltb u (size (networkOf t))) (start u) p)
+      step : Dec (u < t .routers) → (packetAfterSetting p (settingAt t u) ≡ cond (ltb u (size (networkOf t))) (start u) p)
           × (lastAfter last (settingAt t u) ≡ cond (ltb u (size (networkOf t))) u last)
       step (yes h) =
           let ok : T (ltb u (size (networkOf t))) = lt→ltb u (size (networkOf t)) (omega (arith, o .routers-are)) in
@@ -85,7 +85,7 @@ module _ (t : Topology) (good : T (sound t)) (table : List ℕ) (right : tableCh
   hop-done : (states : List ℕ) (p : Packet ℕ) → T (tests .hop-ok states p) → hopping t table states p ≡ done (hop f states p)
   hop-done states p ok =
       let (station, made, (long, small)) = tests-right (networkOf t) (o .d) (o .limit) (o .order) .1 states p .0 ok in
-      let s : Standing t p = record { is-sound = good; station = omega (arith, o .routers-are); hops = omega (arith, o .routers-are) } in
+      let s : PacketStands t p = record { is-sound = good; station = omega (arith, o .routers-are); hops = omega (arith, o .routers-are) } in
       hops-done t table states p (hop f states p) .1 (s, (right, (long ∙ o .links-are, (small, o .hop-is states p))))
 
   done-hop : (states : List ℕ) (p : Packet ℕ) (h : network.Hop ℕ) → hopping t table states p ≡ done h → T (tests .hop-ok states p)
@@ -94,21 +94,21 @@ module _ (t : Topology) (good : T (sound t)) (table : List ℕ) (right : tableCh
       tests-right (networkOf t) (o .d) (o .limit) (o .order) .1 states p .1
       (omega (arith, s .station, o .routers-are), omega (arith, s .hops, o .routers-are), (long ∙ sym (o .links-are), small))
 
-  hops : (states : List ℕ) (p : Packet ℕ) → afterHop p (hopping t table states p) ≡ cond (tests .hop-ok states p) (calls.afterHop p (hop f states p)) p
-  unfolding afterHop
+  hops : (states : List ℕ) (p : Packet ℕ) → packetAfterHop p (hopping t table states p) ≡ cond (tests .hop-ok states p) (calls.afterHop p (hop f states p)) p
+  unfolding packetAfterHop
   hops states p = step (truth (tests .hop-ok states p)) (kinds (hopping t table states p))
     where
       step : T (tests .hop-ok states p) ⊎ (T (tests .hop-ok states p) → ⊥) →
           ((h : network.Hop ℕ) × (hopping t table states p ≡ done h)) ⊎ ((number at : ℕ) × (hopping t table states p ≡ refused number at)) →
-          afterHop p (hopping t table states p) ≡ cond (tests .hop-ok states p) (calls.afterHop p (hop f states p)) p
+          packetAfterHop p (hopping t table states p) ≡ cond (tests .hop-ok states p) (calls.afterHop p (hop f states p)) p
       step (inl ok) k =
-          ap (afterHop p) (hop-done states p ok) ∙ after-done p (hop f states p) ∙ sym (passes (tests .hop-ok states p) ok (calls.afterHop p (hop f states p)) p)
+          ap (packetAfterHop p) (hop-done states p ok) ∙ after-done p (hop f states p) ∙ sym (passes (tests .hop-ok states p) ok (calls.afterHop p (hop f states p)) p)
       step (inr out) (inl (h, e)) = absurd (out (done-hop states p h e))
-      step (inr out) (inr (number, at, e)) = ap (afterHop p) e ∙ sym (fails (tests .hop-ok states p) out (calls.afterHop p (hop f states p)) p)
+      step (inr out) (inr (number, at, e)) = ap (packetAfterHop p) e ∙ sym (fails (tests .hop-ok states p) out (calls.afterHop p (hop f states p)) p)
 
   -- so each call, and each list of calls, leaves the packet, and where it was last set, as network's does
-  same : (c : calls.Call f) (p : Packet ℕ) (last : ℕ) → (after t table (here c) p ≡ afterCall f tests c p) × (setIn t table (here c) last ≡ setBy f tests c last)
-  unfolding here after settingPacket hoppingPacket setIn afterCall setBy
+  same : (c : calls.Call f) (p : Packet ℕ) (last : ℕ) → (afterOne t table (here c) p ≡ afterCall f tests c p) × (setAfter t table (here c) last ≡ setBy f tests c last)
+  unfolding here afterOne settingPacket hoppingPacket setAfter afterCall setBy
   same (calls.setting u) p last = sets u p last
   same (calls.hopping states) p last = (hops states p, refl)
 
@@ -147,7 +147,7 @@ module _ (t : Topology) (good : T (sound t)) (table : List ℕ) (right : tableCh
       rw (same-all cs p first .1, same-all (calls.setting first ∷ cs) p first .0)
       (set-below cs first h, bounded .never-passed p first (starts first h) cs)
 
-  at-most : (p : Packet ℕ) (first : ℕ) → first < t .routers → (cs : List Call) →
+  at-most : (p : Packet ℕ) (first : ℕ) → first < t .routers → (cs : List PacketCall) →
       (lastSetIn t table cs first < t .routers)
       × (afterAll t table (set-at first ∷ cs) p .hops ≤ greatestHop (networkOf t) (o .d) (o .limit) (o .order) (lastSetIn t table cs first))
   unfolding here
@@ -185,7 +185,7 @@ module _ (t : Topology) (good : T (sound t)) (table : List ℕ) (right : tableCh
       (stands-all cs first (cond (ltb first (size (networkOf t))) (start first) p)
       (rw (passes (ltb first (size (networkOf t))) (starts first h) (start first) p) (unfold start in λ e. refl)))
 
-  still-there : (p : Packet ℕ) (first : ℕ) → first < t .routers → (cs : List Call) → afterAll t table (set-at first ∷ cs) p .hops ≡ 0 →
+  still-there : (p : Packet ℕ) (first : ℕ) → first < t .routers → (cs : List PacketCall) → afterAll t table (set-at first ∷ cs) p .hops ≡ 0 →
       afterAll t table (set-at first ∷ cs) p .station ≡ lastSetIn t table cs first
   unfolding here
   still-there p first h cs = rw again at (there-still p first h (map there cs))

@@ -12,8 +12,8 @@ use Rattle.network.proofs.Tests.{truth, as-true, as-false}
 use Rattle.topology_types.specs.declared.Topology.{Topology}
 use Rattle.topology_sound.specs.Sound.{sound}
 use Rattle.forwarding_rules.specs.Calls.{Said, done, refused, tested, settingAt, hopping}
-use Rattle.forwarding_rules.specs.Lent.{Left, afterSetting, afterHop, settingPacket, hoppingPacket}
-use Rattle.forwarding_rules.specs.Lists.{lastAfter, after, setIn}
+use Rattle.forwarding_rules.specs.Lent.{Left, packetAfterSetting, packetAfterHop, settingPacket, hoppingPacket}
+use Rattle.forwarding_rules.specs.Lists.{lastAfter, afterOne, setAfter}
 use Rattle.forwarding_rules.specs.Theorems.{left, SettingsAnswer, SettingsLeave, HopsLeave, CallsByRule}
 use Rattle.forwarding_rules.proofs.Tested.{clash}
 
@@ -36,7 +36,7 @@ set-there t u q e = step (truth (sound t)) (decLt u (t .routers))
     step (inr out) h = clash (cc (settings-answer t u .not-sound out))
 
 pub settings-leave : SettingsLeave
-unfolding settingPacket afterSetting
+unfolding settingPacket packetAfterSetting
 settings-leave t u p =
     record {
       sets = λ s h. ap after-said (settings-answer t u .sets s h);
@@ -45,18 +45,18 @@ settings-leave t u p =
     }
   where
     after-said : Said (Packet ℕ) → Left (Packet ℕ)
-    after-said said = left said (afterSetting p said)
+    after-said said = left said (packetAfterSetting p said)
 
 -- only moved changes the packet
-changes : (p : Packet ℕ) (said : Said (network.Hop ℕ)) → afterHop p said ≢ p → (q : Packet ℕ) × (said ≡ done (network.moved q))
-unfolding afterHop
+changes : (p : Packet ℕ) (said : Said (network.Hop ℕ)) → packetAfterHop p said ≢ p → (q : Packet ℕ) × (said ≡ done (network.moved q))
+unfolding packetAfterHop
 changes p (done network.delivered) other = absurd (other refl)
 changes p (done (network.moved q)) other = (q, refl)
 changes p (done network.dropped) other = absurd (other refl)
 changes p (refused number at) other = absurd (other refl)
 
 pub hops-leave : HopsLeave
-unfolding hoppingPacket afterHop
+unfolding hoppingPacket packetAfterHop
 hops-leave t table states p =
     record {
       answers = refl;
@@ -71,18 +71,18 @@ hops-leave t table states p =
     said l = l .answer
 
     after-said : Said (network.Hop ℕ) → Left (network.Hop ℕ)
-    after-said said = left said (afterHop p said)
+    after-said said = left said (packetAfterHop p said)
 
 pub calls-by-rule : CallsByRule
-unfolding after settingPacket hoppingPacket setIn afterSetting afterHop lastAfter
+unfolding afterOne settingPacket hoppingPacket setAfter packetAfterSetting packetAfterHop lastAfter
 calls-by-rule t table p last =
     record {
       set-leaves = λ u. refl;
       hop-leaves = λ states. refl;
-      sets = λ u q e. (ap (afterSetting p) e, ap (lastAfter last) e ∙ ap (λ (r : Packet ℕ). r .station) (set-there t u q e));
-      set-refused = λ u number at e. (ap (afterSetting p) e, ap (lastAfter last) e);
-      hops = λ states q e. ap (afterHop p) e;
-      stays = λ states h. ⊎-elim (λ e. ap (afterHop p) e) (λ e. ap (afterHop p) e) h;
-      hop-refused = λ states number at e. ap (afterHop p) e;
+      sets = λ u q e. (ap (packetAfterSetting p) e, ap (lastAfter last) e ∙ ap (λ (r : Packet ℕ). r .station) (set-there t u q e));
+      set-refused = λ u number at e. (ap (packetAfterSetting p) e, ap (lastAfter last) e);
+      hops = λ states q e. ap (packetAfterHop p) e;
+      stays = λ states h. ⊎-elim (λ e. ap (packetAfterHop p) e) (λ e. ap (packetAfterHop p) e) h;
+      hop-refused = λ states number at e. ap (packetAfterHop p) e;
       hop-sets-nothing = λ states. refl;
     }

@@ -14,7 +14,7 @@ use Rattle.topology_types.specs.Outcome.{turnedAway}
 use Rattle.table.specs.Calls.{unlessRefused}
 use Rattle.forwarding_rules.specs.Schedule.{rowIn, rowsIn}
 use Rattle.forwarding_rules.specs.Calls.{said, packetIn, settingSays, hopSays, walkSays, by, countingHops}
-use Rattle.forwarding_rules.specs.Lists.{Call, after, afterAll, setIn, lastSetIn}
+use Rattle.forwarding_rules.specs.Lists.{PacketCall, afterOne, afterAll, setAfter, lastSetIn}
 use Rattle.forwarding_rules.specs.Theorems.{AnswersMean, RowsRight, EmptyWithoutLinks, RowsInTurn, CountRefuses, HopsDone, WalksDone, CallsInTurn}
 use Rattle.forwarding_rules.proofs.Schedules.{count, counted, counts, least-count}
 use Rattle.forwarding_rules.proofs.Answers as answers
@@ -87,7 +87,7 @@ pub calls-in-turn : CallsInTurn
 unfolding afterAll lastSetIn
 calls-in-turn t table p last = record { no-calls = (refl, refl); one-more = λ cs c. last-call cs c p last }
   where
-    last-call : (cs : List Call) (c : Call) (q : Packet ℕ) (s : ℕ) → (afterAll t table (cs ++ (c ∷ [])) q ≡ after t table c (afterAll t table cs q))
-        × (lastSetIn t table (cs ++ (c ∷ [])) s ≡ setIn t table c (lastSetIn t table cs s))
+    last-call : (cs : List PacketCall) (c : PacketCall) (q : Packet ℕ) (s : ℕ) → (afterAll t table (cs ++ (c ∷ [])) q ≡ afterOne t table c (afterAll t table cs q))
+        × (lastSetIn t table (cs ++ (c ∷ [])) s ≡ setAfter t table c (lastSetIn t table cs s))
     last-call [] c q s = (refl, refl)
-    last-call (e ∷ cs) c q s = last-call cs c (after t table e q) (setIn t table e s)
+    last-call (e ∷ cs) c q s = last-call cs c (afterOne t table e q) (setAfter t table e s)

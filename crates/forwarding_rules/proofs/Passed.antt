@@ -11,11 +11,11 @@ use Rattle.topology_sound.specs.Sound.{sound}
 use Rattle.table.specs.Calls.{tableChecking}
 use Rattle.forwarding_rules.specs.Schedule.{rowsIn}
 use Rattle.forwarding_rules.specs.Calls.{done, by, hopping, walking}
-use Rattle.forwarding_rules.specs.Theorems.{SoundSchedule, Standing, SoundStates}
+use Rattle.forwarding_rules.specs.Theorems.{SoundSchedule, PacketStands, SoundStates}
 use Rattle.forwarding_rules.proofs.Answers.{hops-done, walks-done}
 
 module _ (t : Topology) (table : List ℕ) (right : tableChecking t table ≡ answer 0 0) where
-  pub hops-when : (states : List ℕ) (p : Packet ℕ) → Standing t p → SoundStates t states →
+  pub hops-when : (states : List ℕ) (p : Packet ℕ) → PacketStands t p → SoundStates t states →
       hopping t table states p ≡ done (hop (by t table) states p)
   hops-when states p stands s = hops-done t table states p _ .1 (stands, (right, (s .long, (s .states-are, refl))))
 

@@ -19,7 +19,7 @@ use Rattle.topology_types.specs.Outcome.{answer}
 use Rattle.topology_sound.specs.Sound.{sound}
 use Rattle.table.specs.Calls.{tableChecking}
 use Rattle.forwarding_rules.specs.Calls.{done, figures}
-use Rattle.forwarding_rules.specs.Lists.{Call, set-at, hop-under, after, afterAll, setIn, lastSetIn}
+use Rattle.forwarding_rules.specs.Lists.{PacketCall, set-at, hop-under, afterOne, afterAll, setAfter, lastSetIn}
 use Rattle.forwarding_rules.specs.Theorems.{Reached, SoundStates}
 use Rattle.forwarding_rules.proofs.Calls.{settings-answer, calls-by-rule}
 use Rattle.forwarding_rules.proofs.Figures.{valid-states}
@@ -41,7 +41,7 @@ module _ (t : Topology) (good : T (sound t)) (table : List ℕ) (right : tableCh
       let (long, small) = valid-states (networkOf t) states v in
       record { long = long ∙ o .links-are; states-are = small }
 
-  all-sound : {s : ℕ} {xs : List (List ℕ)} → Way f Valid s xs → (c : Call) → List·Memᴰ c (map hop-under xs) →
+  all-sound : {s : ℕ} {xs : List (List ℕ)} → Way f Valid s xs → (c : PacketCall) → List·Memᴰ c (map hop-under xs) →
       (states : List ℕ) × (c ≡ hop-under states) × SoundStates t states
   all-sound stop c m = absurd (List·Memᴰ·not-nil m)
   all-sound (down {x = x} e v k w) c (List·Memᴰ·head h) = (x, h, sound-states x v)
@@ -49,7 +49,7 @@ module _ (t : Topology) (good : T (sound t)) (table : List ℕ) (right : tableCh
 
   -- hops set the packet nowhere
   last-kept : (xs : List (List ℕ)) (s : ℕ) → lastSetIn t table (map hop-under xs) s ≡ s
-  unfolding lastSetIn setIn
+  unfolding lastSetIn setAfter
   last-kept [] s = refl
   last-kept (x ∷ xs) s = last-kept xs s
 
@@ -67,16 +67,16 @@ module _ (t : Topology) (good : T (sound t)) (table : List ℕ) (right : tableCh
       ∙ ap done (o .hop-is x p ∙ hop-down f (rank (o .order)) Valid lawful x p e c)) in
       rw (afterAll, made) (omega (arith, over-way w (suc h) (omega (arith, o .routers-are, o .well-formed .sound s e arc .place)) (omega arith)))
 
-  pub reaching : (p : Packet ℕ) (s : ℕ) → s < t .routers → Reached t table s → (cs : List Call) × (lastSetIn t table cs s ≡ s)
+  pub reaching : (p : Packet ℕ) (s : ℕ) → s < t .routers → Reached t table s → (cs : List PacketCall) × (lastSetIn t table cs s ≡ s)
       × (afterAll t table (set-at s ∷ cs) p .hops ≡ getD (figures t table) s 0)
-      × ((c : Call) → List·Memᴰ c cs → (states : List ℕ) × (c ≡ hop-under states) × SoundStates t states)
+      × ((c : PacketCall) → List·Memᴰ c cs → (states : List ℕ) × (c ≡ hop-under states) × SoundStates t states)
   unfolding afterAll greatestHop
   reaching p s place path =
       let below = o .rank-below s place in
       let (xs, way, long) =
       longest-way f (rank (o .order)) Valid lawful (size (networkOf t)) s (omega (arith, o .routers-are)) in
       let short = way-falls f (rank (o .order)) Valid lawful way in
-      let first : after t table (set-at s) p ≡ record { station = s; hops = 0 } =
+      let first : afterOne t table (set-at s) p ≡ record { station = s; hops = 0 } =
       calls-by-rule t table p s .sets s _ (settings-answer t s .sets good place) .0 in (
         map hop-under xs,
         last-kept xs s,

@@ -23,7 +23,7 @@ use Rattle.order.proofs.Ranges.{getD-mem, mem-getD}
 use Rattle.topology.specs.Written.{joinedOver}
 use Rattle.table.specs.Listed.{placesIn, arcsTo, entriesIn}
 use Rattle.table.proofs.Bytes.{row-few}
-use Rattle.forwarding_rules.specs.Theorems.{Lists, UpTo, NoneUp, FirstUp}
+use Rattle.forwarding_rules.specs.Theorems.{ListsPlace, UpTo, NoneUp, FirstUp}
 use Rattle.forwarding_rules.proofs.Listed.{Over}
 use Rattle.forwarding_rules.proofs.Places.{Fits, places-long, place-at}
 
@@ -108,10 +108,10 @@ module _ (t : Topology) (states : List ℕ) (u : ℕ) where
           }
 
   module _ (table : List ℕ) (fits : Fits table u) where
-    lists : (v : ℕ) → List·Memᴰ v (placesIn table u) → (j : ℕ) × Lists table u j v
+    lists : (v : ℕ) → List·Memᴰ v (placesIn table u) → (j : ℕ) × ListsPlace table u j v
     lists v m = let (j, h, e) = mem-getD 0 m in let l : j < getD table (4 + 19 * u + 2) 0 = omega (arith, places-long fits) in (j, (l, sym (place-at fits j l) ∙ e))
 
-    listed : (j v : ℕ) → Lists table u j v → List·Memᴰ v (placesIn table u)
+    listed : (j v : ℕ) → ListsPlace table u j v → List·Memᴰ v (placesIn table u)
     listed j v (h, e) =
         subst (λ (w : ℕ). List·Memᴰ w (placesIn table u)) (place-at fits j h ∙ e) (getD-mem (placesIn table u) j 0 (omega (arith, places-long fits)))
 

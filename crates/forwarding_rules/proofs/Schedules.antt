@@ -18,7 +18,7 @@ use Rattle.network.specs.Lists.{below}
 use Rattle.network.proofs.Lists.{mem-take}
 use Rattle.network.proofs.Below.{getD-below, length-map-below}
 use Rattle.topology_types.specs.declared.Topology.{Topology}
-use Rattle.topology_types.specs.Inner.{firstOr}
+use Rattle.topology_types.specs.Outcome.{firstOr}
 use Rattle.order.proofs.Ranges.{getD-mem, mem-getD, keep-none, none-passes, keep-first, first-passes}
 use Rattle.topology.specs.Written.{joinedOver}
 use Rattle.table.proofs.Ordered.{begins}

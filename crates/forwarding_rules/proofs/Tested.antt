@@ -16,7 +16,7 @@ use Rattle.topology_types.specs.declared.Topology.{Topology}
 use Rattle.topology_types.specs.Topology.{networkOf}
 use Rattle.topology_types.specs.Outcome.{answer}
 use Rattle.topology_sound.specs.Sound.{sound}
-use Rattle.order.specs.Calls.{atFirst}
+use Rattle.order.specs.Calls.{refusedAtFirst}
 use Rattle.table_rows.specs.Bytes.{tableLength, rowStart}
 use Rattle.table.specs.Calls.{wrongBytes, tableJudging, tableChecking}
 use Rattle.table.proofs.Accepting.{starts?}
@@ -108,12 +108,12 @@ kind-tested a (inr (at, e)) =
 
 module _ (t : Topology) (good : T (sound t)) (table : List ℕ) where
   pub kind : Kind (tableChecking t table)
-  unfolding tableChecking tableJudging atFirst rowStart
+  unfolding tableChecking tableJudging refusedAtFirst rowStart
   kind =
       rw (as-true (sound t) good)
       (by-tests (not (eqb (length table) (tableLength (t .routers)))) (not (starts? t table)) (length table) (wrongBytes (networkOf t) (t .routers) table))
     where
-      by-tests : (b c : Bool) (long : ℕ) (wrong : List ℕ) → Kind (cond b (answer 21 long) (cond c (answer 21 0) (atFirst 21 wrong (answer 0 0))))
+      by-tests : (b c : Bool) (long : ℕ) (wrong : List ℕ) → Kind (cond b (answer 21 long) (cond c (answer 21 0) (refusedAtFirst 21 wrong (answer 0 0))))
       by-tests true c long wrong = inr (long, refl)
       by-tests false true long wrong = inr (0, refl)
       by-tests false false long (i ∷ wrong) = inr (i, refl)

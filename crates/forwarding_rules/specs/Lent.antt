@@ -14,21 +14,21 @@ pub record Left (A : Type 0) : Type 0 where
   pub packet : Packet ℕ
 
 -- 01, Refusals: a setting not refused sets the packet; a refused one leaves it
-unfoldable pub afterSetting : Packet ℕ → Said (Packet ℕ) → Packet ℕ
-afterSetting p (done q) = q
-afterSetting p (refused number at) = p
+unfoldable pub packetAfterSetting : Packet ℕ → Said (Packet ℕ) → Packet ℕ
+packetAfterSetting p (done q) = q
+packetAfterSetting p (refused number at) = p
 
 -- 01, Packet, hop and schedule: only moved changes the packet
-unfoldable pub afterHop : Packet ℕ → Said (network.Hop ℕ) → Packet ℕ
-afterHop p (done network.delivered) = p
-afterHop p (done (network.moved q)) = q
-afterHop p (done network.dropped) = p
-afterHop p (refused number at) = p
+unfoldable pub packetAfterHop : Packet ℕ → Said (network.Hop ℕ) → Packet ℕ
+packetAfterHop p (done network.delivered) = p
+packetAfterHop p (done (network.moved q)) = q
+packetAfterHop p (done network.dropped) = p
+packetAfterHop p (refused number at) = p
 
 -- 01, Packet, hop and schedule: the packet is set to the start, its old contents untested
 unfoldable pub settingPacket : Topology → ℕ → Packet ℕ → Left (Packet ℕ)
-settingPacket t u p = record { answer = settingAt t u; packet = afterSetting p (settingAt t u) }
+settingPacket t u p = record { answer = settingAt t u; packet = packetAfterSetting p (settingAt t u) }
 
 -- 01, Packet, hop and schedule: one hop of the packet
 unfoldable pub hoppingPacket : Topology → List ℕ → List ℕ → Packet ℕ → Left (network.Hop ℕ)
-hoppingPacket t table states p = record { answer = hopping t table states p; packet = afterHop p (hopping t table states p) }
+hoppingPacket t table states p = record { answer = hopping t table states p; packet = packetAfterHop p (hopping t table states p) }

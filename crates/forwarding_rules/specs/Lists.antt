@@ -9,9 +9,9 @@ use Rattle.forwarding_rules.specs.Calls.{Said, done, refused, settingAt}
 use Rattle.forwarding_rules.specs.Lent.{settingPacket, hoppingPacket}
 
 -- 01, Packet, hop and schedule: one call, a setting of the packet at a start or a single hop of it under a row of states, which may be anything
-pub data Call : Type 0 where
-  set-at : ℕ → Call
-  hop-under : List ℕ → Call
+pub data PacketCall : Type 0 where
+  set-at : ℕ → PacketCall
+  hop-under : List ℕ → PacketCall
 
 -- the station of the setting, if it is not refused
 unfoldable pub lastAfter : ℕ → Said (Packet ℕ) → ℕ
@@ -20,20 +20,20 @@ lastAfter last (refused number at) = last
 
 module _ (t : Topology) (table : List ℕ) where
   -- 01, Packet, hop and schedule: the packet as one call leaves it
-  unfoldable pub after : Call → Packet ℕ → Packet ℕ
-  after (set-at u) p = settingPacket t u p .packet
-  after (hop-under states) p = hoppingPacket t table states p .packet
+  unfoldable pub afterOne : PacketCall → Packet ℕ → Packet ℕ
+  afterOne (set-at u) p = settingPacket t u p .packet
+  afterOne (hop-under states) p = hoppingPacket t table states p .packet
 
   -- each call gets the packet as the last one left it
-  unfoldable pub afterAll : List Call → Packet ℕ → Packet ℕ
+  unfoldable pub afterAll : List PacketCall → Packet ℕ → Packet ℕ
   afterAll [] p = p
-  afterAll (c ∷ cs) p = afterAll cs (after c p)
+  afterAll (c ∷ cs) p = afterAll cs (afterOne c p)
 
   -- the packet was last set at the start of the last setting not refused
-  unfoldable pub setIn : Call → ℕ → ℕ
-  setIn (set-at u) last = lastAfter last (settingAt t u)
-  setIn (hop-under states) last = last
+  unfoldable pub setAfter : PacketCall → ℕ → ℕ
+  setAfter (set-at u) last = lastAfter last (settingAt t u)
+  setAfter (hop-under states) last = last
 
-  unfoldable pub lastSetIn : List Call → ℕ → ℕ
+  unfoldable pub lastSetIn : List PacketCall → ℕ → ℕ
   lastSetIn [] last = last
-  lastSetIn (c ∷ cs) last = lastSetIn cs (setIn c last)
+  lastSetIn (c ∷ cs) last = lastSetIn cs (setAfter c last)

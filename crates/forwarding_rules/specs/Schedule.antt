@@ -6,7 +6,7 @@ use mathlib.Core.List.{List, map}
 use lib.Dec.{eqb, leb, ltb}
 use lib.ListN.{length, getD, take, drop}
 use Rattle.network.specs.Lists.{numbersFrom, below, keep}
-use Rattle.topology_types.specs.Inner.{firstOr}
+use Rattle.topology_types.specs.Outcome.{firstOr}
 
 -- 01, Packet, hop and schedule: row h of a schedule, which rules the hop after h hops were made; it has one byte per link
 unfoldable pub rowIn : ℕ → List ℕ → ℕ → List ℕ

@@ -28,7 +28,7 @@ use Rattle.forwarding_rules.specs.declared.Walked.the-variants as walked
 use Rattle.forwarding_rules.specs.Schedule.{rowIn, rowsIn, soundLength}
 use Rattle.forwarding_rules.specs.Calls.{Said, done, refused, said, packetIn, settingSays, hopSays, walkSays, figures, countingHops, settingAt, hopping, walking}
 use Rattle.forwarding_rules.specs.Lent.{Left, settingPacket, hoppingPacket}
-use Rattle.forwarding_rules.specs.Lists.{Call, set-at, hop-under, after, afterAll, setIn, lastSetIn}
+use Rattle.forwarding_rules.specs.Lists.{PacketCall, set-at, hop-under, afterOne, afterAll, setAfter, lastSetIn}
 
 -- 01, Packet, hop and schedule; Refusals: a packet of the code, and the answers that hold it, with its place as a number
 pub record PacketMeant (p : code.Packet) : Type 0 where
@@ -86,8 +86,8 @@ destinationByte table = getD table 1 0
 abbrev pub rankByte : List ℕ → ℕ → ℕ
 rankByte table u = getD table (4 + 19 * u + 1) 0
 
-abbrev pub Lists : List ℕ → ℕ → ℕ → ℕ → Type 0
-Lists table u j v = (j < getD table (4 + 19 * u + 2) 0) × (getD table (4 + 19 * u + 3 + j) 0 ≡ v)
+abbrev pub ListsPlace : List ℕ → ℕ → ℕ → ℕ → Type 0
+ListsPlace table u j v = (j < getD table (4 + 19 * u + 2) 0) × (getD table (4 + 19 * u + 3 + j) 0 ≡ v)
 
 -- 01, Packet, hop and schedule: the link from u to its neighbour v is up, its byte 1
 abbrev pub UpTo : Topology → List ℕ → ℕ → ℕ → Type 0
@@ -95,14 +95,14 @@ UpTo t states u v = (a : Arc) × List·Memᴰ a (arcsOf (networkOf t) u) × (a .
 
 -- no link to a listed next hop of u is up
 abbrev pub NoneUp : Topology → List ℕ → List ℕ → ℕ → Type 0
-NoneUp t table states u = (j v : ℕ) → Lists table u j v → UpTo t states u v → ⊥
+NoneUp t table states u = (j v : ℕ) → ListsPlace table u j v → UpTo t states u v → ⊥
 
 -- v is the first listed next hop of u whose link is up
 pub record FirstUp (t : Topology) (table states : List ℕ) (u v : ℕ) : Type 0 where
   pub turn : ℕ
-  pub listed : Lists table u turn v
+  pub listed : ListsPlace table u turn v
   pub live : UpTo t states u v
-  pub down : (j w : ℕ) → j < turn → Lists table u j w → UpTo t states u w → ⊥
+  pub down : (j w : ℕ) → j < turn → ListsPlace table u j w → UpTo t states u w → ⊥
 
 -- 01, Refusals, 22: whole rows of states, at least N - 1 of them; with no links no bytes
 pub record WholeRows (t : Topology) (schedule : List ℕ) : Type 0 where
@@ -150,7 +150,7 @@ abbrev pub FiguresExact : Type 0
 FiguresExact = OfAccepted (λ t table. (u : ℕ) → u < t .routers → Reached t table u → FigureExact t table u)
 
 -- 01, Refusals, 14 and 15, for a hop: the topology is sound, and the packet's station and hops made are below N
-pub record Standing (t : Topology) (p : Packet ℕ) : Type 0 where
+pub record PacketStands (t : Topology) (p : Packet ℕ) : Type 0 where
   pub is-sound : T (sound t)
   pub station : p .station < t .routers
   pub hops : p .hops < t .routers
@@ -170,13 +170,13 @@ pub record HopByRule (t : Topology) (table states : List ℕ) (p : Packet ℕ) :
 
 abbrev pub HopsByRule : Type 0
 HopsByRule =
-    OfAccepted (λ t table. (states : List ℕ) (p : Packet ℕ) → Standing t p → SoundStates t states → HopByRule t table states p)
+    OfAccepted (λ t table. (states : List ℕ) (p : Packet ℕ) → PacketStands t p → SoundStates t states → HopByRule t table states p)
 
 -- A hop is not refused exactly where each of its tests passes.
 abbrev pub HopsDone : Type 0
 HopsDone =
     (t : Topology) (table states : List ℕ) (p : Packet ℕ) →
-    ((h : network.Hop ℕ) × (hopping t table states p ≡ done h)) ↔ (Standing t p × (tableChecking t table ≡ answer 0 0) × SoundStates t states)
+    ((h : network.Hop ℕ) × (hopping t table states p ≡ done h)) ↔ (PacketStands t p × (tableChecking t table ≡ answer 0 0) × SoundStates t states)
 
 -- A walk is not refused exactly where each of its tests passes.
 abbrev pub WalksDone : Type 0
@@ -195,11 +195,11 @@ pub record HopAnswers (t : Topology) (table states : List ℕ) (p : Packet ℕ) 
   pub says-14 : (hopping t table states p ≡ refused 14 at) ↔ ((at ≡ 0) × (T (sound t) → ⊥))
   pub says-15 : (hopping t table states p ≡ refused 15 at)
       ↔ (T (sound t) × (((t .routers ≤ p .station) × (at ≡ p .station)) ⊎ ((p .station < t .routers) × (t .routers ≤ p .hops) × (at ≡ p .hops))))
-  pub says-21 : (hopping t table states p ≡ refused 21 at) ↔ (Standing t p × (tableChecking t table ≡ answer 21 at))
+  pub says-21 : (hopping t table states p ≡ refused 21 at) ↔ (PacketStands t p × (tableChecking t table ≡ answer 21 at))
   pub says-22 : (hopping t table states p ≡ refused 22 at)
-      ↔ (Standing t p × (tableChecking t table ≡ answer 0 0) × (length states ≢ t .links) × (at ≡ length states))
+      ↔ (PacketStands t p × (tableChecking t table ≡ answer 0 0) × (length states ≢ t .links) × (at ≡ length states))
   pub says-23 : (hopping t table states p ≡ refused 23 at)
-      ↔ (Standing t p × (tableChecking t table ≡ answer 0 0) × (length states ≡ t .links) × FirstOver states at)
+      ↔ (PacketStands t p × (tableChecking t table ≡ answer 0 0) × (length states ≡ t .links) × FirstOver states at)
   pub no-other : (number : ℕ) → hopping t table states p ≡ refused number at →
       (number ≡ 14) ⊎ ((number ≡ 15) ⊎ ((number ≡ 21) ⊎ ((number ≡ 22) ⊎ (number ≡ 23))))
 
@@ -263,7 +263,7 @@ HopsLeave = (t : Topology) (table states : List ℕ) (p : Packet ℕ) → HopLea
 pub record CutOff (t : Topology) (table : List ℕ) (u : ℕ) : Type 0 where
   pub figure-is : getD (figures t table) u 0 ≡ 255
   pub walks : (schedule : List ℕ) → SoundSchedule t schedule → walking t table u schedule ≡ done (dropped-at (record { station = u; hops = 0 }))
-  pub hops : (states : List ℕ) (p : Packet ℕ) → p .station ≡ u → Standing t p → SoundStates t states → hopping t table states p ≡ done network.dropped
+  pub hops : (states : List ℕ) (p : Packet ℕ) → p .station ≡ u → PacketStands t p → SoundStates t states → hopping t table states p ≡ done network.dropped
 
 abbrev pub CutOffDrops : Type 0
 CutOffDrops = OfAccepted (λ t table. (u : ℕ) → u < t .routers → (Reached t table u → ⊥) → CutOff t table u)
@@ -304,16 +304,16 @@ WalksByHops =
 
 -- What one call does to the packet, and to where it was last set: it leaves the packet that the call's contract says, and a refused one changes nothing.
 pub record CallRule (t : Topology) (table : List ℕ) (p : Packet ℕ) (last : ℕ) : Type 0 where
-  pub set-leaves : (u : ℕ) → after t table (set-at u) p ≡ settingPacket t u p .packet
-  pub hop-leaves : (states : List ℕ) → after t table (hop-under states) p ≡ hoppingPacket t table states p .packet
-  pub sets : (u : ℕ) (q : Packet ℕ) → settingAt t u ≡ done q → (after t table (set-at u) p ≡ q) × (setIn t table (set-at u) last ≡ u)
+  pub set-leaves : (u : ℕ) → afterOne t table (set-at u) p ≡ settingPacket t u p .packet
+  pub hop-leaves : (states : List ℕ) → afterOne t table (hop-under states) p ≡ hoppingPacket t table states p .packet
+  pub sets : (u : ℕ) (q : Packet ℕ) → settingAt t u ≡ done q → (afterOne t table (set-at u) p ≡ q) × (setAfter t table (set-at u) last ≡ u)
   pub set-refused : (u number at : ℕ) → settingAt t u ≡ refused number at →
-      (after t table (set-at u) p ≡ p) × (setIn t table (set-at u) last ≡ last)
-  pub hops : (states : List ℕ) (q : Packet ℕ) → hopping t table states p ≡ done (network.moved q) → after t table (hop-under states) p ≡ q
+      (afterOne t table (set-at u) p ≡ p) × (setAfter t table (set-at u) last ≡ last)
+  pub hops : (states : List ℕ) (q : Packet ℕ) → hopping t table states p ≡ done (network.moved q) → afterOne t table (hop-under states) p ≡ q
   pub stays : (states : List ℕ) → (hopping t table states p ≡ done network.delivered) ⊎ (hopping t table states p ≡ done network.dropped) →
-      after t table (hop-under states) p ≡ p
-  pub hop-refused : (states : List ℕ) (number at : ℕ) → hopping t table states p ≡ refused number at → after t table (hop-under states) p ≡ p
-  pub hop-sets-nothing : (states : List ℕ) → setIn t table (hop-under states) last ≡ last
+      afterOne t table (hop-under states) p ≡ p
+  pub hop-refused : (states : List ℕ) (number at : ℕ) → hopping t table states p ≡ refused number at → afterOne t table (hop-under states) p ≡ p
+  pub hop-sets-nothing : (states : List ℕ) → setAfter t table (hop-under states) last ≡ last
 
 abbrev pub CallsByRule : Type 0
 CallsByRule = (t : Topology) (table : List ℕ) (p : Packet ℕ) (last : ℕ) → CallRule t table p last
@@ -321,8 +321,8 @@ CallsByRule = (t : Topology) (table : List ℕ) (p : Packet ℕ) (last : ℕ) �
 -- 01, Packet, hop and schedule: the last call of a list gets the packet as those before it left it, and where it was last set.
 pub record InTurn (t : Topology) (table : List ℕ) (p : Packet ℕ) (last : ℕ) : Type 0 where
   pub no-calls : (afterAll t table [] p ≡ p) × (lastSetIn t table [] last ≡ last)
-  pub one-more : (cs : List Call) (c : Call) → (afterAll t table (cs ++ (c ∷ [])) p ≡ after t table c (afterAll t table cs p))
-      × (lastSetIn t table (cs ++ (c ∷ [])) last ≡ setIn t table c (lastSetIn t table cs last))
+  pub one-more : (cs : List PacketCall) (c : PacketCall) → (afterAll t table (cs ++ (c ∷ [])) p ≡ afterOne t table c (afterAll t table cs p))
+      × (lastSetIn t table (cs ++ (c ∷ [])) last ≡ setAfter t table c (lastSetIn t table cs last))
 
 abbrev pub CallsInTurn : Type 0
 CallsInTurn = (t : Topology) (table : List ℕ) (p : Packet ℕ) (last : ℕ) → InTurn t table p last
@@ -331,14 +331,14 @@ CallsInTurn = (t : Topology) (table : List ℕ) (p : Packet ℕ) (last : ℕ) �
 -- than the figure of the station it was last set at; if that is not reached it has 0 hops made, always, and stands there (02, #107). For each reached
 -- station some list that last sets it there, and goes on by hops under states that 22 and 23 let pass, reaches that figure.
 pub record CallsBounded (t : Topology) (table : List ℕ) : Type 0 where
-  pub never-passed : (p : Packet ℕ) (first : ℕ) → first < t .routers → (cs : List Call) →
+  pub never-passed : (p : Packet ℕ) (first : ℕ) → first < t .routers → (cs : List PacketCall) →
       (lastSetIn t table cs first < t .routers)
       × (afterAll t table (set-at first ∷ cs) p .hops ≤ getD (figures t table) (lastSetIn t table cs first) 0)
-  pub never-moved : (p : Packet ℕ) (first : ℕ) → first < t .routers → (cs : List Call) → (Reached t table (lastSetIn t table cs first) → ⊥) →
+  pub never-moved : (p : Packet ℕ) (first : ℕ) → first < t .routers → (cs : List PacketCall) → (Reached t table (lastSetIn t table cs first) → ⊥) →
       afterAll t table (set-at first ∷ cs) p ≡ record { station = lastSetIn t table cs first; hops = 0 }
-  pub reached : (p : Packet ℕ) (s : ℕ) → s < t .routers → Reached t table s → (cs : List Call) × (lastSetIn t table cs s ≡ s)
+  pub reached : (p : Packet ℕ) (s : ℕ) → s < t .routers → Reached t table s → (cs : List PacketCall) × (lastSetIn t table cs s ≡ s)
       × (afterAll t table (set-at s ∷ cs) p .hops ≡ getD (figures t table) s 0)
-      × ((c : Call) → List·Memᴰ c cs → (states : List ℕ) × (c ≡ hop-under states) × SoundStates t states)
+      × ((c : PacketCall) → List·Memᴰ c cs → (states : List ℕ) × (c ≡ hop-under states) × SoundStates t states)
 
 abbrev pub CallsExact : Type 0
 CallsExact = OfAccepted CallsBounded

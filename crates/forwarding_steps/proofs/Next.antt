@@ -16,8 +16,8 @@ use Rattle.network.proofs.Tests.{as-true}
 use Rattle.network.proofs.Lists.{some-any}
 use Rattle.network.proofs.Below.{mem-below}
 use Rattle.arcs.specs.declared.Arcs.{Arcs}
-use Rattle.arcs.specs.Arcs.{slotArc, slotArcs, Holds}
-use Rattle.distances.specs.Slots.{slotTo}
+use Rattle.arcs.specs.Inner.{slotArc, slotArcs, ArcsHeld}
+use Rattle.distances.specs.Inner.{slotTo}
 use Rattle.topology.specs.Written.{joinedOver}
 use Rattle.table.specs.Listed.{placesIn, arcsTo, entriesIn}
 use Rattle.forwarding_steps.specs.Inner.{slotUp, firstOf, firstUp}
@@ -64,7 +64,7 @@ module _ (a : Arcs) (states : List ℕ) (u : ℕ) where
         ∙ rw (of-places vs, ← held) (sym (of-place v (below (getD (a .count) u 0)) (joinedOver (arcsTo n u) vs)))
 
 -- the first place of the row of u is that of the entry which is chosen there
-pub first-up : (n : Network) (a : Arcs) → Holds n a → (table states : List ℕ) (u : ℕ) → u < size n →
+pub first-up : (n : Network) (a : Arcs) → ArcsHeld n a → (table states : List ℕ) (u : ℕ) → u < size n →
     firstUp (a .to) (a .link) states u (getD (a .count) u 0) (placesIn table u) ≡ placeOf (firstLive states (entriesIn n table u))
 unfolding entriesIn
 first-up n a holds table states u inside = of-places a states u n (holds .arcs u inside) (placesIn table u)

@@ -20,7 +20,7 @@ use Rattle.topology_types.specs.declared.Place.{Place}
 use Rattle.topology_types.specs.declared.Topology.{Topology}
 use Rattle.topology_types.specs.Topology.{networkOf}
 use Rattle.arcs.specs.declared.Arcs.{Arcs}
-use Rattle.arcs.specs.Arcs.{slotArc}
+use Rattle.arcs.specs.Inner.{slotArc}
 use Rattle.distances.proofs.Slots.{Held, sound-held, count-is, slot-sound}
 use Rattle.table.specs.Listed.{destinationIn, placesIn, entriesIn, listed, orderIn}
 use Rattle.forwarding_rules.specs.Calls.{by}

@@ -17,8 +17,8 @@ use Rattle.topology_types.specs.Limits.{mostRouters, mostNeighbours, mostNextHo
 use Rattle.topology_types.specs.Outcome.{answer}
 use Rattle.topology_sound.specs.Sound.{sound}
 use Rattle.arcs.specs.declared.Arcs.{Arcs}
-use Rattle.arcs.specs.Arcs.{Laid}
-use Rattle.distances.specs.Slots.{slotTo}
+use Rattle.arcs.specs.Inner.{Laid}
+use Rattle.distances.specs.Inner.{slotTo}
 use Rattle.table_rows.specs.Bytes.{rowStart}
 use Rattle.table.specs.Listed.{placesIn}
 use Rattle.table.specs.Calls.{tableChecking}
@@ -73,7 +73,7 @@ pub record Checked (t : Topology) (a : Arcs) (table : List ℕ) : Type 0 where
   pub passes : tableChecking t table ≡ answer 0 0
 
 -- the greatest hop count of every place, 255 where it has no rank (02, #107)
-pub record Figures (t : Topology) (table : List ℕ) (r : Bounds) : Type 0 where
+pub record FiguresIn (t : Topology) (table : List ℕ) (r : Bounds) : Type 0 where
   pub long : length (r .by) ≡ mostRouters
   pub each : (u : ℕ) → u < t .routers → boundOf (r .by) u ≡ figureByte t table u
 

@@ -15,12 +15,12 @@ use Rattle.topology_sound.specs.Sound.{sound}
 use Rattle.topology.specs.Written.{written, writing}
 use Rattle.topology.proofs.Outcomes.{writing-exact}
 use Rattle.topology.proofs.RoundTrip.{written-long}
-use Rattle.text.specs.Lines.{Put}
+use Rattle.text.specs.Inner.{Put}
 use Rattle.text.proofs.Stores.{start}
 use Rattle.program_io.specs.Output.{refusedLine}
 use Rattle.program_io.proofs.Right.{refused-length}
 use Rattle.ospf.specs.Import.{importing}
-use Rattle.import.specs.Output.{mostFile, tooLong, streamOf, lineOf, output, complaint, Writes}
+use Rattle.import.specs.Output.{mostFile, tooLong, importedStream, complaintOf, importOutput, complaint, Writes}
 
 -- a text that was put at the start of a buffer
 put-length : {b s : List ℕ} {r : ℕ} {b′ : List ℕ} → Put b 0 s r b′ → length b′ ≡ length b
@@ -31,7 +31,7 @@ put-taken {b} {s} {r} {b′} p h = start b s b′ r (p .stored) (omega (arith, p
 
 pub too-long : (file : List ℕ) {stream b b′ : List ℕ} {r : ℕ} → mostFile < length file → Put b 0 tooLong r b′ → length b ≡ 50 →
     Writes file (record { stream = 0; line = r }) stream b′
-unfolding output complaint tooLong
+unfolding importOutput complaint tooLong
 too-long file long p room =
     let e = lt-leb (length file) mostFile long in
     record {
@@ -43,7 +43,7 @@ too-long file long p room =
 
 pub refused : (file : List ℕ) {stream b b′ : List ℕ} {r : ℕ} → length file ≤ mostFile → importing file .answer .number ≢ 0 →
     Put b 0 (refusedLine (importing file .answer)) r b′ → length b ≡ 50 → Writes file (record { stream = 0; line = r }) stream b′
-unfolding output complaint streamOf lineOf
+unfolding importOutput complaint importedStream complaintOf
 refused file short some p room =
     let e = le-leb (length file) mostFile short in
     let f = ne-eqb (importing file .answer .number) 0 some in
@@ -58,7 +58,7 @@ refused file short some p room =
 pub imported : (file : List ℕ) {a : Answer} (b : List ℕ) {b′ line : List ℕ} → length file ≤ mostFile → importing file .answer .number ≡ 0 →
     T (sound (importing file .topology)) → record { answer = a; buffer = b′ } ≡ writing (importing file .topology) b → length b ≡ 2883 →
     Writes file (record { stream = a .at; line = 0 }) b′ line
-unfolding output complaint streamOf lineOf given
+unfolding importOutput complaint importedStream complaintOf given
 imported file {a} b {b′} short none good put room =
     let t = importing file .topology in
     let most = written-long t good .most in

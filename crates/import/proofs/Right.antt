@@ -16,7 +16,7 @@ use Rattle.text.specs.Lines.{refusedWord, answerText, answerLine, wordLine}
 use Rattle.program_io.specs.Output.{refusedLine}
 use Rattle.ospf.specs.Import.{importing}
 use Rattle.ospf.proofs.Verdict.{import-sound}
-use Rattle.import.specs.Output.{mostFile, tooLong, streamOf, lineOf, output, complaint}
+use Rattle.import.specs.Output.{mostFile, tooLong, importedStream, complaintOf, importOutput, complaint}
 use Rattle.import.specs.Theorems.{ImportsRight, NotCut}
 
 -- what has number 0 and points at 0 is a success
@@ -24,7 +24,7 @@ succeeded : (r : Reading) → r .answer .number ≡ 0 → r .answer .at ≡ 0 �
 succeeded r n a = rw (n, a)
 
 pub imports-right : ImportsRight
-unfolding output complaint streamOf lineOf tooLong refusedLine wordLine refusedWord answerLine answerText
+unfolding importOutput complaint importedStream complaintOf tooLong refusedLine wordLine refusedWord answerLine answerText
 imports-right file bytes =
     let read = import-sound file bytes in
     let number = importing file .answer .number in
@@ -37,7 +37,7 @@ imports-right file bytes =
 
 -- an input that is not too long is read whole, and of one that is too long too much
 pub not-cut : NotCut
-unfolding output complaint
+unfolding importOutput complaint
 not-cut input =
     ⊎-elim
     (λ short. rw (take-all 262145 input (omega (arith, leb→le (length input) mostFile short))) (refl, refl))

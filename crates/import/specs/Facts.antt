@@ -7,7 +7,7 @@ use lib.Dec.{T}
 use lib.ListN.{take, set}
 use Rattle.network.specs.Lists.{every, sameNumbers}
 use Rattle.ospf_lsas.specs.Facts.{lsa-1, lsa-3, three}
-use Rattle.import.specs.Output.{output, complaint}
+use Rattle.import.specs.Output.{importOutput, complaint}
 
 -- a file, and what is written for it to standard output and to standard error
 pub record Fact : Type 0 where
@@ -16,7 +16,7 @@ pub record Fact : Type 0 where
   pub complains : List ℕ
 
 unfoldable pub holds : Fact → Bool
-holds f = sameNumbers (output (f .file)) (f .writes) && sameNumbers (complaint (f .file)) (f .complains)
+holds f = sameNumbers (importOutput (f .file)) (f .writes) && sameNumbers (complaint (f .file)) (f .complains)
 
 -- `refused ` and what stands behind it
 unfoldable pub refused : List ℕ → List ℕ

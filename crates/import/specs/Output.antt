@@ -22,24 +22,24 @@ unfoldable pub tooLong : List ℕ
 tooLong = 116 ∷ 111 ∷ 111 ∷ 32 ∷ 108 ∷ 111 ∷ 110 ∷ 103 ∷ newline ∷ []
 
 -- of what was imported: the stream of the topology, nothing if it was refused
-unfoldable pub streamOf : Reading → List ℕ
-streamOf r = cond (eqb (r .answer .number) 0) (written (r .topology)) []
+unfoldable pub importedStream : Reading → List ℕ
+importedStream r = cond (eqb (r .answer .number) 0) (written (r .topology)) []
 
 -- and the line, nothing if it was not refused
-unfoldable pub lineOf : Reading → List ℕ
-lineOf r = cond (eqb (r .answer .number) 0) [] (refusedLine (r .answer))
+unfoldable pub complaintOf : Reading → List ℕ
+complaintOf r = cond (eqb (r .answer .number) 0) [] (refusedLine (r .answer))
 
 -- to standard output: a refused file writes nothing there, and neither does one that is too long
-unfoldable pub output : List ℕ → List ℕ
-output file = cond (leb (length file) mostFile) (streamOf (importing file)) []
+unfoldable pub importOutput : List ℕ → List ℕ
+importOutput file = cond (leb (length file) mostFile) (importedStream (importing file)) []
 
 -- to standard error: `refused`, number, at, or `too long`
 unfoldable pub complaint : List ℕ → List ℕ
-complaint file = cond (leb (length file) mostFile) (lineOf (importing file)) tooLong
+complaint file = cond (leb (length file) mostFile) (complaintOf (importing file)) tooLong
 
 -- The two texts stand at the starts of two buffers, with so many bytes.
 pub record Writes (file : List ℕ) (r : Ends) (stream line : List ℕ) : Type 0 where
-  pub output-put : take (r .stream) stream ≡ output file
+  pub output-put : take (r .stream) stream ≡ importOutput file
   pub output-fits : r .stream ≤ length stream
   pub complaint-put : take (r .line) line ≡ complaint file
   pub complaint-fits : r .line ≤ length line

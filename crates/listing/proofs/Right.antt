@@ -4,11 +4,11 @@ use Rattle.stream_rules.proofs.Returned.{reads-sound}
 use Rattle.listing_rules.specs.Listing.{allLines}
 use Rattle.listing_rules.proofs.Right.{all-right}
 use Rattle.program_io.proofs.Right.{all-print}
-use Rattle.listing.specs.Output.{output}
-use Rattle.listing.specs.Theorems.{PrintsRight}
+use Rattle.listing.specs.Output.{listingOutput}
+use Rattle.listing.specs.Theorems.{ListingPrintsRight}
 
-pub prints-right : PrintsRight
-unfolding output
+pub prints-right : ListingPrintsRight
+unfolding listingOutput
 prints-right stream bytes =
     record {
       refused = all-print allLines stream .refused;

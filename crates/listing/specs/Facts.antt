@@ -6,9 +6,9 @@ use mathlib.Core.List.{List, [], _∷_, _++_}
 use lib.Dec.{T}
 use lib.ListN.{take}
 use Rattle.network.specs.Lists.{every, sameNumbers}
-use Rattle.stream_rules.specs.Table.{routers, T-stream}
+use Rattle.stream_rules.specs.Facts.{routers, T-stream}
 use Rattle.listing_rules.specs.Facts.{T-0, T-1, T-2, cutOff-all, pair-all}
-use Rattle.listing.specs.Output.{output}
+use Rattle.listing.specs.Output.{listingOutput}
 
 -- a stream, and what is printed for it
 pub record Fact : Type 0 where
@@ -16,7 +16,7 @@ pub record Fact : Type 0 where
   pub prints : List ℕ
 
 unfoldable pub holds : Fact → Bool
-holds f = sameNumbers (output (f .stream)) (f .prints)
+holds f = sameNumbers (listingOutput (f .stream)) (f .prints)
 
 -- `refused ` and what stands behind it
 unfoldable pub refused : List ℕ → List ℕ

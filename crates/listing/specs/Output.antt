@@ -6,5 +6,5 @@ use Rattle.listing_rules.specs.Listing.{allLines}
 use Rattle.program_io.specs.Output.{outputBy}
 
 -- the whole output: the lines of all destinations; a refused stream prints one line: `refused`, number, at
-unfoldable pub output : List ℕ → List ℕ
-output stream = outputBy allLines stream
+unfoldable pub listingOutput : List ℕ → List ℕ
+listingOutput stream = outputBy allLines stream

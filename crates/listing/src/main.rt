@@ -6,8 +6,8 @@ use libc::STDOUT_FILENO;
 ghost use mathlib.Core.Path.{_≡_};
 ghost use Prim.Native.Nat.{_≤_};
 ghost use lib.ListN.{length};
-ghost use Rattle.text.specs.Lines.{Put};
-ghost use Rattle.listing.specs.Output.{output};
+ghost use Rattle.text.specs.Inner.{Put};
+ghost use Rattle.listing.specs.Output.{listingOutput};
 
 // Room for every output: 3,968 bytes for each of 64 destinations.
 const OUTPUT: usize = 253952;
@@ -22,7 +22,7 @@ fn room() -> [u8; OUTPUT]
 // The whole output for a stream, at the start of the slice; answers how many bytes it has.
 fn put_output(stream: &[u8], out: &mut [u8]) -> usize
     requires { ⌜ 253952 ≤ length (now out) ⌝ }
-    ensures { λ r. ⌜ (r ≤ 253952) × Put (now (out .entry)) 0 (output (now (stream .entry))) r (now (out .exit)) ⌝ }
+    ensures { λ r. ⌜ (r ≤ 253952) × Put (now (out .entry)) 0 (listingOutput (now (stream .entry))) r (now (out .exit)) ⌝ }
 {
     let reading = topology::read(stream);
     let answer = reading.answer;

@@ -10,7 +10,7 @@ use Rattle.topology_types.specs.Outcome.{turnedAway, given}
 use Rattle.topology_types.specs.Topology.{noLink, padded, contents, held, zeros, seen, networkIn, networkOf}
 use Rattle.topology_sound.specs.Sound.{within, inLimits, wellLinked, uncrowded, isNoLink, unusedZero, slotted, sound}
 use Rattle.topology.specs.Written.{joinedOver}
-use Rattle.order.specs.Table.{answers, link, T-topology, cutOff, twoParts, pair}
+use Rattle.order.specs.Facts.{answers, link, T-topology, cutOff, twoParts, pair}
 use Rattle.table_rows.specs.Bytes.{rankOrNone, rowBytes, headerBytes, rowOf, rowsBytes, tableBytes, rowStart}
 use Rattle.table.specs.Listed.{destinationIn, rankIn, placesIn, arcsTo, entriesIn, listed}
 use Rattle.table.specs.Facts.{lone, F-links, F-topology}

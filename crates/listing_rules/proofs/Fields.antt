@@ -15,7 +15,7 @@ use Rattle.text.specs.Numbers.{numberText}
 use Rattle.text.proofs.Texts.{more-digits, small-length}
 use Rattle.listing_rules.specs.Listing.{spaced, rowFields, lineText}
 use Rattle.listing_rules.specs.declared.Front.{Front}
-use Rattle.listing_rules.specs.Inner.{mostLine, field, fieldsText, Short, rowText, frontText, lineOf, Row, Small}
+use Rattle.listing_rules.specs.Inner.{mostListingLine, spacedNumber, fieldsText, Short, rowText, frontText, frontLine, RowFits, Small}
 
 -- each field but the first behind a space
 pub spaced-first : (f : List ℕ) (fs : List (List ℕ)) → spaced (f ∷ fs) ≡ f ++ joinedOver (λ g. space ∷ g) fs
@@ -26,7 +26,7 @@ spaced-first f (g ∷ gs) = ap (λ (l : List ℕ). f ++ (space ∷ l)) (spaced-f
 pub joined-fields : (vs : List ℕ) → joinedOver (λ g. space ∷ g) (map numberText vs) ≡ fieldsText vs
 unfolding fieldsText joinedOver
 joined-fields [] = refl
-joined-fields (v ∷ vs) = ap (λ (l : List ℕ). field v ++ l) (joined-fields vs)
+joined-fields (v ∷ vs) = ap (λ (l : List ℕ). spacedNumber v ++ l) (joined-fields vs)
 
 pub row-none : (row : List ℕ) → length row ≡ 0 → rowText row ≡ space ∷ 45 ∷ []
 unfolding rowText rowFields joinedOver none
@@ -38,24 +38,24 @@ unfolding rowText rowFields
 row-some [] h = absurd (h refl)
 row-some (v ∷ vs) h = joined-fields (v ∷ vs)
 
-pub line-fields : (f : Front) (row : List ℕ) → lineOf f row ≡ frontText f ++ (rowText row ++ (newline ∷ []))
-unfolding lineOf frontText lineText rowText joinedOver
+pub line-fields : (f : Front) (row : List ℕ) → frontLine f row ≡ frontText f ++ (rowText row ++ (newline ∷ []))
+unfolding frontLine frontText lineText rowText joinedOver
 line-fields f row = rw (spaced-first) (simp append-assoc)
 
-pub field-length : (v : ℕ) → v < 100 → length (field v) ≤ 3
+pub field-length : (v : ℕ) → v < 100 → length (spacedNumber v) ≤ 3
 field-length v h = omega (arith, small-length v h)
 
 -- a byte of three digits: those of its tenth part, and the last
-pub byte-digits : (v : ℕ) → 100 ≤ v → v < 256 → field v ≡ field (v / 10) ++ ((48 + v % 10) ∷ [])
+pub byte-digits : (v : ℕ) → 100 ≤ v → v < 256 → spacedNumber v ≡ spacedNumber (v / 10) ++ ((48 + v % 10) ∷ [])
 byte-digits v h k = ap (λ (l : List ℕ). space ∷ l) (more-digits v (omega arith) (omega arith))
 
-pub byte-length : (v : ℕ) → v < 256 → length (field v) ≤ 4
+pub byte-length : (v : ℕ) → v < 256 → length (spacedNumber v) ≤ 4
 byte-length v h = cases (decLt v 100)
   where
-    cases : Dec (v < 100) → length (field v) ≤ 4
+    cases : Dec (v < 100) → length (spacedNumber v) ≤ 4
     cases (yes l) = omega (arith, field-length v l)
     cases (no o) =
-        omega (arith, ap length (byte-digits v (omega arith) h) ∙ length-append (field (v / 10)) ((48 + v % 10) ∷ []), field-length (v / 10) (omega arith))
+        omega (arith, ap length (byte-digits v (omega arith) h) ∙ length-append (spacedNumber (v / 10)) ((48 + v % 10) ∷ []), field-length (v / 10) (omega arith))
 
 pub front-length : (f : Front) → Small f → length (frontText f) ≤ 13
 unfolding frontText
@@ -70,12 +70,12 @@ fields-length [] h = omega arith
 fields-length (v ∷ vs) h =
     simp (length-append) (omega (arith, small-length v (h 0 (omega arith)), fields-length vs (λ i k. h (suc i) (omega arith))))
 
-pub row-length : (row : List ℕ) → Row row → length (rowText row) ≤ 48
+pub row-length : (row : List ℕ) → RowFits row → length (rowText row) ≤ 48
 row-length row r = cases (ℕ-discrete (length row) 0)
   where
     cases : Dec (length row ≡ 0) → length (rowText row) ≤ 48
     cases (yes e) = rw (row-none row e) (omega arith)
     cases (no o) = rw (row-some row o) (omega (arith, fields-length row (r .small), r .few))
 
-pub line-length : (f : Front) (row : List ℕ) → Small f → Row row → length (lineOf f row) ≤ mostLine
+pub line-length : (f : Front) (row : List ℕ) → Small f → RowFits row → length (frontLine f row) ≤ mostListingLine
 line-length f row s r = rw (line-fields f row) (simp length-append (omega (arith, front-length f s, row-length row r)))

@@ -10,7 +10,7 @@ use lib.ListN.{length, set, length-append}
 use lib.Seq.{length-sets}
 use Rattle.topology.specs.Written.{joinedOver}
 use Rattle.topology.proofs.Joined.{joined-last}
-use Rattle.text.specs.Lines.{Put}
+use Rattle.text.specs.Inner.{Put}
 use Rattle.text.proofs.Stores.{behind}
 
 -- a text put leaves the buffer as long as it was

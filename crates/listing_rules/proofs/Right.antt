@@ -31,8 +31,8 @@ use Rattle.text.specs.Numbers.{numberText}
 use Rattle.text.proofs.Texts.{one-digit, more-digits}
 use Rattle.listing_rules.specs.declared.Front.{Front}
 use Rattle.listing_rules.specs.Listing.{tableFor, lineFor, linesFor, allLines, listing}
-use Rattle.listing_rules.specs.Inner.{field, fieldsText, lineOf, frontText, rowText}
-use Rattle.listing_rules.specs.Theorems.{NumbersSpelled, JoinsInTurn, lineWith, LineIs, LineByPath, ListsRight, ListingRefuses, AllRight}
+use Rattle.listing_rules.specs.Inner.{spacedNumber, fieldsText, frontLine, frontText, rowText}
+use Rattle.listing_rules.specs.Theorems.{NumbersSpelled, JoinsInTurn, listingLine, LineIs, LineByPath, ListsRight, ListingRefuses, ListingRight}
 use Rattle.listing_rules.proofs.Fields.{row-none, row-some, line-fields}
 use Rattle.listing_rules.proofs.Tables.{given as its-given, accepted, its-path, figure-at, hop-counts, no-rank, no-count}
 
@@ -44,13 +44,13 @@ unfolding joinedOver
 joins-in-turn A f = record { none = refl; more = λ x xs. refl }
 
 -- the row's fields, entry by entry
-joined-entries : (entries : List Arc) → joinedOver field (map (λ a. a .to) entries) ≡ joinedOver (λ (b : Arc). 32 ∷ numberText (b .to)) entries
+joined-entries : (entries : List Arc) → joinedOver spacedNumber (map (λ a. a .to) entries) ≡ joinedOver (λ (b : Arc). 32 ∷ numberText (b .to)) entries
 unfolding joinedOver
 joined-entries [] = refl
-joined-entries (a ∷ rest) = ap (λ (l : List ℕ). field (a .to) ++ l) (joined-entries rest)
+joined-entries (a ∷ rest) = ap (λ (l : List ℕ). spacedNumber (a .to) ++ l) (joined-entries rest)
 
 -- a line by its fields
-spread : (f : Front) (row : List ℕ) → lineOf f row ≡ lineWith (f .destination) (f .router) (f .rank) (f .hops) (rowText row ++ (10 ∷ []))
+spread : (f : Front) (row : List ℕ) → frontLine f row ≡ listingLine (f .destination) (f .router) (f .rank) (f .hops) (rowText row ++ (10 ∷ []))
 unfolding frontText
 spread f row = line-fields f row ∙ simp append-assoc
 
@@ -71,8 +71,8 @@ module _ (t : Topology) (good : T (sound t)) (d : ℕ) (place : d < t .routers) 
         let g = its-given t good d place in
         places-are (networkOf t) (s .well-formed) d (t .limit) (g .limit-most) order table (g .bytes) u (omega (arith, s .routers))
 
-    fields : lineFor t d table u ≡ lineWith d u (rankIn table u) (figureByte t table u) (rowText (map (λ a. a .to) entries) ++ (10 ∷ []))
-    unfolding lineFor lineOf
+    fields : lineFor t d table u ≡ listingLine d u (rankIn table u) (figureByte t table u) (rowText (map (λ a. a .to) entries) ++ (10 ∷ []))
+    unfolding lineFor frontLine
     fields = rw (← places) (spread (record { destination = d; router = u; rank = rankIn table u; hops = figureByte t table u }) (placesIn table u))
 
     empty-row : entries ≡ [] → rowText (map (λ a. a .to) entries) ≡ 32 ∷ 45 ∷ []
@@ -110,7 +110,7 @@ module _ (t : Topology) (good : T (sound t)) (d : ℕ) (place : d < t .routers) 
           if-not = λ a rest e. rw (some-row a rest e) at fields;
         }
 
-    unreached : (PathTo (networkOf t) d u → ⊥) → lineFor t d table u ≡ lineWith d u 255 255 (32 ∷ 45 ∷ 10 ∷ [])
+    unreached : (PathTo (networkOf t) d u → ⊥) → lineFor t d table u ≡ listingLine d u 255 255 (32 ∷ 45 ∷ 10 ∷ [])
     unreached out =
         let s = sound-networks t good in
         let none = no-path-row (networkOf t) (s .well-formed) d (omega (arith, s .routers)) (its-given t good d place .in-free) (t .limit) u out in
@@ -151,6 +151,6 @@ listing-refuses t d buffer =
       no-place = λ good past. rw (as-true (sound t) good, le-ltb d (t .routers) past);
     }
 
-pub all-right : AllRight
+pub all-right : ListingRight
 unfolding allLines
 all-right t good = record { text = linesFor t; each = fits t good; all = refl }

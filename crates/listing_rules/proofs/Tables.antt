@@ -36,7 +36,7 @@ use Rattle.forwarding_rules.proofs.Places.{places-long}
 use Rattle.forwarding_steps.proofs.Whole.{whole-fits}
 use Rattle.forwarding_steps.proofs.Bounds.{row-of}
 use Rattle.listing_rules.specs.Listing.{tableFor, lineFor, linesFor, allLines}
-use Rattle.listing_rules.specs.Inner.{mostLine, mostLines, Row, Listable, lineOf, lineIn, tableText}
+use Rattle.listing_rules.specs.Inner.{mostListingLine, mostListingLines, RowFits, Listable, frontLine, lineIn, tableText}
 use Rattle.listing_rules.proofs.InTurn.{joined-most}
 use Rattle.listing_rules.proofs.Fields.{line-length}
 
@@ -68,7 +68,7 @@ module _ (t : Topology) (good : T (sound t)) (d : ℕ) (place : d < t .routers) 
   few-routers : t .routers ≤ 64
   few-routers = sound-exact t .0 good .routers-most
 
-  entries : (u : ℕ) → u < t .routers → Row (placesIn table u)
+  entries : (u : ℕ) → u < t .routers → RowFits (placesIn table u)
   unfolding rowStart
   entries u h =
       let r = row-of t good table opened u h in
@@ -129,10 +129,10 @@ module _ (t : Topology) (good : T (sound t)) (d : ℕ) (place : d < t .routers) 
         step (yes path) = omega (arith, few-routers, hop-counts path)
         step (no out) = omega (arith, no-count out)
 
-  pub lines-length : length (linesFor t d) ≤ mostLines
-  unfolding linesFor lineFor lineOf
+  pub lines-length : length (linesFor t d) ≤ mostListingLines
+  unfolding linesFor lineFor frontLine
   lines-length =
-      let few = joined-most (lineFor t d table) mostLine (below (t .routers))
+      let few = joined-most (lineFor t d table) mostListingLine (below (t .routers))
       (λ u m.
       let h = below-lt _ m in
       line-length (record { destination = d; router = u; rank = rankIn table u; hops = figureByte t table u }) (placesIn table u)
@@ -172,11 +172,11 @@ module _ (t : Topology) (good : T (sound t)) (d : ℕ) (place : d < t .routers) 
     unfolding tableText linesFor lineIn lineFor
     lines = joined-same _ _ (below (t .routers)) (λ u m. rw (at-place u (below-lt _ m)))
 
-pub all-length : (t : Topology) → T (sound t) → length (allLines t) ≤ mostLines * t .routers
+pub all-length : (t : Topology) → T (sound t) → length (allLines t) ≤ mostListingLines * t .routers
 unfolding allLines
 all-length t good =
     omega (
       arith,
-      joined-most (linesFor t) mostLines (below (t .routers)) (λ d m. lines-length t good d (below-lt _ m)),
+      joined-most (linesFor t) mostListingLines (below (t .routers)) (λ d m. lines-length t good d (below-lt _ m)),
       length-below (t .routers),
     )

@@ -9,7 +9,7 @@ use lib.ListN.{replicate}
 use Rattle.network.specs.Lists.{every, sameNumbers}
 use Rattle.topology_types.specs.declared.Topology.{Topology}
 use Rattle.topology_types.specs.Topology.{held, zeros}
-use Rattle.order.specs.Table.{answers, link, T-topology, cutOff, twoParts, pair}
+use Rattle.order.specs.Facts.{answers, link, T-topology, cutOff, twoParts, pair}
 use Rattle.table.specs.Facts.{lone, F-topology}
 use Rattle.listing_rules.specs.Listing.{listing, allLines}
 

@@ -16,20 +16,20 @@ use Rattle.listing_rules.specs.declared.Front.{Front}
 use Rattle.listing_rules.specs.Listing.{rowFields, lineText}
 
 -- room for a line: two numbers of two digits and two of three, at most 16 entries of two, the space before each but the first, and the line's end
-abbrev pub mostLine : ℕ
-mostLine = 62
+abbrev pub mostListingLine : ℕ
+mostListingLine = 62
 
 -- room for the lines of a destination
-abbrev pub mostLines : ℕ
-mostLines = 3968
+abbrev pub mostListingLines : ℕ
+mostListingLines = 3968
 
 -- a number behind a space
-abbrev pub field : ℕ → List ℕ
-field n = space ∷ numberText n
+abbrev pub spacedNumber : ℕ → List ℕ
+spacedNumber n = space ∷ numberText n
 
 -- numbers, a space before each
 unfoldable pub fieldsText : List ℕ → List ℕ
-fieldsText numbers = joinedOver field numbers
+fieldsText numbers = joinedOver spacedNumber numbers
 
 -- numbers of one digit or two
 abbrev pub Short : List ℕ → Type 0
@@ -40,7 +40,7 @@ unfoldable pub rowText : List ℕ → List ℕ
 rowText row = joinedOver (λ f. space ∷ f) (rowFields row)
 
 -- numbers of one digit or two, at most as many as a row has
-pub record Row (row : List ℕ) : Type 0 where
+pub record RowFits (row : List ℕ) : Type 0 where
   pub few : length row ≤ mostNextHops
   pub small : Short row
 
@@ -50,8 +50,8 @@ frontText f =
     numberText (f .destination)
     ++ ((space ∷ numberText (f .router)) ++ ((space ∷ numberText (f .rank)) ++ (space ∷ numberText (f .hops))))
 
-unfoldable pub lineOf : Front → List ℕ → List ℕ
-lineOf f row = lineText (f .destination) (f .router) (f .rank) (f .hops) row
+unfoldable pub frontLine : Front → List ℕ → List ℕ
+frontLine f row = lineText (f .destination) (f .router) (f .rank) (f .hops) row
 
 -- places of one digit or two; rank and hops are bytes, 255 where there is no path
 pub record Small (f : Front) : Type 0 where
@@ -69,7 +69,7 @@ pub record Listable (table hops : List ℕ) (n d : ℕ) : Type 0 where
   pub rank : (u : ℕ) → u < n → rankIn table u < 256
   pub hop-count : (u : ℕ) → u < n → getD hops u 0 < 256
   pub entries : (u : ℕ) → u < n → getD table (rowStart u + 2) 0 ≤ mostNextHops
-  pub row : (u : ℕ) → u < n → Row (placesIn table u)
+  pub row : (u : ℕ) → u < n → RowFits (placesIn table u)
 
 -- the line of a place, and the lines of a table
 unfoldable pub lineIn : List ℕ → List ℕ → ℕ → ℕ → List ℕ

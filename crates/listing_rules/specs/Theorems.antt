@@ -41,8 +41,8 @@ abbrev pub JoinsInTurn : Type 1
 JoinsInTurn = (A : Type 0) (f : A → List ℕ) → JoinedOver A f
 
 -- 01, Two networks by hand: destination, router, rank, greatest hop count, and the row behind them; 32 is the space
-abbrev pub lineWith : ℕ → ℕ → ℕ → ℕ → List ℕ → List ℕ
-lineWith d u rank hops rest =
+abbrev pub listingLine : ℕ → ℕ → ℕ → ℕ → List ℕ → List ℕ
+listingLine d u rank hops rest =
     numberText d ++ (32 ∷ (numberText u ++ (32 ∷ (numberText rank ++ (32 ∷ (numberText hops ++ rest))))))
 
 -- 01, Two networks by hand: the line of router u for destination d, to which it has a path, under an order and by a table. Its fields: the rank, u's
@@ -58,18 +58,18 @@ pub record LineIs (t : Topology) (d : ℕ) (order table : List ℕ) (u : ℕ) (l
   pub reached : (schedule : List ℕ) × (w : Walk ℕ) × (walking t table u schedule ≡ done w) × (packetOf w .hops ≡ hops)
   pub entries : List Arc
   pub row-is : entries ≡ row (networkOf t) (distances (networkOf t) d) (t .limit) order u
-  pub if-empty : entries ≡ [] → line ≡ lineWith d u rank hops (32 ∷ 45 ∷ 10 ∷ [])
+  pub if-empty : entries ≡ [] → line ≡ listingLine d u rank hops (32 ∷ 45 ∷ 10 ∷ [])
   pub if-not : (a : Arc) (rest : List Arc) → entries ≡ a ∷ rest →
-      line ≡ lineWith d u rank hops (joinedOver (λ b. 32 ∷ numberText (b .to)) entries ++ (10 ∷ []))
+      line ≡ listingLine d u rank hops (joinedOver (λ b. 32 ∷ numberText (b .to)) entries ++ (10 ∷ []))
 
 -- 02, #107: the line of a router that has a path to d, and that of one that has none: rank and greatest hop count 255, and the row empty
 pub record LineByPath (t : Topology) (d : ℕ) (order table : List ℕ) (u : ℕ) (line : List ℕ) : Type 0 where
   pub reached : PathTo (networkOf t) d u → LineIs t d order table u line
-  pub unreached : (PathTo (networkOf t) d u → ⊥) → line ≡ lineWith d u 255 255 (32 ∷ 45 ∷ 10 ∷ [])
+  pub unreached : (PathTo (networkOf t) d u → ⊥) → line ≡ listingLine d u 255 255 (32 ∷ 45 ∷ 10 ∷ [])
 
 -- The lines of a destination: each router's, by place, under the order by 01's rule in shortest-path mode and by the table that it and the topology's
 -- K give. They are written where there is room, the rest of the buffer staying, and refused with 24 at their length where there is not.
-pub record Lists (t : Topology) (d : ℕ) (buffer : List ℕ) : Type 0 where
+pub record LinesListed (t : Topology) (d : ℕ) (buffer : List ℕ) : Type 0 where
   pub order : List ℕ
   pub by-rule : ByRule (networkOf t) d shortest-path order
   pub table : List ℕ
@@ -84,7 +84,7 @@ pub record Lists (t : Topology) (d : ℕ) (buffer : List ℕ) : Type 0 where
   pub no-room : length buffer < length text → listing t d buffer ≡ turnedAway 24 (length text) buffer
 
 abbrev pub ListsRight : Type 0
-ListsRight = (t : Topology) → T (sound t) → (d : ℕ) → d < t .routers → (buffer : List ℕ) → Lists t d buffer
+ListsRight = (t : Topology) → T (sound t) → (d : ℕ) → d < t .routers → (buffer : List ℕ) → LinesListed t d buffer
 
 -- 01, Refusals, 14 and 15: each with the buffer as it was; all else is `ListsRight`.
 pub record Refuses (t : Topology) (d : ℕ) (buffer : List ℕ) : Type 0 where
@@ -101,5 +101,5 @@ pub record ListsAll (t : Topology) : Type 0 where
       listing t d buffer ≡ record { answer = answer 0 (length (text d)); buffer = text d ++ drop (length (text d)) buffer }
   pub all : allLines t ≡ joinedOver text (below (t .routers))
 
-abbrev pub AllRight : Type 0
-AllRight = (t : Topology) → T (sound t) → ListsAll t
+abbrev pub ListingRight : Type 0
+ListingRight = (t : Topology) → T (sound t) → ListsAll t

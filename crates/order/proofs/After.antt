@@ -11,7 +11,7 @@ use borrow.Author.Tests.{not-true, not-false, eq-eqb, ne-eqb, eqb-true, eqb-fals
 use lib.Dec.{eqb}
 use lib.ListN.{length, getD, drop, replicate, length-drop, length-replicate, getD-replicate}
 use lib.Seq.{ext-getD, getD-drop, getD-append-add}
-use Rattle.topology_types.specs.Inner.{firstOr}
+use Rattle.topology_types.specs.Outcome.{firstOr}
 use Rattle.order.specs.Calls.{ranksAfter}
 use Rattle.order.proofs.Ranges.{keep-none, none-passes, keep-first, first-passes}
 

@@ -14,7 +14,7 @@ use Rattle.topology_types.specs.Topology.{networkOf}
 use Rattle.topology_types.specs.Outcome.{answer}
 use Rattle.topology_sound.specs.Sound.{sound}
 use Rattle.order_standings.specs.declared.Mode.{Mode}
-use Rattle.order.specs.Calls.{modeOf, reachedCount, wrongRanks, ranksAfter, unreadyRanks, atFirst, judging, checking}
+use Rattle.order.specs.Calls.{modeOf, reachedCount, wrongRanks, ranksAfter, unreadyRanks, refusedAtFirst, judging, checking}
 use Rattle.order.proofs.Decided.{Proposed}
 
 -- the answer's number is another
@@ -27,9 +27,9 @@ later : (b : Bool) (number other at at′ : ℕ) (next : Answer) → number ≢ 
 later true number other at at′ next apart e = (tt, e)
 later false number other at at′ next apart e = absurd (apart (ap (λ (x : Answer). x .number) e))
 
-none-first : (ranks : List ℕ) (number other at : ℕ) (next : Answer) → number ≢ other → atFirst number ranks next ≡ answer other at →
+none-first : (ranks : List ℕ) (number other at : ℕ) (next : Answer) → number ≢ other → refusedAtFirst number ranks next ≡ answer other at →
     (ranks ≡ []) × (next ≡ answer other at)
-unfolding atFirst
+unfolding refusedAtFirst
 none-first [] number other at next apart e = (refl, e)
 none-first (r ∷ ranks) number other at next apart e = absurd (apart (ap (λ (x : Answer). x .number) e))
 
@@ -40,9 +40,9 @@ fails-here true number at at′ next apart e = absurd (apart (ap (λ (x : Answer
 fails-here false number at at′ next apart e = (sym (ap (λ (x : Answer). x .at) e), λ t. t)
 
 -- and over the order it points at the first rank
-first-here : (ranks : List ℕ) (number r : ℕ) (next : Answer) → Apart number next → atFirst number ranks next ≡ answer number r →
+first-here : (ranks : List ℕ) (number r : ℕ) (next : Answer) → Apart number next → refusedAtFirst number ranks next ≡ answer number r →
     (rest : List ℕ) × (ranks ≡ r ∷ rest)
-unfolding atFirst
+unfolding refusedAtFirst
 first-here [] number r next apart e = absurd (apart (ap (λ (x : Answer). x .number) e))
 first-here (x ∷ rest) number r next apart e = (rest, ap (λ (y : Answer). y .at ∷ rest) e)
 
@@ -50,8 +50,8 @@ apart-test : (b : Bool) (number at k : ℕ) (next : Answer) → number ≢ k →
 apart-test true number at k next apart on = on
 apart-test false number at k next apart on = apart
 
-apart-first : (ranks : List ℕ) (number k : ℕ) (next : Answer) → number ≢ k → Apart k next → Apart k (atFirst number ranks next)
-unfolding atFirst
+apart-first : (ranks : List ℕ) (number k : ℕ) (next : Answer) → number ≢ k → Apart k next → Apart k (refusedAtFirst number ranks next)
+unfolding refusedAtFirst
 apart-first [] number k next apart on = on
 apart-first (x ∷ rest) number k next apart on = apart
 
@@ -65,16 +65,16 @@ module _ (t : Topology) (d : ℕ) (m : Mode) (order : List ℕ) where
 
   -- the tests from one on
   abbrev from-20 : Answer
-  from-20 = atFirst 20 (unreadyRanks (networkOf t) d (modeOf m) part) (answer 0 0)
+  from-20 = refusedAtFirst 20 (unreadyRanks (networkOf t) d (modeOf m) part) (answer 0 0)
 
   abbrev from-19 : Answer
   from-19 = cond (not (eqb (getD order 0 0) d)) (answer 19 0) from-20
 
   abbrev after-18 : Answer
-  after-18 = atFirst 18 later-ranks from-19
+  after-18 = refusedAtFirst 18 later-ranks from-19
 
   abbrev from-18 : Answer
-  from-18 = atFirst 18 (wrongRanks (t .routers) part) after-18
+  from-18 = refusedAtFirst 18 (wrongRanks (t .routers) part) after-18
 
   abbrev from-17 : Answer
   from-17 = cond (not (eqb (length order) (t .routers))) (answer 17 (length order)) from-18
@@ -163,10 +163,10 @@ module _ (t : Topology) (d : ℕ) (m : Mode) (order : List ℕ) where
         let (s, h, l, e₁) = past-17 18 (λ k. omega arith) (λ k. omega arith) (λ k. omega arith) e in
         (s, h, l, either (wrongRanks (t .routers) part) e₁)
       where
-        either : (ranks : List ℕ) → atFirst 18 ranks after-18 ≡ answer 18 at →
+        either : (ranks : List ℕ) → refusedAtFirst 18 ranks after-18 ≡ answer 18 at →
             ((rest : List ℕ) × (ranks ≡ at ∷ rest)) ⊎ ((ranks ≡ []) × ((rest : List ℕ) × (later-ranks ≡ at ∷ rest)))
-        either [] e = unfold atFirst in inr (refl, first-here later-ranks 18 at from-19 (apart-19 18 (omega arith) (omega arith)) e)
-        either (r ∷ rest) e = unfold atFirst in inl (rest, ap (λ (y : Answer). y .at ∷ rest) e)
+        either [] e = unfold refusedAtFirst in inr (refl, first-here later-ranks 18 at from-19 (apart-19 18 (omega arith) (omega arith)) e)
+        either (r ∷ rest) e = unfold refusedAtFirst in inl (rest, ap (λ (y : Answer). y .at ∷ rest) e)
 
     pub is-19 : checking t d m order ≡ answer 19 at →
         T (sound t) × (d < t .routers) × (length order ≡ t .routers) × (wrongRanks (t .routers) part ≡ []) × (later-ranks ≡ []) × (at ≡ 0)

@@ -22,8 +22,8 @@ use Rattle.topology_types.specs.Topology.{padded, networkOf}
 use Rattle.arcs.specs.declared.Arcs.{Arcs}
 use Rattle.order_standings.specs.declared.Mode as own
 use Rattle.order.specs.Calls.{modeOf, orderBytes}
-use Rattle.order.specs.Proposed.{LaidOut}
-use Rattle.order_standings.specs.Standings.{waitsFor, Lower, Inverse, Standing, Highest, Room, Stepped}
+use Rattle.order.specs.Inner.{LaidOut}
+use Rattle.order_standings.specs.Inner.{waitsFor, Lower, Inverse, FirstStandings, Highest, Room, StandingsAfter}
 use Rattle.order.proofs.Runs.{drop-same}
 use Rattle.order_standings.proofs.Counting.{waiting}
 use Rattle.order_standings.proofs.Kept.{Kept}
@@ -97,7 +97,7 @@ module _ {t : Topology} {a : Arcs} {d : ℕ} {m : own.Mode} {ds lower first out 
     pub has-room : Room (set keys u 0) (a .to) (a .back) ds m u (getD (a .count) u 0)
     has-room = room (b .given) small (b .right) place (candidate .unplaced) waits
 
-    pub again : {r : List ℕ} → Stepped (set keys u 0) (a .to) (a .back) ds m u (getD (a .count) u 0) r →
+    pub again : {r : List ℕ} → StandingsAfter (set keys u 0) (a .to) (a .back) ds m u (getD (a .count) u 0) r →
         Building t a d m ds lower first (set out rank u) r (rank + 1)
     unfolding then continued
     again step =
@@ -131,7 +131,7 @@ module _ {t : Topology} {a : Arcs} {d : ℕ} {m : own.Mode} {ds lower first out 
 module _ {t : Topology} {a : Arcs} {d : ℕ} {m : own.Mode} {ds lower : List ℕ} where
   -- after d is placed
   pub first-turn : (first : List ℕ) {keys r : List ℕ} → LaidOut t a d m ds → Lower (t .id) (t .routers) lower → t .routers ≤ length first →
-      Standing (a .count) (a .to) (a .cost) ds lower m (t .routers) keys → Stepped (set keys d 0) (a .to) (a .back) ds m d (getD (a .count) d 0) r →
+      FirstStandings (a .count) (a .to) (a .cost) ds lower m (t .routers) keys → StandingsAfter (set keys d 0) (a .to) (a .back) ds m d (getD (a .count) d 0) r →
       Building t a d m ds lower (set first 0 d) (set first 0 d) r 1
   unfolding build
   first-turn first g ties enough start step =

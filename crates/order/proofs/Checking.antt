@@ -17,13 +17,12 @@ use Rattle.network.proofs.Pigeon.{at-most}
 use Rattle.network.proofs.Candidate.{candidate-fact}
 use Rattle.topology_types.specs.declared.Topology.{Topology}
 use Rattle.topology_types.specs.Topology.{networkOf}
-use Rattle.topology_types.specs.Inner.{firstOr}
+use Rattle.topology_types.specs.Outcome.{firstOr}
 use Rattle.arcs.specs.declared.Arcs.{Arcs}
 use Rattle.order_standings.specs.declared.Mode.{Mode}
 use Rattle.order.specs.Calls.{modeOf, unreadyRanks}
-use Rattle.order.specs.Proposed.{LaidOut}
-use Rattle.order_standings.specs.Standings.{waitsFor, Standing, Room, Stepped}
-use Rattle.order.specs.Inner.{Begins}
+use Rattle.order.specs.Inner.{LaidOut, FirstPlaced}
+use Rattle.order_standings.specs.Inner.{waitsFor, FirstStandings, Room, StandingsAfter}
 use Rattle.order.proofs.Ranges.{getD-mem, mem-getD, differ, keep-none, keep-first}
 use Rattle.order.proofs.Entries.{entry-right}
 use Rattle.order_standings.proofs.Counting.{waiting}
@@ -33,7 +32,7 @@ use Rattle.order.proofs.Turn.{facts, zeros-small, is-candidate, candida
 -- before a turn
 pub record Checking (t : Topology) (a : Arcs) (d : ℕ) (m : Mode) (ds order keys : List ℕ) (rank : ℕ) : Type 0 where
   pub given : LaidOut t a d m ds
-  pub proposed : Begins t d order
+  pub proposed : FirstPlaced t d order
   pub least : 1 ≤ rank
   pub most : rank ≤ length order
   pub paths : (u : ℕ) → List·Memᴰ u (take rank order) → PathTo (networkOf t) d u
@@ -100,7 +99,7 @@ module _ {t : Topology} {a : Arcs} {d : ℕ} {m : Mode} {ds order keys : List �
       next-paths u k =
           ⊎-elim (w .paths u) (λ last. subst (PathTo (networkOf t) d) (sym (List·Memᴰ·eq-of-singleton last)) path) (List·Memᴰ·append-cases (take rank order) k)
 
-      pub again : {r : List ℕ} → Stepped (set keys (getD order rank 0) 0) (a .to) (a .back) ds m (getD order rank 0) (getD (a .count) (getD order rank 0) 0) r →
+      pub again : {r : List ℕ} → StandingsAfter (set keys (getD order rank 0) 0) (a .to) (a .back) ds m (getD order rank 0) (getD (a .count) (getD order rank 0) 0) r →
           Checking t a d m ds order r (rank + 1)
       again step =
           record {
@@ -119,13 +118,13 @@ module _ {t : Topology} {a : Arcs} {d : ℕ} {m : Mode} {ds order keys : List �
           so-far-too r h (no apart) k = w .so-far r h (omega arith)
 
 -- there are no more ranks than routers
-pub begins-short : {t : Topology} {d : ℕ} {order : List ℕ} → Begins t d order → length order ≤ t .routers
+pub begins-short : {t : Topology} {d : ℕ} {order : List ℕ} → FirstPlaced t d order → length order ≤ t .routers
 begins-short {t} {d} {order} b =
     let right = entry-right (t .routers) order (b .once) in
     at-most (t .routers) order (differ order 0 (λ i h. right i h .1)) (λ u k. let (i, h, e) = mem-getD 0 k in rw e at (right i h .0))
 
-pub first-turn : {t : Topology} {a : Arcs} {d : ℕ} {m : Mode} {ds order keys r : List ℕ} → LaidOut t a d m ds → Begins t d order →
-    Standing (a .count) (a .to) (a .cost) ds (replicate 64 0) m (t .routers) keys → Stepped (set keys d 0) (a .to) (a .back) ds m d (getD (a .count) d 0) r →
+pub first-turn : {t : Topology} {a : Arcs} {d : ℕ} {m : Mode} {ds order keys r : List ℕ} → LaidOut t a d m ds → FirstPlaced t d order →
+    FirstStandings (a .count) (a .to) (a .cost) ds (replicate 64 0) m (t .routers) keys → StandingsAfter (set keys d 0) (a .to) (a .back) ds m d (getD (a .count) d 0) r →
     Checking t a d m ds order r 1
 first-turn {order} g p start step =
     let inside : 0 < length order = p .some-rank in

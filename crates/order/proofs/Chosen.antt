@@ -25,7 +25,7 @@ use Rattle.network.proofs.Selection.{selection-right}
 use Rattle.order_standings.specs.declared.Mode.{Mode}
 use Rattle.order_standings.specs.declared.Mode.the-variants as mode
 use Rattle.order.specs.Calls.{modeOf}
-use Rattle.order_standings.specs.Standings.{waitsFor, Highest}
+use Rattle.order_standings.specs.Inner.{waitsFor, Highest}
 use Rattle.order_standings.proofs.Keeping.{kept-some, every-kept, any-kept}
 use Rattle.order_standings.proofs.Counting.{waiting, neighbours-most}
 use Rattle.order_standings.proofs.Kept.{Kept, placed-or}

@@ -16,10 +16,9 @@ use Rattle.topology_types.specs.declared.Answer.{Answer}
 use Rattle.topology_types.specs.declared.Topology.{Topology}
 use Rattle.topology_sound.specs.Sound.{sound}
 use Rattle.topology_types.specs.Topology.{networkOf}
-use Rattle.topology_types.specs.Inner.{firstOr}
-use Rattle.topology_types.specs.Outcome.{answer}
+use Rattle.topology_types.specs.Outcome.{firstOr, answer}
 use Rattle.order_standings.specs.declared.Mode.{Mode}
-use Rattle.order.specs.Calls.{atFirst, reachedCount, wrongRanks, ranksAfter, unreadyRanks, modeOf, judging, checking}
+use Rattle.order.specs.Calls.{refusedAtFirst, reachedCount, wrongRanks, ranksAfter, unreadyRanks, modeOf, judging, checking}
 
 -- the tests before 20 pass: the order has a sound topology's length, holds places in its reached ranks, none twice, and 255 after them, and begins with d
 pub record Proposed (t : Topology) (d : ℕ) (order : List ℕ) : Type 0 where
@@ -31,8 +30,8 @@ pub record Proposed (t : Topology) (d : ℕ) (order : List ℕ) : Type 0 where
   pub first : getD order 0 0 ≡ d
 
 -- a first number below n is there
-pub first-there : (xs : List ℕ) (n r number : ℕ) (next : Answer) → r ≡ firstOr n xs → r < n → answer number r ≡ atFirst number xs next
-unfolding firstOr atFirst
+pub first-there : (xs : List ℕ) (n r number : ℕ) (next : Answer) → r ≡ firstOr n xs → r < n → answer number r ≡ refusedAtFirst number xs next
+unfolding firstOr refusedAtFirst
 first-there [] n r number next e h = absurd (omega (arith, e))
 first-there (x ∷ xs) n r number next e h = ap (answer number) e
 
@@ -85,7 +84,7 @@ module _ (t : Topology) (d : ℕ) (m : Mode) (order : List ℕ) where
 
     module _ (once : wrongRanks (t .routers) (take reach order) ≡ []) where
       pub ranked-after : (r : ℕ) → r ≡ firstOr (t .routers) (ranksAfter reach order) → r < t .routers → answer 18 r ≡ judging t d m order
-      unfolding judging atFirst
+      unfolding judging refusedAtFirst
       ranked-after r e h = rw (eq-eqb _ _ long, once) (first-there (ranksAfter reach order) (t .routers) r 18 _ e h)
 
       pub none-ranked : reach ≤ t .routers → (r : ℕ) → r ≡ firstOr (t .routers) (ranksAfter reach order) → t .routers ≤ r → ranksAfter reach order ≡ []
@@ -93,7 +92,7 @@ module _ (t : Topology) (d : ℕ) (m : Mode) (order : List ℕ) where
       none-ranked most r e h = none-there _ (t .routers) r (ranks-below _ reach (length order - reach) (t .routers) (omega arith)) e h
 
       pub other-first : ranksAfter reach order ≡ [] → (getD order 0 0 ≡ d → ⊥) → answer 19 0 ≡ judging t d m order
-      unfolding judging atFirst
+      unfolding judging refusedAtFirst
       other-first after h = rw (eq-eqb _ _ long, once, after, ne-eqb _ _ h)
 
   module _ (p : Proposed t d order) where
@@ -101,7 +100,7 @@ module _ (t : Topology) (d : ℕ) (m : Mode) (order : List ℕ) where
     unready-ranks = unreadyRanks (networkOf t) d (modeOf m) (take reach order)
 
     pub unready : (r : ℕ) → r ≡ firstOr reach unready-ranks → r < reach → answer 20 r ≡ judging t d m order
-    unfolding judging atFirst
+    unfolding judging refusedAtFirst
     unready r e h = rw (eq-eqb _ _ (p .long), p .once, p .none-after, eq-eqb _ _ (p .first)) (first-there unready-ranks reach r 20 _ e h)
 
     pub none-unready : 1 ≤ reach → reach ≤ t .routers → (r : ℕ) → r ≡ firstOr reach unready-ranks → reach ≤ r → unready-ranks ≡ []
@@ -112,5 +111,5 @@ module _ (t : Topology) (d : ℕ) (m : Mode) (order : List ℕ) where
         none-there _ reach r (ranks-below _ 1 (pred (length (take reach order))) reach (omega (arith, last))) e h
 
     pub passes : unready-ranks ≡ [] → answer 0 0 ≡ judging t d m order
-    unfolding judging atFirst
+    unfolding judging refusedAtFirst
     passes e = rw (eq-eqb _ _ (p .long), p .once, p .none-after, eq-eqb _ _ (p .first), e)

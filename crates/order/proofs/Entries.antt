@@ -12,7 +12,7 @@ use lib.ListN.{length, getD, take}
 use Rattle.network.specs.Lists.{below, member}
 use Rattle.network.proofs.Tests.{as-true, as-false}
 use Rattle.network.proofs.Lists.{member-mem, mem-member}
-use Rattle.topology_types.specs.Inner.{firstOr}
+use Rattle.topology_types.specs.Outcome.{firstOr}
 use Rattle.order.specs.Calls.{wrongRanks}
 use Rattle.order.proofs.Ranges.{keep-none, none-passes, keep-first, first-passes}
 

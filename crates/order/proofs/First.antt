@@ -9,7 +9,7 @@ use mathlib.Core.Path.{_≡_, refl}
 use native.Mathlib.Nat.{eq-or-lt-of-le}
 use native.Mathlib.Omega.{arith}
 use Rattle.network.specs.Lists.{numbersFrom, below, keep}
-use Rattle.topology_types.specs.Inner.{firstOr}
+use Rattle.topology_types.specs.Outcome.{firstOr}
 
 module _ (f : ℕ → Bool) where
   pub none-from : (s n : ℕ) → ((k : ℕ) → s ≤ k → k < s + n → f k ≡ false) → keep f (numbersFrom s n) ≡ []

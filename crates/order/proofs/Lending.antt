@@ -12,12 +12,12 @@ use Rattle.network.proofs.Selection.{ids-apart}
 use Rattle.topology_types.specs.declared.Topology.{Topology}
 use Rattle.topology_types.specs.Topology.{networkOf}
 use Rattle.arcs.specs.declared.Arcs.{Arcs}
-use Rattle.arcs.specs.Arcs.{inSlots}
+use Rattle.arcs.specs.Inner.{inSlots}
 use Rattle.order_standings.specs.declared.Mode.{Mode}
 use Rattle.order.specs.Calls.{modeOf, orderBytes}
-use Rattle.order.specs.Proposed.{Lent}
-use Rattle.distances.specs.Slots.{AllSlots}
-use Rattle.order_standings.specs.Standings.{Lower, Apart, Inverse, Standing, Highest, Room, Stepped}
+use Rattle.order.specs.Inner.{Lent}
+use Rattle.distances.specs.Inner.{AllSlots}
+use Rattle.order_standings.specs.Inner.{Lower, Apart, Inverse, FirstStandings, Highest, Room, StandingsAfter}
 use Rattle.order_standings.proofs.Setting.{topology-ids}
 use Rattle.order_standings.proofs.Ties.{lower-small, lower-apart}
 use Rattle.order.proofs.Turn.{facts, every-slot, every-back, standings-low, first-room}
@@ -54,14 +54,14 @@ module _ {t : Topology} {counts to cost back ids ds : List ℕ} {n d : ℕ} {m :
         let v-in : v < size (networkOf t) = omega (arith, seen .routers) in
         ids-apart (seen .well-formed) u v u-in v-in differ (topology-ids seen u u-in ∙ e ∙ sym (topology-ids seen v v-in))))
 
-    module _ {keys : List ℕ} (start : Standing counts to cost ds lower m n keys) where
-      own-start : Standing counts to cost ds lower m (t .routers) keys
+    module _ {keys : List ℕ} (start : FirstStandings counts to cost ds lower m n keys) where
+      own-start : FirstStandings counts to cost ds lower m (t .routers) keys
       own-start = rw (l .routers-are) start
 
       pub room-first : Room (set keys d 0) to back ds m d (getD counts d 0)
       room-first = first-room (l .laid) (ties-small (l .laid) own-ties) own-start
 
-      pub begin : (first : List ℕ) {x : ℕ} {r : List ℕ} → x ≡ d → n ≤ length first → Stepped (set keys d 0) to back ds m d (getD counts d 0) r →
+      pub begin : (first : List ℕ) {x : ℕ} {r : List ℕ} → x ≡ d → n ≤ length first → StandingsAfter (set keys d 0) to back ds m d (getD counts d 0) r →
           Building t slots-of d m ds lower (set first 0 x) (set first 0 x) r 1
       begin first same enough step = rw same (first-turn first (l .laid) own-ties (rw (l .routers-are) enough) own-start step)
 
@@ -89,7 +89,7 @@ module _ {t : Topology} {counts to cost back ids ds : List ℕ} {n d : ℕ} {m :
         pub room-next : Room (set keys next 0) to back ds m next (getD counts next 0)
         room-next = has-room b own-more picked
 
-        pub go-on : {r : List ℕ} → Stepped (set keys next 0) to back ds m next (getD counts next 0) r →
+        pub go-on : {r : List ℕ} → StandingsAfter (set keys next 0) to back ds m next (getD counts next 0) r →
             Building t slots-of d m ds lower first (set out rank next) r (rank + 1)
         go-on step = again b own-more picked step
 

@@ -14,4 +14,4 @@ pub mod Checking
 pub mod Answers
 pub mod Orders
 pub mod Verdicts
-pub mod Table
+pub mod Facts

@@ -27,14 +27,13 @@ use Rattle.network.proofs.Order.{acceptance-exact, built-accepted, shortest-pat
 use Rattle.topology_types.specs.declared.Topology.{Topology}
 use Rattle.topology_types.specs.Topology.{padded, networkOf}
 use Rattle.topology_sound.specs.Sound.{sound}
-use Rattle.topology_types.specs.Inner.{firstOr}
-use Rattle.topology_types.specs.Outcome.{answer, given, turnedAway}
+use Rattle.topology_types.specs.Outcome.{firstOr, answer, given, turnedAway}
 use Rattle.topology_sound.specs.Theorems.{SoundNetwork}
 use Rattle.order_standings.specs.declared.Mode.{Mode}
 use Rattle.order_standings.specs.declared.Mode.the-variants as mode
 use Rattle.order.specs.Calls.{modeOf, reachedCount, orderBytes, unreadyRanks, building, checking}
-use Rattle.order.specs.Inner.{Begins}
-use Rattle.order.specs.Theorems.{ReachedRight, Holds, ChecksExact, BuiltWell, BuildsByRule, BuildRefuses}
+use Rattle.order.specs.Inner.{FirstPlaced}
+use Rattle.order.specs.Theorems.{ReachedRight, OrderHeld, ChecksExact, BuiltWell, BuildsByRule, BuildRefuses}
 use Rattle.topology_sound.proofs.Sound.{sound-networks}
 use Rattle.order.proofs.Reached.{counted, no-more, reached-most, reached-some, accepted-long, built-long, bytes-long}
 use Rattle.order.proofs.Ranges.{getD-mem, mem-getD, differ, keep-none, none-passes, keep-first, first-passes}
@@ -81,7 +80,7 @@ module _ (t : Topology) (is-sound : T (sound t)) (d : ℕ) (place : d < t .route
     not-unready r c = rw (as-true (in-turn? r) (fact-candidate (networkOf t) (facts .well-formed) d inside (modeOf m) _ _ c))
 
     -- where no rank is unready each router has a path, and all that have one are there
-    pub accepts : Begins t d order → length order ≡ reach → unreadyRanks (networkOf t) d (modeOf m) order ≡ [] → Accepted (networkOf t) d (modeOf m) order
+    pub accepts : FirstPlaced t d order → length order ≡ reach → unreadyRanks (networkOf t) d (modeOf m) order ≡ [] → Accepted (networkOf t) d (modeOf m) order
     unfolding unreadyRanks
     accepts b long none =
         let right = entry-right (t .routers) order (b .once) in
@@ -116,7 +115,7 @@ module _ (t : Topology) (is-sound : T (sound t)) (d : ℕ) (place : d < t .route
             ))
 
     module _ (a : Accepted (networkOf t) d (modeOf m) order) where
-      pub begins : Begins t d order
+      pub begins : FirstPlaced t d order
       begins =
           let n = networkOf t in
           let wf = facts .well-formed in
@@ -182,7 +181,7 @@ module _ (t : Topology) (is-sound : T (sound t)) (d : ℕ) (place : d < t .route
       part-long : length part ≡ reach
       part-long = length-take-le reach bytes (omega (arith, p .long, few-reached))
 
-      pub proposal-begins : Begins t d part
+      pub proposal-begins : FirstPlaced t d part
       proposal-begins =
           record {
             on-sound = is-sound;
@@ -281,7 +280,7 @@ module _ (t : Topology) (is-sound : T (sound t)) (d : ℕ) (place : d < t .route
 
 -- some order holds, and then 255
 pub holds-exact : (t : Topology) → T (sound t) → (d : ℕ) → d < t .routers → (m : Mode) (bytes : List ℕ) →
-    (checking t d m bytes ≡ answer 0 0) ↔ ((order : List ℕ) × Holds t d (modeOf m) bytes order)
+    (checking t d m bytes ≡ answer 0 0) ↔ ((order : List ℕ) × OrderHeld t d (modeOf m) bytes order)
 unfolding orderBytes padded
 holds-exact t s d place m bytes = (
   λ e. let (a, are) = exact t s d place m bytes .0 e in (part t s d place m bytes, record { accepted = a; bytes-are = are }),

@@ -12,7 +12,7 @@ use lib.ListN.{length, getD, take}
 use lib.Seq.{take-suc, take-length}
 use Rattle.network.specs.Lists.{numbersFrom, keep, Distinct, nothing}
 use Rattle.network.proofs.Pigeon.{distinct-snoc}
-use Rattle.topology_types.specs.Inner.{firstOr}
+use Rattle.topology_types.specs.Outcome.{firstOr}
 
 module _ {A : Type 0} where
   pub getD-mem : (xs : List A) (i : ℕ) (z : A) → i < length xs → List·Memᴰ (getD xs i z) xs

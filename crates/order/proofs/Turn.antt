@@ -18,14 +18,14 @@ use Rattle.topology_types.specs.declared.Topology.{Topology}
 use Rattle.topology_types.specs.Topology.{networkOf}
 use Rattle.topology_sound.specs.Theorems.{SoundNetwork}
 use Rattle.arcs.specs.declared.Arcs.{Arcs}
-use Rattle.arcs.specs.Arcs.{slotsBack, networkBack}
+use Rattle.arcs.specs.Inner.{slotsBack}
+use Rattle.arcs.specs.Back.{networkBack}
 use Rattle.order_standings.specs.declared.Mode.{Mode}
 use Rattle.order_standings.specs.declared.Mode.the-variants as mode
 use Rattle.order.specs.Calls.{modeOf, reachedCount}
-use Rattle.distances.specs.Settled.{Settled}
-use Rattle.order.specs.Proposed.{DistancesFor, LaidOut, Measured}
-use Rattle.distances.specs.Slots.{Slots, AllSlots}
-use Rattle.order_standings.specs.Standings.{waitsFor, Lower, Standing, Highest, Room, Stepped}
+use Rattle.distances.specs.Inner.{Settled, Slots, AllSlots}
+use Rattle.order.specs.Inner.{DistancesFor, LaidOut, Measured}
+use Rattle.order_standings.specs.Inner.{waitsFor, Lower, FirstStandings, Highest, Room, StandingsAfter}
 use Rattle.topology_sound.proofs.Sound.{sound-exact, sound-networks}
 use Rattle.distances.proofs.Slots.{sound-held, back-held, all-slots}
 use Rattle.order_standings.proofs.Keeping.{keep-same, none-kept}
@@ -94,7 +94,7 @@ module _ {t : Topology} {a : Arcs} {d : ℕ} {m : Mode} {ds : List ℕ} (g : Lai
   abbrev pub Right : List ℕ → List ℕ → List ℕ → Type 0
   Right lower placed keys = Kept (networkOf t) (distances (networkOf t) d) m lower placed keys
 
-  pub begun : {lower keys : List ℕ} → Standing (a .count) (a .to) (a .cost) ds lower m (t .routers) keys → Right lower [] keys
+  pub begun : {lower keys : List ℕ} → FirstStandings (a .count) (a .to) (a .cost) ds lower m (t .routers) keys → Right lower [] keys
   begun h = kept-start setting by (rw (facts .routers) h)
 
   -- the destination waits for none
@@ -154,7 +154,7 @@ module _ {t : Topology} {a : Arcs} {d : ℕ} {m : Mode} {ds : List ℕ} (g : Lai
       pub room : Room (set keys u 0) (a .to) (a .back) ds m u (getD (a .count) u 0)
       room = kept-room setting by kept u (inside h) out ready small-in
 
-      pub placed-too : {r : List ℕ} → Stepped (set keys u 0) (a .to) (a .back) ds m u (getD (a .count) u 0) r → Right lower (placed ++ (u ∷ [])) r
+      pub placed-too : {r : List ℕ} → StandingsAfter (set keys u 0) (a .to) (a .back) ds m u (getD (a .count) u 0) r → Right lower (placed ++ (u ∷ [])) r
       placed-too step = kept-step setting by kept u (inside h) out ready step
 
   -- where d is counted in, the first of all
@@ -162,9 +162,9 @@ module _ {t : Topology} {a : Arcs} {d : ℕ} {m : Mode} {ds : List ℕ} (g : Lai
   first-slots = slots (g .place)
 
   module _ {lower keys : List ℕ} (small : (u : ℕ) → u < t .routers → getD lower u 0 < 64)
-      (start : Standing (a .count) (a .to) (a .cost) ds lower m (t .routers) keys) where
+      (start : FirstStandings (a .count) (a .to) (a .cost) ds lower m (t .routers) keys) where
     pub first-room : Room (set keys d 0) (a .to) (a .back) ds m d (getD (a .count) d 0)
     first-room = room small (begun start) (g .place) List·Memᴰ·not-nil first-waits
 
-    pub first-placed : {r : List ℕ} → Stepped (set keys d 0) (a .to) (a .back) ds m d (getD (a .count) d 0) r → Right lower (d ∷ []) r
+    pub first-placed : {r : List ℕ} → StandingsAfter (set keys d 0) (a .to) (a .back) ds m d (getD (a .count) d 0) r → Right lower (d ∷ []) r
     first-placed step = placed-too small (begun start) (g .place) List·Memᴰ·not-nil first-waits step

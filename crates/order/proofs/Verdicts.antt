@@ -13,14 +13,13 @@ use Rattle.network.proofs.Tests.{as-true, as-false}
 use Rattle.topology_types.specs.declared.Answer.{Answer}
 use Rattle.topology_types.specs.declared.Topology.{Topology}
 use Rattle.topology_types.specs.Topology.{networkOf}
-use Rattle.topology_types.specs.Inner.{firstOr}
-use Rattle.topology_types.specs.Outcome.{answer}
+use Rattle.topology_types.specs.Outcome.{firstOr, answer}
 use Rattle.topology_sound.specs.Sound.{sound}
 use Rattle.order_standings.specs.declared.Mode.{Mode}
 use Rattle.order_standings.specs.declared.Mode.the-variants as mode
 use Rattle.order.specs.Calls.{modeOf, reachedCount, wrongRanks, ranksAfter, unreadyRanks, judging, checking}
 use Rattle.order.specs.Theorems as theorems
-use Rattle.order.specs.Theorems.{no-place, repeated, ranked, RightAt, WrongAt, UnreadyAt, Called, AllRight, Begun, Checked, ChecksEach}
+use Rattle.order.specs.Theorems.{no-place, repeated, ranked, RightAt, WrongRankAt, UnreadyAt, Called, EntriesRight, Begun, OrderChecked, ChecksEach}
 use Rattle.order.proofs.Entries.{Right, Wrong, entry-right, none-wrong, first-wrong, wrong-first}
 use Rattle.order.proofs.After.{none-ranked, all-none, first-ranked, ranked-first}
 use Rattle.order.proofs.Answers.{is-14, is-15, is-17, is-18, is-19, is-20, is-0}
@@ -56,7 +55,7 @@ module _ (t : Topology) (d : ℕ) (order : List ℕ) where
     entries-right : wrongRanks (t .routers) (take reach order) ≡ [] → (r : ℕ) → r < reach → Right (t .routers) (take reach order) r
     entries-right once r h = entry-right (t .routers) (take reach order) once r (omega (arith, part-long))
 
-    pub all-right : wrongRanks (t .routers) (take reach order) ≡ [] → ranksAfter reach order ≡ [] → AllRight t d order
+    pub all-right : wrongRanks (t .routers) (take reach order) ≡ [] → ranksAfter reach order ≡ [] → EntriesRight t d order
     all-right once after =
         record {
           sized = record { called = called; long = long };
@@ -64,7 +63,7 @@ module _ (t : Topology) (d : ℕ) (order : List ℕ) where
         }
 
     -- 18 is of the reached ranks, or of those after them
-    pub wrong-part : (r : ℕ) (rest : List ℕ) → wrongRanks (t .routers) (take reach order) ≡ r ∷ rest → WrongAt t d order r
+    pub wrong-part : (r : ℕ) (rest : List ℕ) → wrongRanks (t .routers) (take reach order) ≡ r ∷ rest → WrongRankAt t d order r
     wrong-part r rest e =
         let (within, wrong, earlier) = first-wrong (t .routers) (take reach order) r rest e in
         let h : r < reach = omega (arith, part-long) in
@@ -74,7 +73,7 @@ module _ (t : Topology) (d : ℕ) (order : List ℕ) where
           earlier = λ k b. right-at k (λ l. earlier k b) (λ l. absurd (omega arith));
         }
 
-    pub wrong-after : (r : ℕ) (rest : List ℕ) → wrongRanks (t .routers) (take reach order) ≡ [] → ranksAfter reach order ≡ r ∷ rest → WrongAt t d order r
+    pub wrong-after : (r : ℕ) (rest : List ℕ) → wrongRanks (t .routers) (take reach order) ≡ [] → ranksAfter reach order ≡ r ∷ rest → WrongRankAt t d order r
     wrong-after r rest once e =
         let (least, within, out, earlier) = first-ranked order reach r rest e in
         record { within = within; wrong = ranked least out; earlier = λ k b. right-at k (entries-right once k) (λ l. earlier k l b) }
@@ -84,7 +83,7 @@ module _ (t : Topology) (d : ℕ) (order : List ℕ) where
         none-wrong (t .routers) (take reach order)
         (λ r h. let inside : r < reach = omega (arith, part-long) in right-in r (right r (omega (arith, few))) inside)
 
-    pub says-wrong : (m : Mode) (r : ℕ) → WrongAt t d order r → answer 18 r ≡ judging t d m order
+    pub says-wrong : (m : Mode) (r : ℕ) → WrongRankAt t d order r → answer 18 r ≡ judging t d m order
     says-wrong m r w = cases (w .wrong)
       where
         of-part : (h : r < reach) → Wrong (t .routers) (take reach order) r → answer 18 r ≡ judging t d m order
@@ -101,7 +100,7 @@ module _ (t : Topology) (d : ℕ) (order : List ℕ) where
             (λ k l. let inside : k < reach = omega (arith, part-long) in right-in k (w .earlier k (omega arith)) inside)) r
             (sym (ranked-first order reach (t .routers) r h (w .within) out (λ k l b. w .earlier k b .after l))) (omega (arith, w .within))
 
-  none-there : (a : AllRight t d order) → (wrongRanks (t .routers) (take reach order) ≡ []) × (ranksAfter reach order ≡ [])
+  none-there : (a : EntriesRight t d order) → (wrongRanks (t .routers) (take reach order) ≡ []) × (ranksAfter reach order ≡ [])
   none-there a = (
     part-right (a .sized .called) (a .sized .long) (a .right),
     all-none order reach (λ r h k. a .right r k .after h),
@@ -150,7 +149,7 @@ module _ (t : Topology) (d : ℕ) (order : List ℕ) where
   judges m c e = sym (e ∙ judged t d m order (as-true (sound t) (c .is-sound)) (c .place))
 
   module _ (m : Mode) (at : ℕ) where
-    checked : Checked t d m (modeOf m) order at
+    checked : OrderChecked t d m (modeOf m) order at
     checked =
         record {
           says-14 = (is-14 t d m order at, λ (e, out). sym (unsound t d m order (as-false (sound t) out)) ∙ ap (answer 14) (sym e));

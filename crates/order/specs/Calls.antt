@@ -51,18 +51,18 @@ unfoldable pub unreadyRanks : Network → ℕ → network.Mode → List ℕ → 
 unreadyRanks n d m order = keep (λ r. not (candidate n (distances n d) m (take r order) (getD order r 0))) (numbersFrom 1 (pred (length order)))
 
 -- a test over the whole order: it points at the first rank that fails it, else the next test follows
-unfoldable pub atFirst : ℕ → List ℕ → Answer → Answer
-atFirst number [] next = next
-atFirst number (r ∷ rs) next = answer number r
+unfoldable pub refusedAtFirst : ℕ → List ℕ → Answer → Answer
+refusedAtFirst number [] next = next
+refusedAtFirst number (r ∷ rs) next = answer number r
 
 -- 17 at the length, 18 at the rank, of the reached ranks and then of those after them, 19, and 20 at the first such rank of the reached ones
 unfoldable pub judging : Topology → ℕ → Mode → List ℕ → Answer
 judging t d m order =
     cond (not (eqb (length order) (t .routers))) (answer 17 (length order))
-    (atFirst 18 (wrongRanks (t .routers) (take (reachedCount (networkOf t) d) order))
-    (atFirst 18 (ranksAfter (reachedCount (networkOf t) d) order)
+    (refusedAtFirst 18 (wrongRanks (t .routers) (take (reachedCount (networkOf t) d) order))
+    (refusedAtFirst 18 (ranksAfter (reachedCount (networkOf t) d) order)
     (cond (not (eqb (getD order 0 0) d)) (answer 19 0)
-    (atFirst 20 (unreadyRanks (networkOf t) d (modeOf m) (take (reachedCount (networkOf t) d) order)) (answer 0 0)))))
+    (refusedAtFirst 20 (unreadyRanks (networkOf t) d (modeOf m) (take (reachedCount (networkOf t) d) order)) (answer 0 0)))))
 
 -- 14, 15, then 17 to 20
 unfoldable pub checking : Topology → ℕ → Mode → List ℕ → Answer

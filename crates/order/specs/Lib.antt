@@ -1,5 +1,4 @@
 pub mod Calls
-pub mod Proposed
 pub mod Inner
 pub mod Theorems
-pub mod Table
+pub mod Facts

@@ -43,12 +43,12 @@ abbrev pub ReachedRight : Type 0
 ReachedRight = (n : Network) → WellFormed n → (d : ℕ) → d < size n → ReachedRanks n d
 
 -- 01, Order, and 02, #107: `checking` answers 0 if and only if the bytes are an order that is accepted, as `network` has it, and then 255 up to N.
-pub record Holds (t : Topology) (d : ℕ) (meant : network.Mode) (bytes order : List ℕ) : Type 0 where
+pub record OrderHeld (t : Topology) (d : ℕ) (meant : network.Mode) (bytes order : List ℕ) : Type 0 where
   pub accepted : Accepted (networkOf t) d meant order
   pub bytes-are : bytes ≡ upToN t order
 
 abbrev pub ChecksExact : Type 0
-ChecksExact = OfOrders (λ t d m meant. (bytes : List ℕ) → (checking t d m bytes ≡ answer 0 0) ↔ ((order : List ℕ) × Holds t d meant bytes order))
+ChecksExact = OfOrders (λ t d m meant. (bytes : List ℕ) → (checking t d m bytes ≡ answer 0 0) ↔ ((order : List ℕ) × OrderHeld t d meant bytes order))
 
 -- 01, Order, and 02, #107: building into a buffer of N bytes or more succeeds at N. Its first N bytes are then the order by 01's rule, which holds the
 -- reached routers, and then 255; the rest stays, and checking those N bytes answers 0, in their mode and in free mode.
@@ -88,7 +88,7 @@ pub data Wrong (t : Topology) (d : ℕ) (order : List ℕ) (r : ℕ) : Type 0 wh
   repeated : r < reachedCount (networkOf t) d → List·Memᴰ (getD order r 0) (take r order) → Wrong t d order r
   ranked : reachedCount (networkOf t) d ≤ r → getD order r 0 ≢ 255 → Wrong t d order r
 
-pub record WrongAt (t : Topology) (d : ℕ) (order : List ℕ) (r : ℕ) : Type 0 where
+pub record WrongRankAt (t : Topology) (d : ℕ) (order : List ℕ) (r : ℕ) : Type 0 where
   pub within : r < length order
   pub wrong : Wrong t d order r
   pub earlier : (k : ℕ) → k < r → RightAt t d order k
@@ -110,23 +110,23 @@ pub record Long (t : Topology) (d : ℕ) (order : List ℕ) : Type 0 where
   pub called : Called t d
   pub long : length order ≡ t .routers
 
-pub record AllRight (t : Topology) (d : ℕ) (order : List ℕ) : Type 0 where
+pub record EntriesRight (t : Topology) (d : ℕ) (order : List ℕ) : Type 0 where
   pub sized : Long t d order
   pub right : (r : ℕ) → r < length order → RightAt t d order r
 
 pub record Begun (t : Topology) (d : ℕ) (order : List ℕ) : Type 0 where
-  pub entries : AllRight t d order
+  pub entries : EntriesRight t d order
   pub first : getD order 0 0 ≡ d
 
 -- 01, Refusals: what each answer of `checking` says, and when it is given; the tests before it pass.
-pub record Checked (t : Topology) (d : ℕ) (m : Mode) (meant : network.Mode) (order : List ℕ) (at : ℕ) : Type 0 where
+pub record OrderChecked (t : Topology) (d : ℕ) (m : Mode) (meant : network.Mode) (order : List ℕ) (at : ℕ) : Type 0 where
   pub says-14 : (checking t d m order ≡ answer 14 at) ↔ ((at ≡ 0) × (T (sound t) → ⊥))
   pub says-15 : (checking t d m order ≡ answer 15 at) ↔ ((at ≡ d) × T (sound t) × (t .routers ≤ d))
   pub says-17 : (checking t d m order ≡ answer 17 at) ↔ ((at ≡ length order) × Called t d × (length order ≢ t .routers))
-  pub says-18 : (checking t d m order ≡ answer 18 at) ↔ (Long t d order × WrongAt t d order at)
-  pub says-19 : (checking t d m order ≡ answer 19 at) ↔ ((at ≡ 0) × AllRight t d order × (getD order 0 0 ≢ d))
+  pub says-18 : (checking t d m order ≡ answer 18 at) ↔ (Long t d order × WrongRankAt t d order at)
+  pub says-19 : (checking t d m order ≡ answer 19 at) ↔ ((at ≡ 0) × EntriesRight t d order × (getD order 0 0 ≢ d))
   pub says-20 : (checking t d m order ≡ answer 20 at) ↔ (Begun t d order × UnreadyAt t d meant order at)
-  pub says-0 : (checking t d m order ≡ answer 0 at) ↔ ((at ≡ 0) × Called t d × ((held : List ℕ) × Holds t d meant order held))
+  pub says-0 : (checking t d m order ≡ answer 0 at) ↔ ((at ≡ 0) × Called t d × ((held : List ℕ) × OrderHeld t d meant order held))
 
 abbrev pub ChecksEach : Type 0
-ChecksEach = (t : Topology) (d : ℕ) (order : List ℕ) (at : ℕ) → InBoth (λ m meant. Checked t d m meant order at)
+ChecksEach = (t : Topology) (d : ℕ) (order : List ℕ) (at : ℕ) → InBoth (λ m meant. OrderChecked t d m meant order at)

@@ -8,10 +8,9 @@ ghost use Prim.Native.Nat.{_≤_};
 ghost use lib.ListN.{length};
 ghost use Rattle.topology_types.specs.Limits.{mostRouters};
 ghost use Rattle.topology_types.specs.Topology.{networkOf};
-ghost use Rattle.topology_types.specs.Inner.{firstOr};
+ghost use Rattle.topology_types.specs.Outcome.{firstOr};
 ghost use Rattle.order.specs.Calls.{modeOf, wrongRanks, ranksAfter, unreadyRanks};
-ghost use Rattle.order.specs.Proposed.{LaidOut};
-ghost use Rattle.order.specs.Inner.{Begins};
+ghost use Rattle.order.specs.Inner.{LaidOut, FirstPlaced};
 
 // The first rank whose entry is not below n or stands before; the order's length where there is none.
 pub(crate) fn wrong_rank(n: usize, order: &[u8]) -> usize
@@ -58,7 +57,7 @@ pub(crate) fn unready_rank(
     mode: Mode,
     order: &[u8],
 ) -> usize
-    requires { ⌜ LaidOut t a d mode ds × Begins t d (now order) ⌝ }
+    requires { ⌜ LaidOut t a d mode ds × FirstPlaced t d (now order) ⌝ }
     ensures { λ r. ⌜ r ≡ firstOr (length (now (order .entry))) (unreadyRanks (networkOf t) d (modeOf mode) (now (order .entry))) ⌝ }
 {
     // Ties are not decided here, so no lower IDs are counted.

@@ -20,8 +20,8 @@ ghost use Rattle.topology_types.specs.Limits.{mostRouters};
 ghost use Rattle.topology_types.specs.declared.Topology.{Topology};
 ghost use Rattle.topology_types.specs.Topology.{networkOf};
 ghost use Rattle.order.specs.Calls.{modeOf, orderBytes, judging};
-ghost use Rattle.distances.specs.Settled.{LaidIn};
-ghost use Rattle.order.specs.Proposed.{DistancesFor, Measured, Lent, Ranked, RanksOf};
+ghost use Rattle.distances.specs.Inner.{LaidIn};
+ghost use Rattle.order.specs.Inner.{DistancesFor, Measured, Lent, Ranked, RanksOf};
 
 // What the mode needs of distances to build an order: in shortest-path mode the distances, in free mode none, so zeros. Judging one needs the distances in
 // both modes, for how many ranks are reached.

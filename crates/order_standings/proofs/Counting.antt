@@ -16,9 +16,9 @@ use Rattle.network.specs.Order.{shortestNextHops, leadsInto, placedNeighbours}
 use Rattle.network.proofs.Tests.{both, and, eq-test}
 use Rattle.network.proofs.Lists.{member-mem}
 use Rattle.arcs.specs.declared.Arcs.{Arcs}
-use Rattle.arcs.specs.Arcs.{slotArc, slotArcs, Holds}
-use Rattle.distances.specs.Slots.{slotTo, slotCost}
-use Rattle.order_standings.specs.Standings.{slotShort, leading, serving}
+use Rattle.arcs.specs.Inner.{slotArc, slotArcs, ArcsHeld}
+use Rattle.distances.specs.Inner.{slotTo, slotCost}
+use Rattle.order_standings.specs.Inner.{slotShort, leading, serving}
 use Rattle.order_standings.proofs.Setting.{Setting, Agrees}
 use Rattle.order_standings.proofs.Keeping.{once, keep-same, keep-all, keep-keep, kept-sum, kept-most, Found, none-kept, same-kept, keep-map, member-snoc}
 
@@ -48,7 +48,7 @@ abbrev pub waiting : Network → List ℕ → List ℕ → ℕ → ℕ
 waiting n ds placed v = length (keep (λ b. not (leadsInto placed b)) (shortestNextHops n ds v))
 
 -- how many arcs of u pass, by its slots
-in-slots : {n : Network} {a : Arcs} → Holds n a → (u : ℕ) → u < size n → (f : Arc → Bool) →
+in-slots : {n : Network} {a : Arcs} → ArcsHeld n a → (u : ℕ) → u < size n → (f : Arc → Bool) →
     length (keep f (arcsOf n u)) ≡ length (keep (λ j. f (slotArc a u j)) (below (getD (a .count) u 0)))
 unfolding slotArcs
 in-slots {n} {a} holds u h f = rw (← holds .arcs u h) (keep-map f (slotArc a u) (below (getD (a .count) u 0)))

@@ -17,7 +17,7 @@ use Rattle.network.proofs.Lists.{member-mem, mem-member}
 use Rattle.arcs.specs.declared.Arcs.{Arcs}
 use Rattle.order_standings.specs.declared.Mode.{Mode}
 use Rattle.order_standings.specs.declared.Mode.the-variants as mode
-use Rattle.order_standings.specs.Standings.{slotShort, waitsFor, Standing, serving, after, Room, Stepped}
+use Rattle.order_standings.specs.Inner.{slotShort, waitsFor, FirstStandings, serving, standingAfter, Room, StandingsAfter}
 use Rattle.order_standings.proofs.Keeping.{none-kept}
 use Rattle.order_standings.proofs.Counting.{waiting, leading-past, serving-past, neighbours-most, waiting-first, neighbours-step, waiting-step}
 use Rattle.order_standings.proofs.Setting.{Setting, GoneBy}
@@ -36,7 +36,7 @@ pub placed-or : {C : Type 0} (u : ℕ) (placed : List ℕ) → (List·Memᴰ u p
 placed-or u placed there not = ⊎-elim (λ t. there (member-mem u placed t)) (λ f. not (λ l. f (mem-member u placed l))) (truth (member u placed))
 
 module _ {n : Network} {a : Arcs} (g : Setting n a) {ds slots : List ℕ} {m : Mode} (by : GoneBy n ds m slots) {lower : List ℕ} where
-  pub kept-start : {keys : List ℕ} → Standing (a .count) (a .to) (a .cost) slots lower m (size n) keys → Kept n ds m lower [] keys
+  pub kept-start : {keys : List ℕ} → FirstStandings (a .count) (a .to) (a .cost) slots lower m (size n) keys → Kept n ds m lower [] keys
   unfolding placedNeighbours leadsInto member any
   kept-start w =
       record {
@@ -60,7 +60,7 @@ module _ {n : Network} {a : Arcs} (g : Setting n a) {ds slots : List ℕ} {m : M
     too = placed ++ (p ∷ [])
 
     abbrev next : ℕ → ℕ
-    next = after (set keys p 0) (a .to) (a .back) slots m p (getD (a .count) p 0)
+    next = standingAfter (set keys p 0) (a .to) (a .back) slots m p (getD (a .count) p 0)
 
     -- v waits for as many less as it is served
     waits-step : (v : ℕ) → v < size n →
@@ -74,12 +74,12 @@ module _ {n : Network} {a : Arcs} (g : Setting n a) {ds slots : List ℕ} {m : M
 
     next-unplaced : (v : ℕ) → v < size n → (List·Memᴰ v placed → ⊥) → v ≢ p →
         next v + waitsFor m (waiting n ds too v) * 1088 ≡ 17408 + placedNeighbours n too v * 64 + getD lower v 0
-    unfolding after
+    unfolding standingAfter
     next-unplaced v h free apart =
         omega (arith, k .unplaced v h free, waits-step v h, neighbours-step g placed p p-in out v h, getD-set-other keys p v 0 0 apart)
 
     next-placed : (v : ℕ) → v < size n → List·Memᴰ v placed → next v ≤ placedNeighbours n too v * 64
-    unfolding after
+    unfolding standingAfter
     next-placed v h l =
         omega (
           arith,
@@ -91,7 +91,7 @@ module _ {n : Network} {a : Arcs} (g : Setting n a) {ds slots : List ℕ} {m : M
         )
 
     next-here : next p ≤ placedNeighbours n too p * 64
-    unfolding after
+    unfolding standingAfter
     next-here =
         omega (
           arith,
@@ -102,10 +102,10 @@ module _ {n : Network} {a : Arcs} (g : Setting n a) {ds slots : List ℕ} {m : M
         )
 
     next-past : (v : ℕ) → size n ≤ v → v < 64 → next v ≡ 0
-    unfolding after waitsFor
+    unfolding standingAfter waitsFor
     next-past v past h = by-mode m
       where
-        by-mode : (w : Mode) → after (set keys p 0) (a .to) (a .back) slots w p (getD (a .count) p 0) v ≡ 0
+        by-mode : (w : Mode) → standingAfter (set keys p 0) (a .to) (a .back) slots w p (getD (a .count) p 0) v ≡ 0
         by-mode mode.ShortestPath =
             omega (
               arith,
@@ -142,7 +142,7 @@ module _ {n : Network} {a : Arcs} (g : Setting n a) {ds slots : List ℕ} {m : M
     either {C} here old v h l =
         ⊎-elim (old v h) (λ o. ⊎-elim (λ e. rw e here) (λ o′. absurd (List·Memᴰ·not-nil o′)) (List·Memᴰ·cases-cons o)) (List·Memᴰ·append-cases placed l)
 
-    pub kept-step : {r : List ℕ} → Stepped (set keys p 0) (a .to) (a .back) slots m p (getD (a .count) p 0) r → Kept n ds m lower too r
+    pub kept-step : {r : List ℕ} → StandingsAfter (set keys p 0) (a .to) (a .back) slots m p (getD (a .count) p 0) r → Kept n ds m lower too r
     kept-step {r} st =
         let most = g .most in
         record {

@@ -16,19 +16,20 @@ use Rattle.topology_sound.specs.Theorems.{SoundNetwork}
 use Rattle.topology_sound.specs.Sound.{sound}
 use Rattle.topology_sound.proofs.Sound.{sound-exact}
 use Rattle.arcs.specs.declared.Arcs.{Arcs}
-use Rattle.arcs.specs.Arcs.{Holds, slotsBack, networkBack, Laid}
+use Rattle.arcs.specs.Inner.{ArcsHeld, slotsBack, Laid}
+use Rattle.arcs.specs.Back.{networkBack}
 use Rattle.arcs.specs.Theorems.{Opposite}
 use Rattle.arcs.proofs.Back.{back-exact}
 use Rattle.order_standings.specs.declared.Mode.{Mode}
 use Rattle.order_standings.specs.declared.Mode.the-variants as mode
-use Rattle.distances.specs.Settled.{Settled}
+use Rattle.distances.specs.Inner.{Settled}
 use Rattle.distances.proofs.Ended.{getD-within}
 use Rattle.distances.proofs.Slots.{Held, back-held}
 
 -- a network, well formed and within the limits, and its arcs in slots; with costs and ways back exchanged these hold the arcs of the other ends
 pub record Setting (n : Network) (a : Arcs) : Type 0 where
   pub formed : WellFormed n
-  pub holds : Holds n a
+  pub holds : ArcsHeld n a
   pub most : size n ≤ 64
   pub few : (u : ℕ) → u < size n → length (arcsOf n u) ≤ 16
   pub other : Network

@@ -1,1 +1,1 @@
-pub mod Standings
+pub mod Inner

@@ -13,16 +13,16 @@ use Rattle.topology_sound.specs.Sound.{within}
 use Rattle.stream_rules.specs.declared.Reading.{Reading}
 use Rattle.stream_rules.specs.declared.Record.{Record}
 use Rattle.stream_rules.specs.declared.Record.the-variants as record-of
-use Rattle.stream_rules.specs.Halves.{Listing}
+use Rattle.stream_rules.specs.Halves.{StreamListing}
 use Rattle.stream_rules.specs.Stream.{records}
-use Rattle.stream_rules.specs.Reading.{refusal, accepted, fault, withLimit, added, width, isEnd, ended, unless, some?, inTurn, nothingListed, reading}
+use Rattle.stream_rules.specs.Reading.{refusal, acceptedReading, fault, withLimit, added, width, isEnd, ended, unless, anyRecord?, inTurn, nothingListed, reading}
 use Rattle.stream_rules.proofs.InTurn.{next-limit, next-end, goes-on}
 use Rattle.topology.specs.Written.{joinedOver, routerBytes, halfBytes}
 use Rattle.topology.proofs.Joined.{joined-behind}
 use Rattle.topology.proofs.Rewritten.{router-record, half-bytes, each-record}
 use Rattle.ospf_lsas.specs.Lsa.{Lsa, lsas}
-use Rattle.ospf.specs.Import.{Placed, idOf, routerIn, halfIn, halvesAt, halvesIn, placedIn}
-use Rattle.ospf.specs.Imported.{Taken, nothing, one-more, allHalves, streamOf, ImportReads}
+use Rattle.ospf.specs.Import.{Placed, routerOf, routerIn, halfPlaced, halvesAt, halvesIn, placedIn}
+use Rattle.ospf.specs.Theorems.{Taken, nothing, one-more, allHalves, streamOf, ImportReads}
 use Rattle.ospf.proofs.Plain.{Plain, router, half, no-end}
 use Rattle.ospf.proofs.Listed.{AllPlain}
 use Rattle.ospf.proofs.Verdict.{ended-so}
@@ -39,13 +39,13 @@ bytesOf (record-of.Refused number) = []
 abbrev placedBytes : Placed → List ℕ
 placedBytes r = bytesOf (r .found)
 
-router-bytes : (ls : List Lsa) → joinedOver placedBytes (map routerIn ls) ≡ joinedOver routerBytes (map idOf ls)
+router-bytes : (ls : List Lsa) → joinedOver placedBytes (map routerIn ls) ≡ joinedOver routerBytes (map routerOf ls)
 unfolding joinedOver routerIn bytesOf
 router-bytes [] = refl
-router-bytes (l ∷ ls) = ap (λ (s : List ℕ). routerBytes (idOf l) ++ s) (router-bytes ls)
+router-bytes (l ∷ ls) = ap (λ (s : List ℕ). routerBytes (routerOf l) ++ s) (router-bytes ls)
 
-halves-bytes : (l : Lsa) (hs : List Half) → joinedOver placedBytes (map (halfIn l) hs) ≡ joinedOver halfBytes hs
-unfolding joinedOver halfIn bytesOf
+halves-bytes : (l : Lsa) (hs : List Half) → joinedOver placedBytes (map (halfPlaced l) hs) ≡ joinedOver halfBytes hs
+unfolding joinedOver halfPlaced bytesOf
 halves-bytes l [] = refl
 halves-bytes l (h ∷ hs) = ap (λ (s : List ℕ). halfBytes h ++ s) (halves-bytes l hs)
 
@@ -53,19 +53,19 @@ all-bytes : (ids : List ℕ) (place : ℕ) (ls : List Lsa) → joinedOver placed
 unfolding joinedOver halvesIn allHalves halvesAt
 all-bytes ids place [] = refl
 all-bytes ids place (l ∷ ls) =
-    joined-behind placedBytes (map (halfIn l) (halvesAt ids place l)) (halvesIn ids (place + 1) ls)
+    joined-behind placedBytes (map (halfPlaced l) (halvesAt ids place l)) (halvesIn ids (place + 1) ls)
     ∙ ap₂ (λ (x y : List ℕ). x ++ y) (halves-bytes l (halvesAt ids place l)) (all-bytes ids (place + 1) ls)
     ∙ sym (joined-behind halfBytes (halvesAt ids place l) (allHalves ids (place + 1) ls))
 
 stream-is : (ls : List Lsa) → streamOf ls ≡ 8 ∷ 3 ∷ (joinedOver placedBytes (placedIn ls) ++ (3 ∷ []))
-unfolding streamOf placedIn idOf
+unfolding streamOf placedIn routerOf
 stream-is ls =
     let routers = map routerIn ls in
-    let halves = halvesIn (map idOf ls) 0 ls in
+    let halves = halvesIn (map routerOf ls) 0 ls in
     ap (λ (s : List ℕ). 8 ∷ 3 ∷ s)
-    (sym (append-assoc (joinedOver routerBytes (map idOf ls)) (joinedOver halfBytes (allHalves (map idOf ls) 0 ls)) (3 ∷ []))
+    (sym (append-assoc (joinedOver routerBytes (map routerOf ls)) (joinedOver halfBytes (allHalves (map routerOf ls) 0 ls)) (3 ∷ []))
     ∙ ap (λ (s : List ℕ). s ++ (3 ∷ []))
-    (sym (joined-behind placedBytes routers halves ∙ ap₂ (λ (x y : List ℕ). x ++ y) (router-bytes ls) (all-bytes (map idOf ls) 0 ls))))
+    (sym (joined-behind placedBytes routers halves ∙ ap₂ (λ (x y : List ℕ). x ++ y) (router-bytes ls) (all-bytes (map routerOf ls) 0 ls))))
 
 -- the records of those bytes
 founds : List Placed → List Record
@@ -91,7 +91,7 @@ stream-records ls plain =
     ∙ ap₂ (λ (x y : List Record). x ++ y) (singles (placedIn ls)) (next-end []))
 
 -- they are taken in turn as they are here
-run : {rs : List Placed} {p : Listing} → Taken rs p → AllPlain rs → (at : ℕ) (rest : List Record) →
+run : {rs : List Placed} {p : StreamListing} → Taken rs p → AllPlain rs → (at : ℕ) (rest : List Record) →
     (at′ : ℕ) × (inTurn at nothingListed (founds rs ++ rest) ≡ inTurn at′ p rest)
 unfolding founds nothingListed
 run nothing plain at rest = (at, refl)
@@ -107,7 +107,7 @@ same-end : (c : Contents) (at : ℕ) → ended false 0 c .answer .number ≡ 0 �
 unfolding ended refusal
 same-end c at = cases (eqb (length (c .ids)) 0)
   where
-    cases : (b : Bool) → cond b (refusal 12 0) (accepted c) .answer .number ≡ 0 → cond b (refusal 12 0) (accepted c) ≡ cond b (refusal 12 at) (accepted c)
+    cases : (b : Bool) → cond b (refusal 12 0) (acceptedReading c) .answer .number ≡ 0 → cond b (refusal 12 0) (acceptedReading c) ≡ cond b (refusal 12 at) (acceptedReading c)
     cases true e = absurd (omega (arith, e))
     cases false e = refl
 
@@ -117,7 +117,7 @@ unfolding inTurn unless fault isEnd added withLimit nothingListed width within
 limit-first rs = refl
 
 pub import-reads : ImportReads
-unfolding reading inTurn unless fault isEnd some?
+unfolding reading inTurn unless fault isEnd anyRecord?
 import-reads file bytes z =
     let (p, plain, t, is) = ended-so file bytes z in
     let (at, so) = run t plain 2 (record-of.End ∷ []) in

@@ -13,15 +13,14 @@ use Rattle.topology_types.specs.declared.Topology.{Topology}
 use Rattle.stream_rules.specs.declared.Reading.{Reading}
 use Rattle.stream_rules.specs.declared.Record.{Record}
 use Rattle.stream_rules.specs.declared.Record.the-variants as record-of
-use Rattle.stream_rules.specs.Halves.{Listing, linkHalves, halves}
-use Rattle.stream_rules.specs.Reading.{refusal, accepted, fault, added}
-use Rattle.stream_rules.specs.Theorems.{Bytes}
+use Rattle.stream_rules.specs.Halves.{StreamListing, linkHalves, halves}
+use Rattle.stream_rules.specs.Reading.{refusal, acceptedReading, fault, added}
+use Rattle.stream_rules.specs.Theorems.{Bytes, twoAt}
 use Rattle.stream_rules.proofs.Tables.{Tabled, Tallied, tabled-none, tallied-none}
 use Rattle.stream.proofs.Filled.{Filled}
 use Rattle.ospf_lsas.specs.Lsa.{malformed, Lsa, lsasFrom, lsas, firstMalformed}
-use Rattle.ospf_lsas.specs.Theorems.{two}
-use Rattle.ospf.specs.Import.{Placed, idOf, routerIn, halfIn, halvesAt, halvesIn, placedIn, takenTo, atLast}
-use Rattle.ospf.specs.Imported.{Taken, nothing, one-more, AllWhole}
+use Rattle.ospf.specs.Import.{Placed, routerOf, routerIn, halfPlaced, halvesAt, halvesIn, placedIn, takenTo, atLast}
+use Rattle.ospf.specs.Theorems.{Taken, nothing, one-more, AllWhole}
 use Rattle.ospf.specs.Inner.{asListed, routersTaken, allTaken}
 use Rattle.ospf_lsas.proofs.Malformed.{cut}
 use Rattle.ospf_lsas.proofs.Ends.{points-within}
@@ -34,7 +33,7 @@ use Rattle.ospf.proofs.Routed.{none-left, here, first-here, next-ahead}
 
 -- the IDs of the file
 abbrev pub idsIn : List ℕ → List ℕ
-idsIn file = map idOf (lsas file)
+idsIn file = map routerOf (lsas file)
 
 -- a part of so many bytes, as the code cuts it
 pub same-part : (at n : ℕ) (s : List ℕ) → take (at + n - at) s ≡ take n s
@@ -46,7 +45,7 @@ all-whole file h = points-within file .none-malformed .0 (omega (arith, points-w
 -- before an LSA, and its place
 pub record Halving (file : List ℕ) (t : Topology) (costs leaving : List ℕ) (m at place : ℕ) : Type 0 where
   pub ahead : Ahead malformed file at
-  pub listing : Listing
+  pub listing : StreamListing
   pub filled : Filled listing t costs leaving m
   pub ids : listing .contents .ids ≡ idsIn file
   pub left : place + length (lsasFrom at 0 (drop at file)) ≡ length (lsas file)
@@ -56,20 +55,20 @@ pub record Halving (file : List ℕ) (t : Topology) (costs leaving : List ℕ) (
 pub record Within (file : List ℕ) (l : Lsa) (place next : ℕ) (hs : List Half) (t : Topology) (costs leaving : List ℕ) (m i : ℕ) : Type 0 where
   pub inside : i ≤ length hs
   pub fits : (h : Half) → List·Memᴰ h hs → h .cost < 2 ^ 16
-  pub listing : Listing
+  pub listing : StreamListing
   pub filled : Filled listing t costs leaving m
   pub ids : listing .contents .ids ≡ idsIn file
-  pub so : takenTo atLast listing (map (halfIn l) (drop i hs) ++ halvesIn (idsIn file) (place + 1) (lsasFrom next 0 (drop next file))) ≡ allTaken file
+  pub so : takenTo atLast listing (map (halfPlaced l) (drop i hs) ++ halvesIn (idsIn file) (place + 1) (lsasFrom next 0 (drop next file))) ≡ allTaken file
 
 -- routers alone list no halves
-no-halves : {rs : List Placed} {p : Listing} → Taken rs p → ((r : Placed) → List·Memᴰ r rs → (id : ℕ) × (r .found ≡ record-of.Router id)) → halves p ≡ []
+no-halves : {rs : List Placed} {p : StreamListing} → Taken rs p → ((r : Placed) → List·Memᴰ r rs → (id : ℕ) × (r .found ≡ record-of.Router id)) → halves p ≡ []
 unfolding halves linkHalves
 no-halves nothing all = refl
 no-halves (one-more {rs} {p} r t e) all =
     let (id, is) = all r (Memᴰ·append-right rs (List·Memᴰ·head refl)) in
     ap (λ (q : Record). halves (added p q)) is ∙ router-halves p id ∙ no-halves t (λ q m. all q (Memᴰ·append-left (r ∷ []) m))
 
-router-found : (l : Lsa) {r : Placed} → routerIn l ≡ r → r .found ≡ record-of.Router (idOf l)
+router-found : (l : Lsa) {r : Placed} → routerIn l ≡ r → r .found ≡ record-of.Router (routerOf l)
 unfolding routerIn
 router-found l e = sym (ap (λ (q : Placed). q .found) e)
 
@@ -79,7 +78,7 @@ module _ (file : List ℕ) (bytes : Bytes file) (whole : AllWhole file) (t : Top
 
   pub halving-first : routersTaken file ≡ record { answer = record { number = 0; at = 0 }; topology = t } →
       Halving file t (replicate 4096 0) (replicate 64 0) 0 0 0
-  unfolding routersTaken allTaken placedIn routers asListed accepted refusal lsas
+  unfolding routersTaken allTaken placedIn routers asListed acceptedReading refusal lsas
   halving-first is = cases (outcome routers)
     where
       plain : (r : Placed) → List·Memᴰ r routers → Plain (r .found)
@@ -90,7 +89,7 @@ module _ (file : List ℕ) (bytes : Bytes file) (whole : AllWhole file) (t : Top
           absurd (omega (arith, ap (λ (r : Reading). r .answer .number) (sym (first-fault asListed f) ∙ is)))
       cases (done p k) =
           let empty : halves p ≡ [] =
-          no-halves k (λ r m. let (l, n, e) = Memᴰ·of-map routerIn (lsas file) m in (idOf l, router-found l e)) in
+          no-halves k (λ r m. let (l, n, e) = Memᴰ·of-map routerIn (lsas file) m in (routerOf l, router-found l e)) in
           record {
             ahead = at-first malformed file;
             listing = p;
@@ -109,7 +108,7 @@ module _ (file : List ℕ) (bytes : Bytes file) (whole : AllWhole file) (t : Top
 
 module _ {file : List ℕ} {t : Topology} {costs leaving : List ℕ} {m at place : ℕ} (w : Halving file t costs leaving m at place) where
   -- at an LSA, by its length and its halves as the code has them
-  module _ (l : Lies file at) (n : ℕ) (is : n ≡ two file (at + 18)) where
+  module _ (l : Lies file at) (n : ℕ) (is : n ≡ twoAt file (at + 18)) where
     rest : List Lsa
     rest = lsasFrom (at + n) 0 (drop (at + n) file)
 
@@ -155,9 +154,9 @@ one-more-is i = omega arith
 module _ {file : List ℕ} {l : Lsa} {place next : ℕ} {hs : List Half} {t : Topology} {costs leaving : List ℕ} {m i : ℕ}
     (v : Within file l place next hs t costs leaving m i) (more : i < length hs) (z h : Half) (is : h ≡ getD hs i z) where
   others : List Placed
-  others = map (halfIn l) (drop (suc i) hs) ++ halvesIn (idsIn file) (place + 1) (lsasFrom next 0 (drop next file))
+  others = map (halfPlaced l) (drop (suc i) hs) ++ halvesIn (idsIn file) (place + 1) (lsasFrom next 0 (drop next file))
 
-  now : takenTo atLast (v .listing) (halfIn l h ∷ others) ≡ allTaken file
+  now : takenTo atLast (v .listing) (halfPlaced l h ∷ others) ≡ allTaken file
   unfolding others
   now = rw is (rw (drop-cons hs i z more) at (v .so))
 
@@ -165,12 +164,12 @@ module _ {file : List ℕ} {l : Lsa} {place next : ℕ} {hs : List Half} {t : To
   cost-fits = v .fits h (rw is (getD-mem hs i z more))
 
   pub within-off : (fault (v .listing) (record-of.Half h) ≡ 0 → ⊥) → refusal (fault (v .listing) (record-of.Half h)) (l .at) ≡ allTaken file
-  unfolding halfIn
-  within-off other = sym (taken-off atLast (v .listing) (halfIn l h) others other) ∙ now
+  unfolding halfPlaced
+  within-off other = sym (taken-off atLast (v .listing) (halfPlaced l h) others other) ∙ now
 
   pub within-on : fault (v .listing) (record-of.Half h) ≡ 0 → {t′ : Topology} {costs′ leaving′ : List ℕ} {m′ : ℕ} →
       Filled (added (v .listing) (record-of.Half h)) t′ costs′ leaving′ m′ → Within file l place next hs t′ costs′ leaving′ m′ (i + 1)
-  unfolding halfIn others
+  unfolding halfPlaced others
   within-on none filled =
       record {
         inside = omega arith;
@@ -182,7 +181,7 @@ module _ {file : List ℕ} {l : Lsa} {place next : ℕ} {hs : List Half} {t : To
             subst
             (λ (k : ℕ).
             takenTo atLast (added (v .listing) (record-of.Half h))
-            (map (halfIn l) (drop k hs) ++ halvesIn (idsIn file) (place + 1) (lsasFrom next 0 (drop next file)))
+            (map (halfPlaced l) (drop k hs) ++ halvesIn (idsIn file) (place + 1) (lsasFrom next 0 (drop next file)))
             ≡ allTaken file)
-            (one-more-is i) (sym (taken-on atLast (v .listing) (halfIn l h) others none) ∙ now);
+            (one-more-is i) (sym (taken-on atLast (v .listing) (halfPlaced l h) others none) ∙ now);
       }

@@ -6,12 +6,12 @@ use mathlib.Core.Path.{_≡_, refl, sym, ap, _∙_}
 use Rattle.topology_types.specs.declared.Half.{Half}
 use Rattle.stream_rules.specs.declared.Record.{Record}
 use Rattle.stream_rules.specs.declared.Record.the-variants as record-of
-use Rattle.stream_rules.specs.Halves.{Listing, sameHalf, opposite}
+use Rattle.stream_rules.specs.Halves.{StreamListing, sameHalf, opposite}
 use Rattle.stream_rules.specs.Reading.{added, arrived, withRouter, withLink}
 use Rattle.network.specs.Lists.{keep}
 use Rattle.ospf_lsas.specs.Lsa.{Lsa}
-use Rattle.ospf.specs.Import.{Placed, idOf, routerIn, halfIn, halvesAt, halvesIn, placedIn}
-use Rattle.ospf.specs.Imported.{Taken, nothing, one-more}
+use Rattle.ospf.specs.Import.{Placed, routerOf, routerIn, halfPlaced, halvesAt, halvesIn, placedIn}
+use Rattle.ospf.specs.Theorems.{Taken, nothing, one-more}
 use Rattle.ospf.proofs.Plain.{Plain, router, half}
 
 -- the ID of a router's record
@@ -33,7 +33,7 @@ ids-append [] qs = refl
 ids-append (r ∷ rs) qs = ap (λ (l : List ℕ). idsOf (r .found) ++ l) (ids-append rs qs) ∙ sym (append-assoc (idsOf (r .found)) (allIds rs) (allIds qs))
 
 -- a half changes neither
-module _ (p : Listing) (h : Half) where
+module _ (p : StreamListing) (h : Half) where
   pub ids-arrived : (ks : List Half) → arrived p h ks .contents .ids ≡ p .contents .ids
   unfolding arrived withLink
   ids-arrived [] = refl
@@ -44,12 +44,12 @@ module _ (p : Listing) (h : Half) where
   limit-arrived [] = refl
   limit-arrived (k ∷ ks) = refl
 
-pub ids-added : (p : Listing) {r : Record} → Plain r → added p r .contents .ids ≡ p .contents .ids ++ idsOf r
+pub ids-added : (p : StreamListing) {r : Record} → Plain r → added p r .contents .ids ≡ p .contents .ids ++ idsOf r
 unfolding added withRouter idsOf
 ids-added p (router id f) = refl
 ids-added p (half h f) = ids-arrived p h (keep (sameHalf (opposite h)) (p .lone)) ∙ sym (append-nil (p .contents .ids))
 
-limit-added : (p : Listing) {r : Record} → Plain r → added p r .contents .limit ≡ p .contents .limit
+limit-added : (p : StreamListing) {r : Record} → Plain r → added p r .contents .limit ≡ p .contents .limit
 unfolding added withRouter
 limit-added p (router id f) = refl
 limit-added p (half h f) = limit-arrived p h (keep (sameHalf (opposite h)) (p .lone))
@@ -58,12 +58,12 @@ module _ where
   abbrev pub AllPlain : List Placed → Type 0
   AllPlain rs = (r : Placed) → List·Memᴰ r rs → Plain (r .found)
 
-  pub taken-limit : {rs : List Placed} {p : Listing} → Taken rs p → AllPlain rs → p .contents .limit ≡ 3
+  pub taken-limit : {rs : List Placed} {p : StreamListing} → Taken rs p → AllPlain rs → p .contents .limit ≡ 3
   taken-limit nothing plain = refl
   taken-limit (one-more {rs} {p} r t e) plain =
       limit-added p (plain r (Memᴰ·append-right rs (List·Memᴰ·head refl))) ∙ taken-limit t (λ q m. plain q (Memᴰ·append-left (r ∷ []) m))
 
-  pub listed-ids : {rs : List Placed} {p : Listing} → Taken rs p → AllPlain rs → p .contents .ids ≡ allIds rs
+  pub listed-ids : {rs : List Placed} {p : StreamListing} → Taken rs p → AllPlain rs → p .contents .ids ≡ allIds rs
   unfolding allIds
   listed-ids nothing plain = refl
   listed-ids (one-more {rs} {p} r t e) plain =
@@ -73,13 +73,13 @@ module _ where
       ∙ sym (ids-append rs (r ∷ []))
 
 -- of what is placed the routers are the LSAs'
-pub router-ids : (ls : List Lsa) → allIds (map routerIn ls) ≡ map idOf ls
+pub router-ids : (ls : List Lsa) → allIds (map routerIn ls) ≡ map routerOf ls
 unfolding allIds idsOf routerIn
 router-ids [] = refl
-router-ids (l ∷ ls) = ap (λ (is : List ℕ). idOf l ∷ is) (router-ids ls)
+router-ids (l ∷ ls) = ap (λ (is : List ℕ). routerOf l ∷ is) (router-ids ls)
 
-half-ids : (l : Lsa) (hs : List Half) → allIds (map (halfIn l) hs) ≡ []
-unfolding allIds idsOf halfIn
+half-ids : (l : Lsa) (hs : List Half) → allIds (map (halfPlaced l) hs) ≡ []
+unfolding allIds idsOf halfPlaced
 half-ids l [] = refl
 half-ids l (h ∷ hs) = half-ids l hs
 
@@ -87,12 +87,12 @@ no-ids : (ids : List ℕ) (place : ℕ) (ls : List Lsa) → allIds (halvesIn ids
 unfolding halvesIn allIds
 no-ids ids place [] = refl
 no-ids ids place (l ∷ ls) =
-    ids-append (map (halfIn l) (halvesAt ids place l)) (halvesIn ids (place + 1) ls) ∙ rw (half-ids l (halvesAt ids place l), no-ids ids (place + 1) ls)
+    ids-append (map (halfPlaced l) (halvesAt ids place l)) (halvesIn ids (place + 1) ls) ∙ rw (half-ids l (halvesAt ids place l), no-ids ids (place + 1) ls)
 
-pub placed-ids : (ls : List Lsa) → allIds (placedIn ls) ≡ map idOf ls
+pub placed-ids : (ls : List Lsa) → allIds (placedIn ls) ≡ map routerOf ls
 unfolding placedIn
 placed-ids ls =
-    ids-append (map routerIn ls) (halvesIn (map idOf ls) 0 ls) ∙ rw (router-ids ls, no-ids (map idOf ls) 0 ls, append-nil (map idOf ls))
+    ids-append (map routerIn ls) (halvesIn (map routerOf ls) 0 ls) ∙ rw (router-ids ls, no-ids (map routerOf ls) 0 ls, append-nil (map routerOf ls))
 
-pub taken-ids : (ls : List Lsa) {p : Listing} → Taken (placedIn ls) p → AllPlain (placedIn ls) → p .contents .ids ≡ map idOf ls
+pub taken-ids : (ls : List Lsa) {p : StreamListing} → Taken (placedIn ls) p → AllPlain (placedIn ls) → p .contents .ids ≡ map routerOf ls
 taken-ids ls t plain = listed-ids t plain ∙ placed-ids ls

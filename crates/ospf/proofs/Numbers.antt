@@ -18,8 +18,8 @@ use Rattle.network.proofs.Tests.{truth, as-true, as-false}
 use Rattle.topology_types.specs.declared.Half.{Half}
 use Rattle.stream_rules.specs.declared.Reading.{Reading}
 use Rattle.stream_rules.specs.declared.Record.the-variants as record-of
-use Rattle.stream_rules.specs.Halves.{Listing, linkHalves, halves, sameHalf, opposite}
-use Rattle.stream_rules.specs.Reading.{refusal, accepted, routerFault, repeated, crowded, halvesFault, fault, withRouter, added, ended, unless, nothingListed}
+use Rattle.stream_rules.specs.Halves.{StreamListing, linkHalves, halves, sameHalf, opposite}
+use Rattle.stream_rules.specs.Reading.{refusal, acceptedReading, routerFault, repeated, crowded, halvesFault, fault, withRouter, added, ended, unless, nothingListed}
 use Rattle.stream_rules.specs.Theorems.{Bytes}
 use Rattle.stream_rules.proofs.Halves.{total, one, total-append, total-none, adds-last}
 use Rattle.stream_rules.proofs.Opposite.{same-places, Once, adds-half}
@@ -27,8 +27,8 @@ use Rattle.stream_rules.proofs.Tables.{same-half}
 use Rattle.stream_rules.proofs.Kept.{Good, good-nothing, kept}
 use Rattle.ospf_lsas.specs.Lsa.{links, malformed, Lsa, lsas}
 use Rattle.ospf_halves.specs.Neighbours.{allOf, neighboursOf, halfTo, halvesOf}
-use Rattle.ospf.specs.Import.{Placed, idOf, routerIn, halfIn, halvesAt, halvesIn, placedIn, takenTo, atLast, importing}
-use Rattle.ospf.specs.Imported.{allHalves, AllRight, ImportNumbers}
+use Rattle.ospf.specs.Import.{Placed, routerOf, routerIn, halfPlaced, halvesAt, halvesIn, placedIn, takenTo, atLast, importing}
+use Rattle.ospf.specs.Theorems.{allHalves, SumsRight, ImportNumbers}
 use Rattle.ospf_halves.proofs.Halves.{place-inside, one-each}
 use Rattle.ospf_lsas.proofs.Lsas.{lsas-consecutive}
 use Rattle.ospf.proofs.Listed.{ids-arrived}
@@ -48,19 +48,19 @@ unfolding unless refusal
 met-unless zero at r m rest = rest refl
 met-unless (suc number) at r m rest = m
 
-met-last : (p : Listing) → Met (atLast p .answer .number)
-unfolding atLast ended refusal accepted member any
+met-last : (p : StreamListing) → Met (atLast p .answer .number)
+unfolding atLast ended refusal acceptedReading member any
 met-last p = cases (eqb (length (p .contents .ids)) 0)
   where
-    cases : (b : Bool) → Met (cond b (refusal 12 0) (accepted (p .contents)) .answer .number)
+    cases : (b : Bool) → Met (cond b (refusal 12 0) (acceptedReading (p .contents)) .answer .number)
     cases true = tt
     cases false = tt
 
-met-router : (p : Listing) (id : ℕ) → Met (fault p (record-of.Router id))
+met-router : (p : StreamListing) (id : ℕ) → Met (fault p (record-of.Router id))
 unfolding fault routerFault member any
 met-router p id = either (member id (p .contents .ids)) 3 _ tt (either (leb 64 (length (p .contents .ids))) 4 0 tt tt)
 
-met-half : (p : Listing) (h : Half) → h .from .0 < length (p .contents .ids) → h .to .0 < length (p .contents .ids) → repeated p h ≡ false →
+met-half : (p : StreamListing) (h : Half) → h .from .0 < length (p .contents .ids) → h .to .0 < length (p .contents .ids) → repeated p h ≡ false →
     Met (fault p (record-of.Half h))
 unfolding fault halvesFault member any
 met-half p h from to fresh =
@@ -74,8 +74,8 @@ data Halved : List Placed → List Half → Type 0 where
   none : Halved [] []
   more : {rs : List Placed} {hs : List Half} (at : ℕ) (h : Half) → Halved rs hs → Halved (record { at = at; found = record-of.Half h } ∷ rs) (h ∷ hs)
 
-halved-lsa : (l : Lsa) (hs : List Half) {rs : List Placed} {ks : List Half} → Halved rs ks → Halved (map (halfIn l) hs ++ rs) (hs ++ ks)
-unfolding halfIn
+halved-lsa : (l : Lsa) (hs : List Half) {rs : List Placed} {ks : List Half} → Halved rs ks → Halved (map (halfPlaced l) hs ++ rs) (hs ++ ks)
+unfolding halfPlaced
 halved-lsa l [] k = k
 halved-lsa l (h ∷ hs) k = more (l .at) h (halved-lsa l hs k)
 
@@ -90,7 +90,7 @@ pub record Fits (n : ℕ) (h : Half) : Type 0 where
   pub to-in : h .to .0 < n
   pub cost-fits : h .cost < 2 ^ 16
 
-unrepeated : (p : Listing) (h : Half) → any (sameHalf h) (halves p) ≡ false → repeated p h ≡ false
+unrepeated : (p : StreamListing) (h : Half) → any (sameHalf h) (halves p) ≡ false → repeated p h ≡ false
 unfolding repeated
 unrepeated p h e = e
 
@@ -115,12 +115,12 @@ total-first : (f : Half → ℕ) (h : Half) (hs : List Half) → total f (h ∷ 
 unfolding total
 total-first f h hs = refl
 
-pub half-ids : (p : Listing) (h : Half) → added p (record-of.Half h) .contents .ids ≡ p .contents .ids
+pub half-ids : (p : StreamListing) (h : Half) → added p (record-of.Half h) .contents .ids ≡ p .contents .ids
 unfolding added
 half-ids p h = ids-arrived p h (keep (sameHalf (opposite h)) (p .lone))
 
 -- each half is new among those before it
-met-halves : {rs : List Placed} {hs : List Half} → Halved rs hs → (before : List Half) (p : Listing) → Good p →
+met-halves : {rs : List Placed} {hs : List Half} → Halved rs hs → (before : List Half) (p : StreamListing) → Good p →
     ((f : Half → ℕ) → total f (halves p) ≡ total f before) → ((h : Half) → List·Memᴰ h hs → Fits (length (p .contents .ids)) h) → Once (before ++ hs) →
     Met (takenTo atLast p rs .answer .number)
 unfolding takenTo
@@ -138,26 +138,26 @@ met-halves (more {rs} {hs} at h k) before p g same fits once =
     (subst Once (sym (append-snoc before h hs)) once))
 
 -- a router more leaves the halves
-pub router-halves : (p : Listing) (id : ℕ) → halves (added p (record-of.Router id)) ≡ halves p
+pub router-halves : (p : StreamListing) (id : ℕ) → halves (added p (record-of.Router id)) ≡ halves p
 unfolding added withRouter halves
 router-halves p id = refl
 
-router-ids : (p : Listing) (id : ℕ) → added p (record-of.Router id) .contents .ids ≡ p .contents .ids ++ (id ∷ [])
+router-ids : (p : StreamListing) (id : ℕ) → added p (record-of.Router id) .contents .ids ≡ p .contents .ids ++ (id ∷ [])
 unfolding added withRouter
 router-ids p id = refl
 
 -- the routers, and then the halves
-met-routers : (ls : List Lsa) (p : Listing) (rest : List Placed) → Good p → (halves p ≡ []) → ((l : Lsa) → List·Memᴰ l ls → idOf l < 2 ^ 32) →
-    ((q : Listing) → Good q → halves q ≡ [] → q .contents .ids ≡ p .contents .ids ++ map idOf ls → Met (takenTo atLast q rest .answer .number)) →
+met-routers : (ls : List Lsa) (p : StreamListing) (rest : List Placed) → Good p → (halves p ≡ []) → ((l : Lsa) → List·Memᴰ l ls → routerOf l < 2 ^ 32) →
+    ((q : StreamListing) → Good q → halves q ≡ [] → q .contents .ids ≡ p .contents .ids ++ map routerOf ls → Met (takenTo atLast q rest .answer .number)) →
     Met (takenTo atLast p (map routerIn ls ++ rest) .answer .number)
 unfolding takenTo routerIn
 met-routers [] p rest g empty fits then = then p g empty (sym (append-nil (p .contents .ids)))
 met-routers (l ∷ ls) p rest g empty fits then =
-    met-unless _ (l .at) _ (met-router p (idOf l))
+    met-unless _ (l .at) _ (met-router p (routerOf l))
     (λ e.
-    met-routers ls (added p (record-of.Router (idOf l))) rest (kept p g (record-of.Router (idOf l)) e (fits l (List·Memᴰ·head refl)))
-    (router-halves p (idOf l) ∙ empty) (λ k m. fits k (List·Memᴰ·tail m))
-    (λ q h none-yet ids. then q h none-yet (ids ∙ ap (λ (is : List ℕ). is ++ map idOf ls) (router-ids p (idOf l)) ∙ append-snoc (p .contents .ids) (idOf l) (map idOf ls))))
+    met-routers ls (added p (record-of.Router (routerOf l))) rest (kept p g (record-of.Router (routerOf l)) e (fits l (List·Memᴰ·head refl)))
+    (router-halves p (routerOf l) ∙ empty) (λ k m. fits k (List·Memᴰ·tail m))
+    (λ q h none-yet ids. then q h none-yet (ids ∙ ap (λ (is : List ℕ). is ++ map routerOf ls) (router-ids p (routerOf l)) ∙ append-snoc (p .contents .ids) (routerOf l) (map routerOf ls))))
 
 -- the halves of an LSA leave its place, and no two lead to one place
 module _ (ids : List ℕ) (place : ℕ) (l : Lsa) where
@@ -231,18 +231,18 @@ nothing-ids : (ids : List ℕ) → nothingListed .contents .ids ++ ids ≡ ids
 unfolding nothingListed
 nothing-ids ids = refl
 
-met-right : (file : List ℕ) → Bytes file → AllRight file → Met (importing file .answer .number)
+met-right : (file : List ℕ) → Bytes file → SumsRight file → Met (importing file .answer .number)
 unfolding placedIn
 met-right file bytes right =
     let ls = lsas file in
     let each = lsa-bytes (lsas-consecutive file) bytes in
     subst (λ (r : Reading). Met (r .answer .number)) (sym (taken-turns file right))
-    (met-routers ls nothingListed (halvesIn (map idOf ls) 0 ls) good-nothing no-halves (λ l m. id-fits l (right .0 l m) (each l m))
+    (met-routers ls nothingListed (halvesIn (map routerOf ls) 0 ls) good-nothing no-halves (λ l m. id-fits l (right .0 l m) (each l m))
     (λ q g empty ids.
-    let long : length (q .contents .ids) ≡ length ls = ap length (ids ∙ nothing-ids (map idOf ls)) ∙ length-map ls idOf in
-    met-halves (halved (map idOf ls) 0 ls) [] q g (λ f. ap (total f) empty)
-    (all-fit (map idOf ls) (length (q .contents .ids)) 0 ls (omega arith) (omega (arith, length-map ls idOf)) (right .0) each)
-    (λ h. once-from h (map idOf ls) 0 ls .0)))
+    let long : length (q .contents .ids) ≡ length ls = ap length (ids ∙ nothing-ids (map routerOf ls)) ∙ length-map ls routerOf in
+    met-halves (halved (map routerOf ls) 0 ls) [] q g (λ f. ap (total f) empty)
+    (all-fit (map routerOf ls) (length (q .contents .ids)) 0 ls (omega arith) (omega (arith, length-map ls routerOf)) (right .0) each)
+    (λ h. once-from h (map routerOf ls) 0 ls .0)))
 
 pub import-numbers : ImportNumbers
 unfolding refusal member any

@@ -7,24 +7,24 @@ use mathlib.Core.Path.{_≡_, refl, ap, ap₂, subst}
 use native.Mathlib.Omega.{arith}
 use Rattle.stream_rules.specs.declared.Record.the-variants as record-of
 use Rattle.ospf_lsas.specs.Lsa.{malformed, Lsa, lsas}
-use Rattle.ospf_lsas.specs.Theorems.{four}
-use Rattle.ospf.specs.Import.{Placed, idOf, routerIn, halfIn, halvesAt, halvesIn, placedIn}
-use Rattle.ospf.specs.Imported.{HalvesInTurn, no-lsa, next-lsa, PlacedInTurn}
+use Rattle.stream_rules.specs.Theorems.{fourAt}
+use Rattle.ospf.specs.Import.{Placed, routerOf, routerIn, halfPlaced, halvesAt, halvesIn, placedIn}
+use Rattle.ospf.specs.Theorems.{HalvesInTurn, no-lsa, next-lsa, PlacedInTurn}
 use Rattle.ospf_lsas.proofs.Fields.{fields-each}
 use Rattle.ospf_lsas.proofs.Malformed.{cut}
 
 -- the Advertising Router by its bytes
-id-is : (l : Lsa) → malformed (l .bytes) ≡ false → idOf l ≡ four (l .bytes) 8
-unfolding idOf
+id-is : (l : Lsa) → malformed (l .bytes) ≡ false → routerOf l ≡ fourAt (l .bytes) 8
+unfolding routerOf
 id-is l e = let c = cut (l .bytes) e in fields-each (l .bytes) (omega (arith, c .begun, c .fits)) .advertising-router
 
-ids-are : (ls : List Lsa) → ((l : Lsa) → List·Memᴰ l ls → malformed (l .bytes) ≡ false) → map idOf ls ≡ map (λ l. four (l .bytes) 8) ls
+ids-are : (ls : List Lsa) → ((l : Lsa) → List·Memᴰ l ls → malformed (l .bytes) ≡ false) → map routerOf ls ≡ map (λ l. fourAt (l .bytes) 8) ls
 ids-are [] whole = refl
 ids-are (l ∷ ls) whole =
     ap₂ (λ (i : ℕ) (is : List ℕ). i ∷ is) (id-is l (whole l (List·Memᴰ·head refl))) (ids-are ls (λ k m. whole k (List·Memᴰ·tail m)))
 
 routers-are : (ls : List Lsa) → ((l : Lsa) → List·Memᴰ l ls → malformed (l .bytes) ≡ false) →
-    map routerIn ls ≡ map (λ l. record { at = l .at; found = record-of.Router (four (l .bytes) 8) }) ls
+    map routerIn ls ≡ map (λ l. record { at = l .at; found = record-of.Router (fourAt (l .bytes) 8) }) ls
 unfolding routerIn
 routers-are [] whole = refl
 routers-are (l ∷ ls) whole =
@@ -32,7 +32,7 @@ routers-are (l ∷ ls) whole =
     (routers-are ls (λ k m. whole k (List·Memᴰ·tail m)))
 
 halves-in-turn : (ids : List ℕ) (place : ℕ) (ls : List Lsa) → HalvesInTurn ids place ls (halvesIn ids place ls)
-unfolding halvesIn halfIn halvesAt
+unfolding halvesIn halfPlaced halvesAt
 halves-in-turn ids place [] = no-lsa
 halves-in-turn ids place (l ∷ ls) = next-lsa l (halves-in-turn ids (place + 1) ls)
 
@@ -40,9 +40,9 @@ pub placed-in-turn : PlacedInTurn
 unfolding placedIn
 placed-in-turn file whole =
     record {
-      halves = halvesIn (map idOf (lsas file)) 0 (lsas file);
-      routers-first = ap (λ (rs : List Placed). rs ++ halvesIn (map idOf (lsas file)) 0 (lsas file)) (routers-are (lsas file) whole);
+      halves = halvesIn (map routerOf (lsas file)) 0 (lsas file);
+      routers-first = ap (λ (rs : List Placed). rs ++ halvesIn (map routerOf (lsas file)) 0 (lsas file)) (routers-are (lsas file) whole);
       then-halves =
-          subst (λ (is : List ℕ). HalvesInTurn is 0 (lsas file) (halvesIn (map idOf (lsas file)) 0 (lsas file))) (ids-are (lsas file) whole)
-          (halves-in-turn (map idOf (lsas file)) 0 (lsas file));
+          subst (λ (is : List ℕ). HalvesInTurn is 0 (lsas file) (halvesIn (map routerOf (lsas file)) 0 (lsas file))) (ids-are (lsas file) whole)
+          (halves-in-turn (map routerOf (lsas file)) 0 (lsas file));
     }

@@ -15,17 +15,17 @@ use Rattle.network.proofs.Lists.{mem-take, mem-keep}
 use Rattle.topology_types.specs.declared.Half.{Half}
 use Rattle.stream_rules.specs.declared.Record.{Record}
 use Rattle.stream_rules.specs.declared.Record.the-variants as record-of
-use Rattle.stream_rules.specs.Halves.{Listing, halves}
+use Rattle.stream_rules.specs.Halves.{StreamListing, halves}
 use Rattle.stream_rules.specs.Reading.{fault, routerFault, repeated, crowded, halvesFault, isEnd, nothingListed}
-use Rattle.stream_rules.specs.Theorems.{Bytes}
+use Rattle.stream_rules.specs.Theorems.{Bytes, twoAt}
 use Rattle.stream_rules.proofs.Digits.{bytes-below}
 use Rattle.stream_rules.proofs.Fitting.{Fitting}
 use Rattle.stream_rules.proofs.Kept.{Good, good-nothing, kept}
 use Rattle.ospf_lsas.specs.Lsa.{advertisingRouter, lengthField, linkCount, links, malformed, Lsa, lsas}
 use Rattle.ospf_halves.specs.Neighbours.{allOf, halvesOf, halfTo}
-use Rattle.ospf_lsas.specs.Theorems.{two, Consecutive, end, faulty, next}
-use Rattle.ospf.specs.Import.{Placed, idOf, routerIn, halfIn, halvesAt, halvesIn, placedIn}
-use Rattle.ospf.specs.Imported.{Taken, nothing, one-more, AllWhole}
+use Rattle.ospf_lsas.specs.Theorems.{Consecutive, end, faulty, next}
+use Rattle.ospf.specs.Import.{Placed, routerOf, routerIn, halfPlaced, halvesAt, halvesIn, placedIn}
+use Rattle.ospf.specs.Theorems.{Taken, nothing, one-more, AllWhole}
 use Rattle.ospf_lsas.proofs.Malformed.{cut}
 use Rattle.ospf_lsas.proofs.Lsas.{lsas-consecutive}
 use Rattle.ospf_halves.proofs.Named.{neighbour-fits}
@@ -48,7 +48,7 @@ step : (most : ℕ) (b : Bool) (n rest : ℕ) → n ≤ most → rest ≤ most �
 step most true n rest h k = h
 step most false n rest h k = k
 
-pub fault-most : (p : Listing) {r : Record} → Plain r → fault p r ≤ 10
+pub fault-most : (p : StreamListing) {r : Record} → Plain r → fault p r ≤ 10
 unfolding fault routerFault halvesFault
 fault-most p (router id f) =
     let n = length (p .contents .ids) in
@@ -63,7 +63,7 @@ fault-most p (half h f) =
     (step 10 (any (λ k. crowded p (k .from .0)) (h ∷ [])) 10 0 (omega arith) (omega arith))))))
 
 -- what is listed is good
-pub taken-good : {rs : List Placed} {p : Listing} → Taken rs p → ((r : Placed) → List·Memᴰ r rs → Plain (r .found)) → Good p
+pub taken-good : {rs : List Placed} {p : StreamListing} → Taken rs p → ((r : Placed) → List·Memᴰ r rs → Plain (r .found)) → Good p
 unfolding nothingListed
 taken-good nothing plain = good-nothing
 taken-good (one-more {rs} {p} r t e) plain =
@@ -85,12 +85,12 @@ pub lsa-bytes : {at : ℕ} {s : List ℕ} {ls : List Lsa} → Consecutive at s l
 lsa-bytes end bytes l m = absurd (List·Memᴰ·not-nil m)
 lsa-bytes (faulty s some e) bytes l m = subst (λ (l : Lsa). Bytes (l .bytes)) (sym (List·Memᴰ·eq-of-singleton m)) bytes
 lsa-bytes (next s e rest) bytes l m =
-    ⊎-elim (λ is. subst (λ (l : Lsa). Bytes (l .bytes)) (sym is) (bytes-take (two s 18) s bytes))
-    (λ m. lsa-bytes rest (bytes-drop (two s 18) s bytes) l m) (List·Memᴰ·cases-cons m)
+    ⊎-elim (λ is. subst (λ (l : Lsa). Bytes (l .bytes)) (sym is) (bytes-take (twoAt s 18) s bytes))
+    (λ m. lsa-bytes rest (bytes-drop (twoAt s 18) s bytes) l m) (List·Memᴰ·cases-cons m)
 
 module _ (l : Lsa) (whole : malformed (l .bytes) ≡ false) (bytes : Bytes (l .bytes)) where
-  pub id-fits : idOf l < 2 ^ 32
-  unfolding idOf advertisingRouter
+  pub id-fits : routerOf l < 2 ^ 32
+  unfolding routerOf advertisingRouter
   id-fits =
       let c = cut (l .bytes) whole in
       let four : length (take 4 (drop 8 (l .bytes))) ≡ 4 =
@@ -109,17 +109,17 @@ module _ (l : Lsa) (whole : malformed (l .bytes) ≡ false) (bytes : Bytes (l .b
 module _ (ids : List ℕ) where
   half-in : (place : ℕ) (ls : List Lsa) → ((l : Lsa) → List·Memᴰ l ls → malformed (l .bytes) ≡ false) →
       ((l : Lsa) → List·Memᴰ l ls → Bytes (l .bytes)) → (r : Placed) → List·Memᴰ r (halvesIn ids place ls) → Plain (r .found)
-  unfolding halvesIn halfIn
+  unfolding halvesIn halfPlaced
   half-in place [] whole bytes r m = absurd (List·Memᴰ·not-nil m)
   half-in place (l ∷ ls) whole bytes r m =
       ⊎-elim
-      (λ k. let (h, n, is) = Memᴰ·of-map (halfIn l) (halvesAt ids place l) k in
+      (λ k. let (h, n, is) = Memᴰ·of-map (halfPlaced l) (halvesAt ids place l) k in
       subst (λ (r : Placed). Plain (r .found)) is (half h (half-plain l (whole l (List·Memᴰ·head refl)) (bytes l (List·Memᴰ·head refl)) ids place h n)))
-      (half-in (place + 1) ls (λ k n. whole k (List·Memᴰ·tail n)) (λ k n. bytes k (List·Memᴰ·tail n)) r) (List·Memᴰ·append-cases (map (halfIn l) (halvesAt ids place l)) m)
+      (half-in (place + 1) ls (λ k n. whole k (List·Memᴰ·tail n)) (λ k n. bytes k (List·Memᴰ·tail n)) r) (List·Memᴰ·append-cases (map (halfPlaced l) (halvesAt ids place l)) m)
 
 pub placed-plain : (file : List ℕ) → Bytes file → AllWhole file → (r : Placed) → List·Memᴰ r (placedIn (lsas file)) → Plain (r .found)
 unfolding placedIn routerIn
 placed-plain file bytes whole r m =
     let each = lsa-bytes (lsas-consecutive file) bytes in
-    ⊎-elim (λ k. let (l, n, is) = Memᴰ·of-map routerIn (lsas file) k in subst (λ (r : Placed). Plain (r .found)) is (router (idOf l) (id-fits l (whole l n) (each l n))))
-    (half-in (map idOf (lsas file)) 0 (lsas file) whole each r) (List·Memᴰ·append-cases (map routerIn (lsas file)) m)
+    ⊎-elim (λ k. let (l, n, is) = Memᴰ·of-map routerIn (lsas file) k in subst (λ (r : Placed). Plain (r .found)) is (router (routerOf l) (id-fits l (whole l n) (each l n))))
+    (half-in (map routerOf (lsas file)) 0 (lsas file) whole each r) (List·Memᴰ·append-cases (map routerIn (lsas file)) m)

@@ -8,10 +8,10 @@ use native.Mathlib.Omega.{arith}
 use borrow.Author.Tests.{lt-ltb, le-ltb}
 use lib.ListN.{length}
 use Rattle.stream_rules.specs.declared.Reading.{Reading}
-use Rattle.stream_rules.specs.Reading.{refusal, accepted}
+use Rattle.stream_rules.specs.Reading.{refusal, acceptedReading}
 use Rattle.ospf_lsas.specs.Lsa.{lsas, firstMalformed, firstWrongSum}
-use Rattle.ospf.specs.Import.{Placed, idOf, routerIn, halvesIn, placedIn, atLast, importing}
-use Rattle.ospf.specs.Imported.{FaultAt}
+use Rattle.ospf.specs.Import.{Placed, routerOf, routerIn, halvesIn, placedIn, atLast, importing}
+use Rattle.ospf.specs.Theorems.{FaultAt}
 use Rattle.ospf.specs.Inner.{asListed, routersTaken, allTaken}
 use Rattle.ospf.proofs.Turns.{all-taken, first-fault, Outcome, done, failed, outcome}
 
@@ -46,17 +46,17 @@ longer more f =
 module _ (file : List ℕ) where
   -- a router's fault ends the import
   pub by-routers : routersTaken file .answer .number ≢ 0 → routersTaken file ≡ allTaken file
-  unfolding routersTaken allTaken placedIn asListed accepted
+  unfolding routersTaken allTaken placedIn asListed acceptedReading
   by-routers other = cases (outcome (map routerIn (lsas file)))
     where
       cases : Outcome (map routerIn (lsas file)) → routersTaken file ≡ allTaken file
       cases (done p t) = absurd (other (ap (λ (r : Reading). r .answer .number) (all-taken asListed t)))
-      cases (failed number at f) = first-fault asListed f ∙ sym (first-fault atLast (longer (halvesIn (map idOf (lsas file)) 0 (lsas file)) f))
+      cases (failed number at f) = first-fault asListed f ∙ sym (first-fault atLast (longer (halvesIn (map routerOf (lsas file)) 0 (lsas file)) f))
 
   -- without one, they are all held
   pub routers-held : routersTaken file .answer .number ≡ 0 →
       routersTaken file ≡ record { answer = record { number = 0; at = 0 }; topology = routersTaken file .topology }
-  unfolding routersTaken asListed accepted refusal
+  unfolding routersTaken asListed acceptedReading refusal
   routers-held z = cases (outcome (map routerIn (lsas file)))
     where
       cases : Outcome (map routerIn (lsas file)) → routersTaken file ≡ record { answer = record { number = 0; at = 0 }; topology = routersTaken file .topology }

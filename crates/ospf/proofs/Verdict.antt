@@ -12,16 +12,16 @@ use lib.ListN.{length, length-map}
 use Rattle.topology_types.specs.declared.Answer.{Answer}
 use Rattle.topology_types.specs.Outcome.{answer}
 use Rattle.stream_rules.specs.declared.Reading.{Reading}
-use Rattle.stream_rules.specs.Halves.{Listing}
-use Rattle.stream_rules.specs.Reading.{refusal, accepted, ended, nothingListed}
+use Rattle.stream_rules.specs.Halves.{StreamListing}
+use Rattle.stream_rules.specs.Reading.{refusal, acceptedReading, ended, nothingListed}
 use Rattle.stream_rules.specs.Theorems.{Bytes, Read, EndFaults}
 use Rattle.stream_rules.proofs.Kept.{Good}
 use Rattle.stream_rules.proofs.Returned.{read-refusal, ended-reads}
 use Rattle.stream_rules.proofs.Verdicts.{faults-each}
 use Rattle.ospf_lsas.specs.Lsa.{malformed, wrongSum, Lsa, lsasFrom, lsas, firstAt, firstMalformed, firstWrongSum}
 use Rattle.ospf_lsas.specs.Theorems.{Consecutive, end, faulty, next, FirstFault, no-fault, here, later}
-use Rattle.ospf.specs.Import.{Placed, idOf, halvesIn, placedIn, takenTo, atLast, importing}
-use Rattle.ospf.specs.Imported.{Taken, AllWhole, AllRight, FaultAt, AllTaken, ImportAnswers, ImportReturns, ImportSound}
+use Rattle.ospf.specs.Import.{Placed, routerOf, halvesIn, placedIn, takenTo, atLast, importing}
+use Rattle.ospf.specs.Theorems.{Taken, AllWhole, SumsRight, FaultAt, AllTaken, ImportAnswers, ImportReturns, ImportSound}
 use Rattle.ospf_lsas.proofs.Lsas.{lsas-consecutive, points-at-first}
 use Rattle.ospf_lsas.proofs.Ends.{points-within}
 use Rattle.ospf.specs.Inner.{allTaken}
@@ -44,17 +44,17 @@ module _ (file : List ℕ) where
   pub data Verdict : Type 0 where
     in-26 : firstMalformed file < length file → importing file ≡ refusal 26 (firstMalformed file) → Verdict
     in-27 : AllWhole file → firstWrongSum file < length file → importing file ≡ refusal 27 (firstWrongSum file) → Verdict
-    in-turn : AllRight file → (number at : ℕ) → FaultAt all (suc number) at → importing file ≡ refusal (suc number) at → Verdict
-    at-end : AllRight file → (p : Listing) → Taken all p → importing file ≡ atLast p → Verdict
+    in-turn : SumsRight file → (number at : ℕ) → FaultAt all (suc number) at → importing file ≡ refusal (suc number) at → Verdict
+    at-end : SumsRight file → (p : StreamListing) → Taken all p → importing file ≡ atLast p → Verdict
 
   no-26 : AllWhole file → length file ≤ firstMalformed file
   no-26 whole = omega (arith, points-within file .none-malformed .1 whole)
 
-  pub taken-turns : AllRight file → importing file ≡ takenTo atLast nothingListed all
+  pub taken-turns : SumsRight file → importing file ≡ takenTo atLast nothingListed all
   unfolding allTaken
   taken-turns (whole, right) = sym (by-turns file (no-26 whole) (omega (arith, points-within file .no-wrong-sum .1 right)))
 
-  right-verdict : AllRight file → Verdict
+  right-verdict : SumsRight file → Verdict
   right-verdict right = cases (outcome all)
     where
       cases : Outcome all → Verdict
@@ -82,15 +82,15 @@ answer-of : {a b : Reading} → a ≡ b → a .answer ≡ b .answer
 answer-of = ap (λ (x : Reading). x .answer)
 
 -- in the end the number is 0 or 12
-last-number : (p : Listing) (n : ℕ) → n ≢ 0 → n ≢ 12 → atLast p .answer .number ≡ n → ⊥
-unfolding atLast ended refusal accepted
+last-number : (p : StreamListing) (n : ℕ) → n ≢ 0 → n ≢ 12 → atLast p .answer .number ≡ n → ⊥
+unfolding atLast ended refusal acceptedReading
 last-number p n o₀ o₁₂ = cases (eqb (length (p .contents .ids)) 0)
   where
-    cases : (b : Bool) → cond b (refusal 12 0) (accepted (p .contents)) .answer .number ≡ n → ⊥
+    cases : (b : Bool) → cond b (refusal 12 0) (acceptedReading (p .contents)) .answer .number ≡ n → ⊥
     cases true e = o₁₂ (sym e)
     cases false e = o₀ (sym e)
 
-not-last : (p : Listing) (n : ℕ) → n ≢ 0 → n ≢ 12 → {at : ℕ} → atLast p .answer ≡ answer n at → ⊥
+not-last : (p : StreamListing) (n : ℕ) → n ≢ 0 → n ≢ 12 → {at : ℕ} → atLast p .answer ≡ answer n at → ⊥
 not-last p n o₀ o₁₂ a = last-number p n o₀ o₁₂ (number-of a)
 
 no-lsas : {at : ℕ} {s : List ℕ} {ls : List Lsa} → Consecutive at s ls → length ls ≡ 0 → length s ≡ 0
@@ -103,10 +103,10 @@ no-bytes [] e = refl
 no-bytes (b ∷ s) e = absurd (omega arith)
 
 module _ (file : List ℕ) (bytes : Bytes file) where
-  plain-all : AllRight file → (r : Placed) → List·Memᴰ r (all file) → Plain (r .found)
+  plain-all : SumsRight file → (r : Placed) → List·Memᴰ r (all file) → Plain (r .found)
   plain-all right = placed-plain file bytes (right .0)
 
-  few : AllRight file → (number at : ℕ) → FaultAt (all file) number at → number ≤ 10
+  few : SumsRight file → (number at : ℕ) → FaultAt (all file) number at → number ≤ 10
   few right number at f =
       omega (
         arith,
@@ -114,11 +114,11 @@ module _ (file : List ℕ) (bytes : Bytes file) where
         fault-most (f .listing) (plain-all right (f .r) (subst (List·Memᴰ (f .r)) (sym (f .turn)) (Memᴰ·append-right (f .before) (List·Memᴰ·head refl)))),
       )
 
-  module _ (right : AllRight file) (p : Listing) (t : Taken (all file) p) where
+  module _ (right : SumsRight file) (p : StreamListing) (t : Taken (all file) p) where
     good : Good p
     good = taken-good t (plain-all right)
 
-    ids-are : p .contents .ids ≡ map idOf (lsas file)
+    ids-are : p .contents .ids ≡ map routerOf (lsas file)
     ids-are = taken-ids (lsas file) t (plain-all right)
 
     import-is : importing file .answer ≡ ended false 0 (p .contents) .answer
@@ -157,7 +157,7 @@ module _ (file : List ℕ) (bytes : Bytes file) where
     back-27 (w, h, f) = sym (answer-of (by-27 file (no-26 file w) (rw (is-first f) h))) ∙ ap (answer 27) (is-first f)
 
     on-fault : (number : ℕ) → 1 ≤ number → number ≤ 10 → importing file .answer ≡ answer number at → Verdict file →
-        AllRight file × FaultAt (all file) number at
+        SumsRight file × FaultAt (all file) number at
     unfolding refusal
     on-fault number least most a (in-26 h i) = absurd (omega (arith, number-of (sym (answer-of i) ∙ a)))
     on-fault number least most a (in-27 w h i) = absurd (omega (arith, number-of (sym (answer-of i) ∙ a)))
@@ -167,14 +167,14 @@ module _ (file : List ℕ) (bytes : Bytes file) where
     on-fault number least most a (at-end r p t i) =
         absurd (not-last p number (λ e. omega arith) (λ e. omega arith) (sym (answer-of i) ∙ a))
 
-    back-fault : (number : ℕ) → 1 ≤ number → AllRight file × FaultAt (all file) number at → importing file .answer ≡ answer number at
+    back-fault : (number : ℕ) → 1 ≤ number → SumsRight file × FaultAt (all file) number at → importing file .answer ≡ answer number at
     unfolding refusal
     back-fault zero least (r, f) = absurd (omega arith)
     back-fault (suc number) least (r, f) = answer-of (taken-turns file r ∙ first-fault atLast f)
 
     -- what is not met before the end
     last-of : (number : ℕ) → number ≢ 26 → number ≢ 27 → ((n : ℕ) → suc n ≤ 10 → number ≢ suc n) → importing file .answer ≡ answer number at →
-        Verdict file → (p : Listing) × AllRight file × Taken (all file) p × (ended false 0 (p .contents) .answer ≡ answer number at)
+        Verdict file → (p : StreamListing) × SumsRight file × Taken (all file) p × (ended false 0 (p .contents) .answer ≡ answer number at)
     unfolding refusal
     last-of number o₂₆ o₂₇ o a (in-26 h i) = absurd (o₂₆ (sym (number-of (sym (answer-of i) ∙ a))))
     last-of number o₂₆ o₂₇ o a (in-27 w h i) = absurd (o₂₇ (sym (number-of (sym (answer-of i) ∙ a))))
@@ -185,15 +185,15 @@ module _ (file : List ℕ) (bytes : Bytes file) where
     on-12 a =
         let (p, r, t, e) = last-of 12 (λ e. omega (arith, e)) (λ e. omega (arith, e)) (λ n h e. omega (arith, e)) a (verdict file) in
         let (z, f, none) = end-says r p t at .says-12 .0 e in
-        (z, no-bytes file (no-lsas (lsas-consecutive file) (omega (arith, none, ap length (ids-are r p t), length-map (lsas file) idOf))))
+        (z, no-bytes file (no-lsas (lsas-consecutive file) (omega (arith, none, ap length (ids-are r p t), length-map (lsas file) routerOf))))
 
-    on-0 : importing file .answer ≡ answer 0 at → (at ≡ 0) × ((p : Listing) × AllTaken file p)
+    on-0 : importing file .answer ≡ answer 0 at → (at ≡ 0) × ((p : StreamListing) × AllTaken file p)
     on-0 a =
         let (p, r, t, e) = last-of 0 (λ e. omega (arith, e)) (λ e. omega (arith, e)) (λ n h e. omega (arith, e)) a (verdict file) in
         let (z, f, some) = end-says r p t at .says-0 .0 e in
         (z, (p, record { right = r; taken = t; some-router = some }))
 
-    back-0 : (at ≡ 0) × ((p : Listing) × AllTaken file p) → importing file .answer ≡ answer 0 at
+    back-0 : (at ≡ 0) × ((p : StreamListing) × AllTaken file p) → importing file .answer ≡ answer 0 at
     back-0 (z, (p, k)) =
         let r = k .right in
         let t = k .taken in
@@ -225,7 +225,7 @@ import-sound file bytes = cases (verdict file)
 
 -- an import with number 0 is what is listed in the end
 pub ended-so : (file : List ℕ) → Bytes file → importing file .answer .number ≡ 0 →
-    (p : Listing) × AllPlain (all file) × Taken (all file) p × (importing file ≡ ended false 0 (p .contents))
+    (p : StreamListing) × AllPlain (all file) × Taken (all file) p × (importing file ≡ ended false 0 (p .contents))
 unfolding atLast
 ended-so file bytes z =
     let (p, r, t, e) =
@@ -234,7 +234,7 @@ ended-so file bytes z =
     (p, plain-all file bytes r, t, taken-turns file r ∙ all-taken atLast t)
 
 pub import-returns : ImportReturns
-unfolding idOf
+unfolding routerOf
 import-returns file bytes z =
     let (p, plain, t, is) = ended-so file bytes z in (
       p,

@@ -3,14 +3,14 @@
 use Prim.Native.Nat.{ℕ}
 use mathlib.Core.List.{List, map}
 use Rattle.stream_rules.specs.declared.Reading.{Reading}
-use Rattle.stream_rules.specs.Halves.{Listing}
-use Rattle.stream_rules.specs.Reading.{accepted, nothingListed}
+use Rattle.stream_rules.specs.Halves.{StreamListing}
+use Rattle.stream_rules.specs.Reading.{acceptedReading, nothingListed}
 use Rattle.ospf_lsas.specs.Lsa.{lsas}
 use Rattle.ospf.specs.Import.{routerIn, placedIn, takenTo, atLast}
 
 -- what is listed, as it is
-unfoldable pub asListed : Listing → Reading
-asListed p = accepted (p .contents)
+unfoldable pub asListed : StreamListing → Reading
+asListed p = acceptedReading (p .contents)
 
 -- the routers of a file, and no halves: a refusal, or a topology without links
 unfoldable pub routersTaken : List ℕ → Reading

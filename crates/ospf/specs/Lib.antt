@@ -1,3 +1,3 @@
 pub mod Import
-pub mod Imported
 pub mod Inner
+pub mod Theorems

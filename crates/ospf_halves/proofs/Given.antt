@@ -24,7 +24,8 @@ use Rattle.topology_types.specs.declared.Half.{Half}
 use Rattle.ospf_lsas.specs.Lsa.{RouterLink, linkIn, linksIn, some?, links, malformed}
 use Rattle.ospf_halves.specs.Neighbours.{allOf, pointToPoint, lowestTo, once, neighboursOf, placeOf, halfTo, halvesOf}
 use Rattle.ospf_halves.specs.Inner.{newPlace}
-use Rattle.ospf_lsas.specs.Theorems.{two, Links, no-link, link}
+use Rattle.stream_rules.specs.Theorems.{twoAt}
+use Rattle.ospf_lsas.specs.Theorems.{Links, no-link, link}
 use Rattle.ospf_lsas.proofs.Fields.{link-is}
 use Rattle.ospf_lsas.proofs.Links.{Whole, links-listed}
 use Rattle.ospf_lsas.proofs.Malformed.{links-by, well-formed, drop-take}
@@ -309,19 +310,19 @@ module _ {ids : List ℕ} {place : ℕ} {s : List ℕ} {number : ℕ} {half : Li
 
 -- the links of an LSA that is not malformed, by its bytes
 pub record Body (s : List ℕ) : Type 0 where
-  pub begun : 24 ≤ two s 18
-  pub whole : two s 18 ≤ length s
-  pub are : T (some? (linksIn (two s 22) (take (two s 18 - 24) (drop 24 s))))
-  pub is : linksIn (two s 22) (take (two s 18 - 24) (drop 24 s)) ≡ links s
+  pub begun : 24 ≤ twoAt s 18
+  pub whole : twoAt s 18 ≤ length s
+  pub are : T (some? (linksIn (twoAt s 22) (take (twoAt s 18 - 24) (drop 24 s))))
+  pub is : linksIn (twoAt s 22) (take (twoAt s 18 - 24) (drop 24 s)) ≡ links s
 
 pub body : (s : List ℕ) → malformed s ≡ false → Body s
 unfolding some?
 body s e =
     let (ls, r) = well-formed s .0 e in
-    let part = drop-take 24 (two s 18) s in
+    let part = drop-take 24 (twoAt s 18) s in
     record {
       begun = r .begun;
       whole = r .whole;
-      are = rw (sym part, links-listed (two s 22) (drop 24 (take (two s 18) s)) ls .1 (r .matching)) tt;
+      are = rw (sym part, links-listed (twoAt s 22) (drop 24 (take (twoAt s 18) s)) ls .1 (r .matching)) tt;
       is = sym (rw part at (links-by s (omega (arith, r .begun, r .whole))));
     }

@@ -19,7 +19,7 @@ use Rattle.network.proofs.Tests.{eq-test}
 use Rattle.topology_types.specs.declared.Half.{Half}
 use Rattle.ospf_lsas.specs.Lsa.{RouterLink}
 use Rattle.ospf_halves.specs.Neighbours.{pointToPoint, lowestTo, once, neighboursOf, placeOf, halfTo, halvesOf}
-use Rattle.ospf_halves.specs.Theorems.{PlacesEach, Given, HalvesGiven, OneEach, FirstListed, OthersSkipped}
+use Rattle.ospf_halves.specs.Theorems.{PlacesEach, HalfGiven, HalvesGiven, OneEach, FirstListed, OthersSkipped}
 use Rattle.ospf_halves.proofs.Neighbours.{keep-append, once-mem, mem-once, once-distinct, lowest-each, lowest-of, lowest-is}
 
 -- the place of an ID that stands in the list
@@ -142,7 +142,7 @@ module _ (ls : List RouterLink) where
 
 module _ (ids : List ℕ) (place : ℕ) (ls : List RouterLink) where
   module _ (two-bytes : (l : RouterLink) → List·Memᴰ l ls → l .metric < 65536) where
-    half-given : (id : ℕ) → List·Memᴰ id (neighboursOf ls) → List·Memᴰ id ids → Given ids place ls (halfTo ids place ls id)
+    half-given : (id : ℕ) → List·Memᴰ id (neighboursOf ls) → List·Memᴰ id ids → HalfGiven ids place ls (halfTo ids place ls id)
     unfolding halfTo
     half-given id m k =
         let (l, n, t, e) = neighbour-of ls id m in
@@ -157,14 +157,14 @@ module _ (ids : List ℕ) (place : ℕ) (ls : List RouterLink) where
           none-lower = λ j o v g. w .none-lower j (typed ls j o v) (g ∙ place-is id ids k);
         }
 
-    given : (h : Half) → List·Memᴰ h (halvesOf ids place ls) → Given ids place ls h
+    given : (h : Half) → List·Memᴰ h (halvesOf ids place ls) → HalfGiven ids place ls h
     unfolding halvesOf
     given h m =
         let (id, k, e) = Memᴰ·of-map (halfTo ids place ls) (keep (λ id. member id ids) (neighboursOf ls)) m in
         let (n, t) = mem-keep (λ id. member id ids) (neighboursOf ls) k in
-        subst (λ (h : Half). Given ids place ls h) e (half-given id n (member-mem id ids t))
+        subst (λ (h : Half). HalfGiven ids place ls h) e (half-given id n (member-mem id ids t))
 
-    same-half : Distinct ids → (h : Half) → Given ids place ls h → halfTo ids place ls (getD ids (h .to .0) 0) ≡ h
+    same-half : Distinct ids → (h : Half) → HalfGiven ids place ls h → halfTo ids place ls (getD ids (h .to .0) 0) ≡ h
     unfolding halfTo
     same-half d h g =
         let (l, m, t, e, is) = g .attained in
@@ -176,7 +176,7 @@ module _ (ids : List ℕ) (place : ℕ) (ls : List RouterLink) where
         }) in
         rw (place-at ids (h .to .0) d (g .inside), cost, sym (g .sender)) refl
 
-    gives : Distinct ids → (h : Half) → Given ids place ls h → List·Memᴰ h (halvesOf ids place ls)
+    gives : Distinct ids → (h : Half) → HalfGiven ids place ls h → List·Memᴰ h (halvesOf ids place ls)
     unfolding halvesOf
     gives d h g =
         let id = getD ids (h .to .0) 0 in

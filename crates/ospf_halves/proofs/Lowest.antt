@@ -16,9 +16,9 @@ use Rattle.stream_rules.specs.Stream.{bigEndian}
 use Rattle.stream_rules.proofs.Stream.{two-at}
 use Rattle.network.specs.Lists.{keep, leastBy}
 use Rattle.network.proofs.Least.{least-start}
-use Rattle.ospf_lsas.specs.Lsa.{RouterLink, linkIn, linkLength, wholeLink, withLink, linksIn, some?}
+use Rattle.ospf_lsas.specs.Lsa.{RouterLink, linkIn, linkLength, wholeLink, linkBefore, linksIn, some?}
 use Rattle.ospf_halves.specs.Neighbours.{allOf, pointToPoint, lowestTo}
-use Rattle.ospf_lsas.specs.Theorems.{two}
+use Rattle.stream_rules.specs.Theorems.{twoAt}
 use Rattle.ospf_lsas.proofs.Links.{Here, from-whole, whole-says}
 
 module _ (id : ℕ) where
@@ -52,8 +52,8 @@ module _ (s : List ℕ) (at id : ℕ) where
   unfolding lowestTo pointToPoint keep leastBy linkIn
   other-router t e = rw (getD-drop at s 8 0, eq-eqb (getD s (at + 8) 0) 1 t, ne-eqb (bigEndian (take 4 (drop at s))) id e)
 
-  pub its-metric : getD s (at + 8) 0 ≡ 1 → bigEndian (take 4 (drop at s)) ≡ id → at + 12 ≤ length s → two s (at + 10) < 65536 →
-      two s (at + 10) ≡ lowestTo id (pointToPoint (linkIn (drop at s) ∷ []))
+  pub its-metric : getD s (at + 8) 0 ≡ 1 → bigEndian (take 4 (drop at s)) ≡ id → at + 12 ≤ length s → twoAt s (at + 10) < 65536 →
+      twoAt s (at + 10) ≡ lowestTo id (pointToPoint (linkIn (drop at s) ∷ []))
   unfolding lowestTo pointToPoint keep leastBy linkIn
   its-metric t e h m =
       rw (getD-drop at s 8 0, eq-eqb (getD s (at + 8) 0) 1 t, eq-eqb (bigEndian (take 4 (drop at s))) id e, drop-drop 10 at s, two-at s (at + 10) (omega arith))
@@ -66,7 +66,7 @@ pub record Split (s : List ℕ) (at left : ℕ) : Type 0 where
   pub all : allOf (linksIn left (drop at s)) ≡ linkIn (drop at s) ∷ allOf (linksIn (left - 1) (drop (at + (12 + 4 * getD s (at + 9) 0)) s))
 
 pub split : (s : List ℕ) (at left : ℕ) → 0 < left → T (some? (linksIn left (drop at s))) → Split s at left
-unfolding linksIn linkLength withLink some? allOf
+unfolding linksIn linkLength linkBefore some? allOf
 split s at zero h t = absurd (omega arith)
 split s at (suc n) h t =
     let o = linksIn n (drop (at + (12 + 4 * getD s (at + 9) 0)) s) in
@@ -78,8 +78,8 @@ split s at (suc n) h t =
       all = rw (getD-drop at s 9 0, drop-drop (12 + 4 * getD s (at + 9) 0) at s, sub-one (suc n)) all;
     }
   where
-    step : (b : Bool) → wholeLink (drop at s) ≡ b → (o : Option (List RouterLink)) → T (some? (cond b (withLink (linkIn (drop at s)) o) none)) →
-        Here s at × T (some? o) × (allOf (cond b (withLink (linkIn (drop at s)) o) none) ≡ linkIn (drop at s) ∷ allOf o)
+    step : (b : Bool) → wholeLink (drop at s) ≡ b → (o : Option (List RouterLink)) → T (some? (cond b (linkBefore (linkIn (drop at s)) o) none)) →
+        Here s at × T (some? o) × (allOf (cond b (linkBefore (linkIn (drop at s)) o) none) ≡ linkIn (drop at s) ∷ allOf o)
     step false e o t = absurd t
     step true e none t = absurd t
     step true e (some ls) t = (from-whole s at (whole-says (drop at s) e), tt, refl)

@@ -55,7 +55,7 @@ PlacesEach = (id : ℕ) (ids : List ℕ) → Places id ids
 
 -- 02, #106: a half is given if and only if it leads from the LSA's place to that of a router of the file that a link of type 1 names, at the lowest metric
 -- of such links; where IDs differ, as 3 ensures, and metrics are below 65,536 (`Metrics` of `ospf_lsas`)
-pub record Given (ids : List ℕ) (place : ℕ) (ls : List RouterLink) (h : Half) : Type 0 where
+pub record HalfGiven (ids : List ℕ) (place : ℕ) (ls : List RouterLink) (h : Half) : Type 0 where
   pub sender : h .from .0 ≡ place
   pub inside : h .to .0 < length ids
   pub attained : (l : RouterLink) × List·Memᴰ l ls × (l .kind ≡ 1) × (l .id ≡ getD ids (h .to .0) 0) × (l .metric ≡ h .cost)
@@ -63,7 +63,7 @@ pub record Given (ids : List ℕ) (place : ℕ) (ls : List RouterLink) (h : Half
 
 abbrev pub HalvesGiven : Type 0
 HalvesGiven = (ids : List ℕ) (place : ℕ) (ls : List RouterLink) → Distinct ids → ((l : RouterLink) → List·Memᴰ l ls → l .metric < 65536) →
-    (h : Half) → List·Memᴰ h (halvesOf ids place ls) ↔ Given ids place ls h
+    (h : Half) → List·Memᴰ h (halvesOf ids place ls) ↔ HalfGiven ids place ls h
 
 -- 02, #106: no two halves of an LSA lead to one place
 abbrev pub OneEach : Type 0

@@ -8,7 +8,8 @@ use mathlib.Core.Path.{_≡_, refl, sym, ap}
 use native.Mathlib.Omega.{arith}
 use lib.ListN.{length, drop, length-drop}
 use Rattle.ospf_lsas.specs.Lsa.{malformed, wrongSum, Lsa, lsas, firstAt, firstMalformed, firstWrongSum}
-use Rattle.ospf_lsas.specs.Theorems.{two, Consecutive, end, faulty, next, PointsWithin}
+use Rattle.stream_rules.specs.Theorems.{twoAt}
+use Rattle.ospf_lsas.specs.Theorems.{Consecutive, end, faulty, next, PointsWithin}
 use Rattle.ospf_lsas.proofs.Malformed.{well-formed}
 use Rattle.ospf_lsas.proofs.Lsas.{lsas-consecutive}
 
@@ -18,7 +19,7 @@ begins (faulty s some e) l m = omega (arith, ap (λ (l : Lsa). l .at) (List·Mem
 begins (next s e rest) l m =
     let (ls, r) = well-formed s .0 e in
     ⊎-elim (λ is. omega (arith, ap (λ (l : Lsa). l .at) is, r .begun, r .whole))
-    (λ m. omega (arith, begins rest l m, r .whole, length-drop (two s 18) s)) (List·Memᴰ·cases-cons m)
+    (λ m. omega (arith, begins rest l m, r .whole, length-drop (twoAt s 18) s)) (List·Memᴰ·cases-cons m)
 
 module _ (test : List ℕ → Bool) (size : ℕ) where
   none-has : (ls : List Lsa) → ((l : Lsa) → List·Memᴰ l ls → test (l .bytes) ≡ false) → firstAt test size ls ≡ size

@@ -7,7 +7,8 @@ use native.Mathlib.Omega.{arith}
 use lib.ListN.{length, getD}
 use Rattle.stream_rules.proofs.Stream.{two-at, four-at}
 use Rattle.ospf_lsas.specs.Lsa.{lsType, advertisingRouter, checksum, lengthField, linkCount, linkIn}
-use Rattle.ospf_lsas.specs.Theorems.{two, four, FieldsEach}
+use Rattle.stream_rules.specs.Theorems.{twoAt, fourAt}
+use Rattle.ospf_lsas.specs.Theorems.{FieldsEach}
 
 pub fields-each : FieldsEach
 unfolding lsType advertisingRouter checksum lengthField linkCount
@@ -20,6 +21,6 @@ fields-each s h =
       link-count = two-at s 22 (omega arith);
     }
 
-pub link-is : (s : List ℕ) → 12 ≤ length s → linkIn s ≡ record { id = four s 0; kind = getD s 8 0; metric = two s 10 }
+pub link-is : (s : List ℕ) → 12 ≤ length s → linkIn s ≡ record { id = fourAt s 0; kind = getD s 8 0; metric = twoAt s 10 }
 unfolding linkIn
 link-is s h = rw (four-at s 0 (omega arith), two-at s 10 (omega arith))

@@ -13,7 +13,7 @@ use borrow.Author.Tests.{leb-true, le-leb, eq-eqb, ne-eqb}
 use lib.Dec.{eqb}
 use lib.ListN.{length, getD, drop, length-drop}
 use lib.Seq.{getD-drop, drop-drop}
-use Rattle.ospf_lsas.specs.Lsa.{RouterLink, linkIn, linkLength, wholeLink, withLink, linksIn, some?}
+use Rattle.ospf_lsas.specs.Lsa.{RouterLink, linkIn, linkLength, wholeLink, linkBefore, linksIn, some?}
 use Rattle.ospf_lsas.specs.Theorems.{Links, no-link, link, LinksListed, Metrics}
 use Rattle.ospf_lsas.proofs.Fields.{link-is}
 
@@ -41,14 +41,14 @@ module _ (s : List ℕ) where
       rw (le-leb (12 + 4 * getD s 9 0) (length s) (w .fits), le-leb 1 (getD s 8 0) (w .least), le-leb (getD s 8 0) 4 (w .most))
 
 listed : (n : ℕ) (s : List ℕ) (ls : List RouterLink) → linksIn n s ≡ some ls → Links n s ls
-unfolding linksIn withLink linkLength
+unfolding linksIn linkBefore linkLength
 listed zero [] ls e = subst (λ (ls : List RouterLink). Links 0 [] ls) (Option·some-injective [] ls e) no-link
 listed zero (b ∷ s) ls e = absurd (Option·none-ne-some ls e)
 listed (suc n) s ls e = go (wholeLink s) refl (linksIn n (drop (linkLength s) s)) (listed n (drop (linkLength s) s)) e
   where
     go : (b : Bool) → wholeLink s ≡ b → (o : Option (List RouterLink)) →
         ((rest : List RouterLink) → o ≡ some rest → Links n (drop (linkLength s) s) rest) →
-        cond b (withLink (linkIn s) o) none ≡ some ls → Links (suc n) s ls
+        cond b (linkBefore (linkIn s) o) none ≡ some ls → Links (suc n) s ls
     go false w o others e = absurd (Option·none-ne-some ls e)
     go true w none others e = absurd (Option·none-ne-some ls e)
     go true w (some rest) others e =
@@ -58,7 +58,7 @@ listed (suc n) s ls e = go (wholeLink s) refl (linksIn n (drop (linkLength s) s)
         (link s (h .fits) (h .least) (h .most) (others rest refl))
 
 gives : {n : ℕ} {s : List ℕ} {ls : List RouterLink} → Links n s ls → linksIn n s ≡ some ls
-unfolding linksIn withLink linkLength
+unfolding linksIn linkBefore linkLength
 gives no-link = refl
 gives (link s fits least most rest) =
     rw (whole-is s (record { fits = fits; least = least; most = most }), gives rest, link-is s (omega arith))
@@ -101,13 +101,13 @@ module _ (s : List ℕ) (at : ℕ) where
 
   -- so many links begin there: the first of them, and the others after it
   one-more : (n : ℕ) → 0 < n → Here s at → some? (linksIn n (drop at s)) ≡ some? (linksIn (n - 1) (drop (at + (12 + 4 * getD s (at + 9) 0)) s))
-  unfolding linksIn linkLength withLink some?
+  unfolding linksIn linkLength linkBefore some?
   one-more zero more h = absurd (omega arith)
   one-more (suc n) more h =
       rw (whole-is (drop at s) (to-whole h), getD-drop at s 9 0, drop-drop (12 + 4 * getD s (at + 9) 0) at s, sub-one (suc n))
       (kept (linksIn n (drop (at + (12 + 4 * getD s (at + 9) 0)) s)))
     where
-      kept : (o : Option (List RouterLink)) → some? (withLink (linkIn (drop at s)) o) ≡ some? o
+      kept : (o : Option (List RouterLink)) → some? (linkBefore (linkIn (drop at s)) o) ≡ some? o
       kept none = refl
       kept (some ls) = refl
 

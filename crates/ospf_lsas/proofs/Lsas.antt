@@ -9,7 +9,8 @@ use native.Mathlib.Numerals.{sub-one}
 use native.Mathlib.Omega.{arith}
 use lib.ListN.{length, take, drop}
 use Rattle.ospf_lsas.specs.Lsa.{lengthField, malformed, wrongSum, Lsa, lsasFrom, lsas, firstAt, firstMalformed, firstWrongSum}
-use Rattle.ospf_lsas.specs.Theorems.{two, Consecutive, end, faulty, next, LsasConsecutive, FirstFault, no-fault, here, later, PointsAtFirst}
+use Rattle.stream_rules.specs.Theorems.{twoAt}
+use Rattle.ospf_lsas.specs.Theorems.{Consecutive, end, faulty, next, LsasConsecutive, FirstFault, no-fault, here, later, PointsAtFirst}
 use Rattle.ospf_lsas.proofs.Fields.{fields-each}
 use Rattle.ospf_lsas.proofs.Malformed.{cut}
 
@@ -83,7 +84,7 @@ consecutive at zero (b ∷ s) = rw (add-zero at) (cases (malformed (b ∷ s)) re
     cases true e r = faulty (b ∷ s) (omega arith) e
     cases false e r =
         let c = cut (b ∷ s) e in
-        let is : long ≡ two (b ∷ s) 18 = fields-each (b ∷ s) (omega (arith, c .begun, c .fits)) .ls-length in
+        let is : long ≡ twoAt (b ∷ s) 18 = fields-each (b ∷ s) (omega (arith, c .begun, c .fits)) .ls-length in
         subst (λ (n : ℕ). Consecutive at (b ∷ s) (record { at = at; bytes = take n (b ∷ s) } ∷ lsasFrom (at + 1) (long - 1) s)) (sym is)
         (next (b ∷ s) e
         (subst (λ (n : ℕ). Consecutive (at + n) (drop n (b ∷ s)) (lsasFrom (at + 1) (long - 1) s)) is

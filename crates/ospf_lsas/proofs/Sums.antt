@@ -14,7 +14,8 @@ use lib.ListN.{length, getD, take, drop, length-append, drop-of-length-le}
 use lib.Seq.{length-take-le, take-all, take-suc, drop-append-le}
 use Rattle.stream_rules.proofs.Stream.{two-at}
 use Rattle.ospf_lsas.specs.Lsa.{checksum, c0, c1, wrongSum}
-use Rattle.ospf_lsas.specs.Theorems.{two, Sums, RightSum}
+use Rattle.stream_rules.specs.Theorems.{twoAt}
+use Rattle.ospf_lsas.specs.Theorems.{Sums, RightSum}
 use Rattle.ospf_lsas.proofs.Malformed.{neither}
 
 pub c0-next : (octets : List ℕ) (octet : ℕ) → c0 (octets ++ (octet ∷ [])) ≡ c0 octets + octet
@@ -73,22 +74,22 @@ module _ (s : List ℕ) where
 
 -- the tests of 27 in their order
 module _ (s : List ℕ) (h : 18 ≤ length s) where
-  checked : checksum s ≡ two s 16
+  checked : checksum s ≡ twoAt s 16
   unfolding checksum
   checked = two-at s 16 h
 
-  pub no-checksum : two s 16 ≡ 0 → wrongSum s ≡ true
+  pub no-checksum : twoAt s 16 ≡ 0 → wrongSum s ≡ true
   unfolding wrongSum
-  no-checksum e = rw (checked, eq-eqb (two s 16) 0 e)
+  no-checksum e = rw (checked, eq-eqb (twoAt s 16) 0 e)
 
-  module _ (some : two s 16 ≢ 0) where
+  module _ (some : twoAt s 16 ≢ 0) where
     pub wrong-c0 : c0 (drop 2 s) % 255 ≢ 0 → wrongSum s ≡ true
     unfolding wrongSum
-    wrong-c0 e = rw (checked, ne-eqb (two s 16) 0 some, ne-eqb (c0 (drop 2 s) % 255) 0 e)
+    wrong-c0 e = rw (checked, ne-eqb (twoAt s 16) 0 some, ne-eqb (c0 (drop 2 s) % 255) 0 e)
 
     pub by-c1 : c0 (drop 2 s) % 255 ≡ 0 → wrongSum s ≡ not (eqb (c1 (drop 2 s) % 255) 0)
     unfolding wrongSum
-    by-c1 e = rw (checked, ne-eqb (two s 16) 0 some, eq-eqb (c0 (drop 2 s) % 255) 0 e)
+    by-c1 e = rw (checked, ne-eqb (twoAt s 16) 0 some, eq-eqb (c0 (drop 2 s) % 255) 0 e)
 
 pub right-sum : RightSum
 unfolding wrongSum

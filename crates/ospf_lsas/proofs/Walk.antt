@@ -10,7 +10,7 @@ use native.Mathlib.Omega.{arith}
 use lib.ListN.{length, take, drop, length-drop}
 use lib.Seq.{drop-drop, getD-drop, take-all}
 use Rattle.ospf_lsas.specs.Lsa.{lengthField, malformed, wrongSum, lsasFrom, lsas, firstAt, firstMalformed, firstWrongSum}
-use Rattle.ospf_lsas.specs.Theorems.{two}
+use Rattle.stream_rules.specs.Theorems.{twoAt}
 use Rattle.ospf_lsas.proofs.Fields.{fields-each}
 use Rattle.ospf_lsas.proofs.Malformed.{cut}
 use Rattle.ospf_lsas.proofs.Lsas.{last, none-found, found, passed}
@@ -81,21 +81,21 @@ module _ {file : List ℕ} {at : ℕ} (a : Ahead malformed file at) (h : at < le
 -- an LSA that is not malformed, by the bytes of its length
 pub record Lies (file : List ℕ) (at : ℕ) : Type 0 where
   pub sound : malformed (drop at file) ≡ false
-  pub long : lengthField (drop at file) ≡ two file (at + 18)
-  pub begun : 24 ≤ two file (at + 18)
-  pub fits : at + two file (at + 18) ≤ length file
+  pub long : lengthField (drop at file) ≡ twoAt file (at + 18)
+  pub begun : 24 ≤ twoAt file (at + 18)
+  pub fits : at + twoAt file (at + 18) ≤ length file
 
 -- where no LSA is malformed, the next lies so
 pub lies : {file : List ℕ} {at : ℕ} → Ahead malformed file at → at < length file → length file ≤ firstMalformed file → Lies file at
 lies {file} {at} a h none =
     let e = sound-here a h none in
     let c = cut (drop at file) e in
-    let is : lengthField (drop at file) ≡ two file (at + 18) =
+    let is : lengthField (drop at file) ≡ twoAt file (at + 18) =
     fields-each (drop at file) (omega (arith, c .begun, c .fits)) .ls-length ∙ rw (getD-drop at file 18 0, getD-drop at file 19 0, add-assoc at 18 1) in
     record { sound = e; long = is; begun = omega (arith, c .begun); fits = omega (arith, c .begun, c .fits, length-drop at file) }
 
 -- and its sums are wrong, or the walk goes on
-module _ {file : List ℕ} {at : ℕ} (a : Ahead wrongSum file at) (l : Lies file at) (n : ℕ) (is : n ≡ two file (at + 18)) where
+module _ {file : List ℕ} {at : ℕ} (a : Ahead wrongSum file at) (l : Lies file at) (n : ℕ) (is : n ≡ twoAt file (at + 18)) where
   own : take (at + n - at) (drop at file) ≡ take (lengthField (drop at file)) (drop at file)
   own = ap (λ (k : ℕ). take k (drop at file)) {x = at + n - at} {y = lengthField (drop at file)} (omega (arith, l .long))
 

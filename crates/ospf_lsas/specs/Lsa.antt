@@ -51,15 +51,15 @@ unfoldable pub wholeLink : List ℕ → Bool
 wholeLink bytes = leb (linkLength bytes) (length bytes) && leb 1 (getD bytes 8 0) && leb (getD bytes 8 0) 4
 
 -- a link in front of others, if those are links
-unfoldable pub withLink : RouterLink → Option (List RouterLink) → Option (List RouterLink)
-withLink l none = none
-withLink l (some ls) = some (l ∷ ls)
+unfoldable pub linkBefore : RouterLink → Option (List RouterLink) → Option (List RouterLink)
+linkBefore l none = none
+linkBefore l (some ls) = some (l ∷ ls)
 
 -- A.4.2: the links of bytes that are so many links and nothing else, each of a type from 1 to 4
 unfoldable pub linksIn : ℕ → List ℕ → Option (List RouterLink)
 linksIn zero [] = some []
 linksIn zero (b ∷ bytes) = none
-linksIn (suc n) bytes = cond (wholeLink bytes) (withLink (linkIn bytes) (linksIn n (drop (linkLength bytes) bytes))) none
+linksIn (suc n) bytes = cond (wholeLink bytes) (linkBefore (linkIn bytes) (linksIn n (drop (linkLength bytes) bytes))) none
 
 -- whether there is one
 unfoldable pub some? : {A : Type 0} → Option A → Bool

@@ -7,23 +7,17 @@ use mathlib.Core.Logic.{_↔_, _≢_}
 use mathlib.Core.Option.{some}
 use mathlib.Core.Path.{_≡_}
 use lib.ListN.{length, getD, take, drop}
+use Rattle.stream_rules.specs.Theorems.{twoAt, fourAt}
 use Rattle.ospf_lsas.specs.Lsa.{lsType, advertisingRouter, checksum, lengthField, linkCount, RouterLink, linksIn, links, malformed, c0, c1, wrongSum}
 use Rattle.ospf_lsas.specs.Lsa.{Lsa, lsas, firstMalformed, firstWrongSum}
-
--- numbers are big-endian: of the bytes at, at + 1 and so on
-abbrev pub two : List ℕ → ℕ → ℕ
-two s at = getD s at 0 * 256 + getD s (at + 1) 0
-
-abbrev pub four : List ℕ → ℕ → ℕ
-four s at = ((getD s at 0 * 256 + getD s (at + 1) 0) * 256 + getD s (at + 2) 0) * 256 + getD s (at + 3) 0
 
 -- RFC 2328, A.4.1 and A.4.2: the fields of an LSA by the offsets of their bytes
 pub record Fields (s : List ℕ) : Type 0 where
   pub ls-type : lsType s ≡ getD s 3 0
-  pub advertising-router : advertisingRouter s ≡ four s 8
-  pub ls-checksum : checksum s ≡ two s 16
-  pub ls-length : lengthField s ≡ two s 18
-  pub link-count : linkCount s ≡ two s 22
+  pub advertising-router : advertisingRouter s ≡ fourAt s 8
+  pub ls-checksum : checksum s ≡ twoAt s 16
+  pub ls-length : lengthField s ≡ twoAt s 18
+  pub link-count : linkCount s ≡ twoAt s 22
 
 abbrev pub FieldsEach : Type 0
 FieldsEach = (s : List ℕ) → 24 ≤ length s → Fields s
@@ -34,7 +28,7 @@ pub data Links : ℕ → List ℕ → List RouterLink → Type 0 where
   no-link : Links 0 [] []
   link : {n : ℕ} {ls : List RouterLink} (s : List ℕ) → 12 + 4 * getD s 9 0 ≤ length s → 1 ≤ getD s 8 0 → getD s 8 0 ≤ 4 →
       Links n (drop (12 + 4 * getD s 9 0) s) ls →
-      Links (suc n) s (record { id = four s 0; kind = getD s 8 0; metric = two s 10 } ∷ ls)
+      Links (suc n) s (record { id = fourAt s 0; kind = getD s 8 0; metric = twoAt s 10 } ∷ ls)
 
 abbrev pub LinksListed : Type 0
 LinksListed = (n : ℕ) (s : List ℕ) (ls : List RouterLink) → (linksIn n s ≡ some ls) ↔ Links n s ls
@@ -47,13 +41,13 @@ Metrics = (n : ℕ) (s : List ℕ) → ((i : ℕ) → getD s i 0 < 256) → (ls 
 -- 02, #106, 26: an LSA is not malformed if and only if its length is at least 24, as many bytes are there, its LS type is 1, and from byte 24 to its length
 -- it is as many links as bytes 22 and 23 say
 pub record RouterLsa (s : List ℕ) (ls : List RouterLink) : Type 0 where
-  pub begun : 24 ≤ two s 18
-  pub whole : two s 18 ≤ length s
+  pub begun : 24 ≤ twoAt s 18
+  pub whole : twoAt s 18 ≤ length s
   pub router : getD s 3 0 ≡ 1
-  pub matching : Links (two s 22) (drop 24 (take (two s 18) s)) ls
+  pub matching : Links (twoAt s 22) (drop 24 (take (twoAt s 18) s)) ls
 
-abbrev pub WellFormed : Type 0
-WellFormed = (s : List ℕ) → (malformed s ≡ false) ↔ ((ls : List RouterLink) × RouterLsa s ls)
+abbrev pub LsasFormed : Type 0
+LsasFormed = (s : List ℕ) → (malformed s ≡ false) ↔ ((ls : List RouterLink) × RouterLsa s ls)
 
 -- the links of an LSA that is not malformed
 abbrev pub LinksOf : Type 0
@@ -70,15 +64,15 @@ pub record Sums : Type 0 where
 -- LS age
 abbrev pub RightSum : Type 0
 RightSum = (s : List ℕ) → 24 ≤ length s →
-    (wrongSum s ≡ false) ↔ ((two s 16 ≢ 0) × (c0 (drop 2 s) % 255 ≡ 0) × (c1 (drop 2 s) % 255 ≡ 0))
+    (wrongSum s ≡ false) ↔ ((twoAt s 16 ≢ 0) × (c0 (drop 2 s) % 255 ≡ 0) × (c1 (drop 2 s) % 255 ≡ 0))
 
 -- 02, #106: from an offset on the bytes are LSAs one after another, and these. Each begins where the one before it ends, as its bytes 18 and 19 say; a
 -- malformed one is the last, with all bytes that are left.
 pub data Consecutive : ℕ → List ℕ → List Lsa → Type 0 where
   end : {at : ℕ} → Consecutive at [] []
   faulty : {at : ℕ} (s : List ℕ) → 1 ≤ length s → malformed s ≡ true → Consecutive at s (record { at = at; bytes = s } ∷ [])
-  next : {at : ℕ} {rest : List Lsa} (s : List ℕ) → malformed s ≡ false → Consecutive (at + two s 18) (drop (two s 18) s) rest →
-      Consecutive at s (record { at = at; bytes = take (two s 18) s } ∷ rest)
+  next : {at : ℕ} {rest : List Lsa} (s : List ℕ) → malformed s ≡ false → Consecutive (at + twoAt s 18) (drop (twoAt s 18) s) rest →
+      Consecutive at s (record { at = at; bytes = take (twoAt s 18) s } ∷ rest)
 
 abbrev pub LsasConsecutive : Type 0
 LsasConsecutive = (file : List ℕ) → Consecutive 0 file (lsas file)

@@ -12,9 +12,9 @@ use Rattle.network.specs.Lists.{counted}
 use Rattle.network.proofs.Counted.{counted-map, counts-exact}
 use Rattle.topology.specs.Written.{joinedOver}
 use Rattle.topology.proofs.Joined.{joined-behind}
-use Rattle.text.specs.Lines.{Put}
+use Rattle.text.specs.Inner.{Put}
 use Rattle.text.proofs.Stores.{behind}
-use Rattle.paths.specs.Inner.{Gathered}
+use Rattle.paths.specs.Inner.{PathsGathered}
 
 -- a path that goes by u next, put over a route, is the rest of it put over the route that goes by u
 joined-on : (route : List ℕ) (moves u : ℕ) (ps : List (List ℕ)) →
@@ -30,30 +30,30 @@ fewer ps e few = omega arith
 
 module _ {route : List ℕ} {moves : ℕ} where
   -- no path
-  pub none : {b : List ℕ} {count : ℕ} → count ≤ 513 → Gathered route moves b count [] count b
+  pub none : {b : List ℕ} {count : ℕ} → count ≤ 513 → PathsGathered route moves b count [] count b
   unfolding counted joinedOver
   none {b} {count} few = record { total = omega arith; put = λ h. record { after = sym (add-zero (64 * count)); stored = refl } }
 
   -- a count that has stopped
-  pub stopped : {b : List ℕ} {count : ℕ} {ps : List (List ℕ)} → 512 < count → count ≤ 513 → Gathered route moves b count ps count b
+  pub stopped : {b : List ℕ} {count : ℕ} {ps : List (List ℕ)} → 512 < count → count ≤ 513 → PathsGathered route moves b count ps count b
   unfolding counted
   stopped beyond few = record { total = omega arith; put = λ h. absurd (omega arith) }
 
   pub then : {b : List ℕ} {count : ℕ} {ps : List (List ℕ)} {m : ℕ} {b′ : List ℕ} {qs : List (List ℕ)} {r : ℕ} {b″ : List ℕ} →
-      Gathered route moves b count ps m b′ → Gathered route moves b′ m qs r b″ → Gathered route moves b count (ps ++ qs) r b″
+      PathsGathered route moves b count ps m b′ → PathsGathered route moves b′ m qs r b″ → PathsGathered route moves b count (ps ++ qs) r b″
   then {b} {count} {ps} {m} {b′} {qs} g h =
       record {
         total = h .total ∙ ap (λ (k : ℕ). counted 512 k qs) (g .total) ∙ sym (counts-exact _ 512 ps .in-turn count qs);
         put = λ few. rw (joined-behind (sets route moves) ps qs) (behind (g .put (fewer qs (h .total) few)) (h .put few));
       }
 
-  pub at-most : {b : List ℕ} {count : ℕ} {ps : List (List ℕ)} {r : ℕ} {b′ : List ℕ} → Gathered route moves b count ps r b′ → r ≤ 513
+  pub at-most : {b : List ℕ} {count : ℕ} {ps : List (List ℕ)} {r : ℕ} {b′ : List ℕ} → PathsGathered route moves b count ps r b′ → r ≤ 513
   unfolding counted
   at-most g = omega (arith, g .total)
 
   -- every path goes by u next
-  pub onward : (u : ℕ) {b : List ℕ} {count : ℕ} {ps : List (List ℕ)} {r : ℕ} {b′ : List ℕ} → Gathered (set route moves u) (moves + 1) b count ps r b′ →
-      Gathered route moves b count (map (λ p. u ∷ p) ps) r b′
+  pub onward : (u : ℕ) {b : List ℕ} {count : ℕ} {ps : List (List ℕ)} {r : ℕ} {b′ : List ℕ} → PathsGathered (set route moves u) (moves + 1) b count ps r b′ →
+      PathsGathered route moves b count (map (λ p. u ∷ p) ps) r b′
   onward u {count} {ps} g =
       record {
         total = g .total ∙ sym (counted-map (λ p. u ∷ p) 512 count ps);
@@ -62,7 +62,7 @@ module _ {route : List ℕ} {moves : ℕ} where
 
 -- one path more, put whole
 pub one : {path b : List ℕ} {count e : ℕ} {b′ : List ℕ} → length path ≡ 64 → count < 512 → Put b (64 * count) path e b′ →
-    Gathered path 64 b count ([] ∷ []) (count + 1) b′
+    PathsGathered path 64 b count ([] ∷ []) (count + 1) b′
 unfolding counted joinedOver
 one {path} long few p =
     record {
@@ -71,6 +71,6 @@ one {path} long few p =
     }
 
 -- one path more than there may be
-pub full : {path b : List ℕ} {count : ℕ} → count ≤ 512 → 512 ≤ count → Gathered path 64 b count ([] ∷ []) (count + 1) b
+pub full : {path b : List ℕ} {count : ℕ} → count ≤ 512 → 512 ≤ count → PathsGathered path 64 b count ([] ∷ []) (count + 1) b
 unfolding counted
 full few most = record { total = omega arith; put = λ h. absurd (omega arith) }

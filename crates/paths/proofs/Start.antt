@@ -20,7 +20,7 @@ use Rattle.text.proofs.Stores.{start}
 use Rattle.paths_rules.specs.Calls.{pathsOf, pathBytes, pathsBytes}
 use Rattle.paths_rules.specs.Theorems.{Passed}
 use Rattle.paths_rules.proofs.Right.{paths-exact}
-use Rattle.paths.specs.Inner.{Gathered, Listed}
+use Rattle.paths.specs.Inner.{PathsGathered, PathsListed}
 
 over-empty : (path : List ℕ) → length path ≤ 64 → sets (replicate 64 255) 0 path ≡ pathBytes path
 unfolding pathBytes padded
@@ -29,7 +29,7 @@ over-empty path short =
     ∙ rw zero-add (ap (λ (l : List ℕ). path ++ l) (drop-same (length path) 64 255))
 
 pub listed : {t : Topology} {table : List ℕ} {u : ℕ} → Passed t table u → {b : List ℕ} {r : ℕ} {b′ : List ℕ} →
-    Gathered (replicate 64 255) 0 b 0 (pathsOf t table u) r b′ → Listed t table u b r b′
+    PathsGathered (replicate 64 255) 0 b 0 (pathsOf t table u) r b′ → PathsListed t table u b r b′
 unfolding pathsBytes
 listed {t} {table} {u} on g =
     let right = paths-exact t (on .is-sound) table (on .accepted) u (on .place) in
@@ -38,7 +38,7 @@ listed {t} {table} {u} on g =
     record { total = g .total; put = λ few. rw each at (g .put few) }
 
 -- by how many there are
-module _ {t : Topology} {table : List ℕ} {u : ℕ} {b : List ℕ} {r : ℕ} {b′ : List ℕ} (l : Listed t table u b r b′) where
+module _ {t : Topology} {table : List ℕ} {u : ℕ} {b : List ℕ} {r : ℕ} {b′ : List ℕ} (l : PathsListed t table u b r b′) where
   pub beyond : 512 < r → ltb 512 (length (pathsOf t table u)) ≡ true
   unfolding counted
   beyond h = lt-ltb 512 (length (pathsOf t table u)) (omega (arith, l .total))

@@ -14,7 +14,7 @@ use Rattle.topology_sound.proofs.Sound.{sound-exact}
 use Rattle.topology.specs.Written.{joinedOver}
 use Rattle.table_rows.specs.Bytes.{rowStart}
 use Rattle.table.specs.Listed.{orderIn}
-use Rattle.forwarding_rules.specs.Theorems.{rankByte, Lists}
+use Rattle.forwarding_rules.specs.Theorems.{rankByte, ListsPlace}
 use Rattle.forwarding_rules.proofs.Listed.{Over}
 use Rattle.forwarding_steps.specs.Inner.{RowOf}
 use Rattle.forwarding_steps.proofs.Bounds as bounds
@@ -25,7 +25,7 @@ use Rattle.paths_rules.proofs.Entries.{turn}
 use Rattle.paths_rules.proofs.Rule.{paths-by-rule}
 use Rattle.paths.specs.declared.gathering.Entry.{Entry}
 use Rattle.paths.specs.declared.gathering.Entry.the-variants as entry
-use Rattle.paths.specs.Inner.{Reads, Asked, Gathered}
+use Rattle.paths.specs.Inner.{Reads, Asked, PathsGathered}
 use Rattle.paths.proofs.Behind.{onward}
 
 module _ {t : Topology} {table : List ℕ} {u : ℕ} (on : Passed t table u) where
@@ -56,13 +56,13 @@ module _ {t : Topology} {table : List ℕ} {u : ℕ} (on : Passed t table u) whe
 
   module _ {route : List ℕ} {moves : ℕ} {b : List ℕ} {count r : ℕ} {b′ : List ℕ} where
     -- at the destination
-    pub arrives : u ≡ getD table 1 0 → Gathered (set route moves u) 64 b count ([] ∷ []) r b′ → Gathered route moves b count (pathsOf t table u) r b′
+    pub arrives : u ≡ getD table 1 0 → PathsGathered (set route moves u) 64 b count ([] ∷ []) r b′ → PathsGathered route moves b count (pathsOf t table u) r b′
     unfolding counted joinedOver
     arrives e g = rw (rule .at-destination e) (record { total = g .total; put = g .put })
 
     -- elsewhere
-    pub goes-on : (u ≡ getD table 1 0 → ⊥) → Gathered (set route moves u) (moves + 1) b count (pathsPast t table u 0) r b′ →
-        Gathered route moves b count (pathsOf t table u) r b′
+    pub goes-on : (u ≡ getD table 1 0 → ⊥) → PathsGathered (set route moves u) (moves + 1) b count (pathsPast t table u 0) r b′ →
+        PathsGathered route moves b count (pathsOf t table u) r b′
     goes-on off g = rw (rule .elsewhere off) (onward u g)
 
   -- the entry i, and those behind it
@@ -73,7 +73,7 @@ module _ {t : Topology} {table : List ℕ} {u : ℕ} (on : Passed t table u) whe
     pub inside : i < getD table (4 + 19 * u + 2) 0
     pub paths : pathsPast t table u i ≡ pathsOf t table v ++ pathsPast t table u (i + 1)
 
-  listed-next : (i v : ℕ) → Lists table u i v → Next i v
+  listed-next : (i v : ℕ) → ListsPlace table u i v → Next i v
   listed-next i v l =
       let f = turn t (on .is-sound) table (on .accepted) u i v l in
       let (there, less) = lower t (on .is-sound) table (on .accepted) u (on .place) (f .arc) (f .among) in

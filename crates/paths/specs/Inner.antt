@@ -11,8 +11,8 @@ use Rattle.topology_types.specs.declared.Topology.{Topology}
 use Rattle.topology_types.specs.Limits.{mostRouters}
 use Rattle.topology.specs.Written.{joinedOver}
 use Rattle.table.specs.Listed.{orderIn}
-use Rattle.forwarding_rules.specs.Theorems.{Lists}
-use Rattle.text.specs.Lines.{Put}
+use Rattle.forwarding_rules.specs.Theorems.{ListsPlace}
+use Rattle.text.specs.Inner.{Put}
 use Rattle.paths_rules.specs.Calls.{mostPaths, pathsOf, pathsBytes}
 use Rattle.paths_rules.specs.Theorems.{Passed}
 use Rattle.paths.specs.declared.gathering.Entry.{Entry}
@@ -24,7 +24,7 @@ mostBytes = mostRouters * mostPaths
 
 -- what was read as the entry i of the row of u: the place that is listed there, or that the row's count is no more than i
 unfoldable pub Reads : List ℕ → ℕ → ℕ → Entry → Type 0
-Reads table u i (entry.To v) = Lists table u i (v .0)
+Reads table u i (entry.To v) = ListsPlace table u i (v .0)
 Reads table u i entry.Past = getD table (4 + 19 * u + 2) 0 ≤ i
 
 -- What gathering paths from a station, or through its entries, asks: it is one of a topology on which the table was checked; the moves made and the
@@ -38,11 +38,11 @@ pub record Asked (table : List ℕ) (u moves count : ℕ) (out : List ℕ) : Typ
 
 -- How many paths there are with those of a list behind `count` others, a count beyond 512 having stopped; and if it has not, they were put behind the
 -- others, each over a route, after so many moves of it.
-pub record Gathered (route : List ℕ) (moves : ℕ) (entry : List ℕ) (count : ℕ) (paths : List (List ℕ)) (now : ℕ) (exit : List ℕ) : Type 0 where
+pub record PathsGathered (route : List ℕ) (moves : ℕ) (entry : List ℕ) (count : ℕ) (paths : List (List ℕ)) (now : ℕ) (exit : List ℕ) : Type 0 where
   pub total : now ≡ counted mostPaths count paths
   pub put : now ≤ mostPaths → Put entry (mostRouters * count) (joinedOver (sets route moves) paths) (mostRouters * now) exit
 
 -- how many paths there are from a start, a count beyond 512 having stopped; and if it has not, they are the first bytes of a buffer
-pub record Listed (t : Topology) (table : List ℕ) (u : ℕ) (entry : List ℕ) (now : ℕ) (exit : List ℕ) : Type 0 where
+pub record PathsListed (t : Topology) (table : List ℕ) (u : ℕ) (entry : List ℕ) (now : ℕ) (exit : List ℕ) : Type 0 where
   pub total : now ≡ counted mostPaths 0 (pathsOf t table u)
   pub put : now ≤ mostPaths → Put entry 0 (pathsBytes t table u) (mostRouters * now) exit

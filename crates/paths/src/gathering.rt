@@ -14,7 +14,7 @@ ghost use Rattle.topology_types.specs.Limits.{mostRouters};
 ghost use Rattle.forwarding_steps.specs.Inner.{RowOf};
 ghost use Rattle.paths_rules.specs.Calls.{mostPaths, pathsOf, pathsPast};
 ghost use Rattle.paths_rules.specs.Theorems.{Passed};
-ghost use Rattle.paths.specs.Inner.{mostBytes, Reads, Asked, Gathered};
+ghost use Rattle.paths.specs.Inner.{mostBytes, Reads, Asked, PathsGathered};
 
 // An entry of a row, unless the row has fewer.
 enum Entry {
@@ -38,7 +38,7 @@ fn entry_of(table: &[u8], station: Place, i: usize) -> Entry
 // A path that has come to its end; one beyond 512 is not put. Answers how many there are then.
 fn put_path(path: [u8; PATH], out: &mut [u8], count: usize) -> usize
     requires { ⌜ (count ≤ mostPaths) × (mostBytes ≤ length (now out)) ⌝ }
-    ensures { λ r. ⌜ Gathered path mostRouters (now (out .entry)) count ([] ∷ []) r (now (out .exit)) ⌝ }
+    ensures { λ r. ⌜ PathsGathered path mostRouters (now (out .entry)) count ([] ∷ []) r (now (out .exit)) ⌝ }
 {
     if PATHS <= count {
         return count + 1;
@@ -57,7 +57,7 @@ pub(crate) fn from_station(
     count: usize,
 ) -> usize
     requires { ⌜ Asked (now table) (station .0) (moves + 1) (count + 1) (now out) ⌝ }
-    ensures { λ r. ⌜ ((t : Topology) → Passed t (now (table .entry)) (station .0) → Gathered route moves (now (out .entry)) count (pathsOf t (now (table .entry)) (station .0)) r (now (out .exit))) ⌝ }
+    ensures { λ r. ⌜ ((t : Topology) → Passed t (now (table .entry)) (station .0) → PathsGathered route moves (now (out .entry)) count (pathsOf t (now (table .entry)) (station .0)) r (now (out .exit))) ⌝ }
 {
     let mut here = route;
     here[moves] = station.0;
@@ -78,7 +78,7 @@ fn through_entries(
     count: usize,
 ) -> usize
     requires { ⌜ Asked (now table) (station .0) moves count (now out) ⌝ }
-    ensures { λ r. ⌜ ((t : Topology) → Passed t (now (table .entry)) (station .0) → Gathered route moves (now (out .entry)) count (pathsPast t (now (table .entry)) (station .0) i) r (now (out .exit))) ⌝ }
+    ensures { λ r. ⌜ ((t : Topology) → Passed t (now (table .entry)) (station .0) → PathsGathered route moves (now (out .entry)) count (pathsPast t (now (table .entry)) (station .0) i) r (now (out .exit))) ⌝ }
 {
     if PATHS < count {
         return count;

@@ -8,7 +8,7 @@ use Rattle.network.specs.Row.{rank, sortsBefore, rankedBefore, fullRow, row}
 use Rattle.network.specs.Paths.{pathsAt, throughEach, pathsFrom}
 use Rattle.topology_types.specs.Topology.{noLink, padded, contents, held, seen, networkIn, networkOf}
 use Rattle.topology.specs.Written.{joinedOver}
-use Rattle.order.specs.Table.{link, T-topology}
+use Rattle.order.specs.Facts.{link, T-topology}
 use Rattle.table_rows.specs.Bytes.{rowBytes, headerBytes, rowOf, rowsBytes, tableBytes, rowStart}
 use Rattle.table.specs.Listed.{destinationIn, rankIn, placesIn, arcsTo, entriesIn, listed}
 use Rattle.table.specs.Facts.{lone, F-links, F-topology}

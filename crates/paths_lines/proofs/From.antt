@@ -20,10 +20,10 @@ use Rattle.listing_rules.proofs.Tables.{accepted}
 use Rattle.paths_rules.specs.Calls.{pathsOf, pathBytes, pathsBytes}
 use Rattle.paths_rules.specs.Theorems.{Passed}
 use Rattle.paths_rules.proofs.Right.{paths-exact}
-use Rattle.paths.specs.Inner.{mostBytes, Listed}
+use Rattle.paths.specs.Inner.{mostBytes, PathsListed}
 use Rattle.paths.proofs.Start.{beyond, within, needed}
 use Rattle.paths_lines.specs.Lines.{tooMany, lineOf, pathLine, linesFrom}
-use Rattle.paths_lines.specs.Inner.{mostLine, mostLines, pathsText, Paths, Toward}
+use Rattle.paths_lines.specs.Inner.{mostPathLine, mostPathLines, pathsText, Paths, Toward}
 use Rattle.paths_lines.proofs.Fields.{too-many-length, path-length}
 use Rattle.paths_lines.proofs.Bytes.{Path, short, there, lines}
 
@@ -43,23 +43,23 @@ module _ {t : Topology} {table : List ℕ} {d u : ℕ} (w : Toward t table d u) 
       let (few, places) = paths-exact t (w .good) table (passed .accepted) u (w .start) .in-network p m in
       record { few = omega (arith, few-routers); places = λ v k. omega (arith, few-routers, places v k) }
 
-  pub lines-length : length (linesFrom t d u) ≤ mostLines
+  pub lines-length : length (linesFrom t d u) ≤ mostPathLines
   unfolding linesFrom
   lines-length = rw (← w .listed) (cases (decLt 512 (length (pathsOf t table u))))
     where
       cases : Dec (512 < length (pathsOf t table u)) →
-          length (cond (ltb 512 (length (pathsOf t table u))) (lineOf d u (tooMany ∷ [])) (joinedOver (pathLine d u) (pathsOf t table u))) ≤ mostLines
+          length (cond (ltb 512 (length (pathsOf t table u))) (lineOf d u (tooMany ∷ [])) (joinedOver (pathLine d u) (pathsOf t table u))) ≤ mostPathLines
       cases (yes many) = rw (lt-ltb 512 (length (pathsOf t table u)) many) (omega (arith, too-many-length d u))
       cases (no not) =
           let few : length (pathsOf t table u) ≤ 512 = omega arith in
           rw (le-ltb 512 (length (pathsOf t table u)) few)
           (omega (
             arith,
-            joined-most (pathLine d u) mostLine (pathsOf t table u)
+            joined-most (pathLine d u) mostPathLine (pathsOf t table u)
                 (λ p m. path-length d u (small .0) (small .1) p (each p m .few) (short (each p m))),
           ))
 
-  module _ {b : List ℕ} {r : ℕ} {b′ : List ℕ} (l : Listed t table u b r b′) where
+  module _ {b : List ℕ} {r : ℕ} {b′ : List ℕ} (l : PathsListed t table u b r b′) where
     pub too-many : 512 < r → linesFrom t d u ≡ lineOf d u (tooMany ∷ [])
     unfolding linesFrom
     too-many h = rw (← w .listed, beyond l h)

@@ -22,25 +22,25 @@ use Rattle.paths_rules.specs.Theorems.{PathsRight}
 use Rattle.paths_rules.proofs.Right.{paths-exact}
 use Rattle.paths_rules.proofs.Rule.{paths-by-rule}
 use Rattle.paths_lines.specs.Lines.{colon, tooMany, lineOf, pathLine, linesFrom, linesTo, allPaths}
-use Rattle.paths_lines.specs.Inner.{frontText}
-use Rattle.paths_lines.specs.Theorems.{lineWith, LinesRight, AllInTurn}
+use Rattle.paths_lines.specs.Inner.{startText}
+use Rattle.paths_lines.specs.Theorems.{lineOfPath, PathLinesRight, AllInTurn}
 use Rattle.paths_lines.proofs.Fields.{path-fields, too-many-fields}
 
 module _ (d u : ℕ) where
-  path-spread : (path : List ℕ) → pathLine d u path ≡ lineWith d u (joinedOver (λ v. 32 ∷ numberText v) path ++ (10 ∷ []))
-  unfolding fieldsText frontText answerText colon
+  path-spread : (path : List ℕ) → pathLine d u path ≡ lineOfPath d u (joinedOver (λ v. 32 ∷ numberText v) path ++ (10 ∷ []))
+  unfolding fieldsText startText answerText colon
   path-spread path = path-fields d u path ∙ simp append-assoc
 
-  too-many-spread : lineOf d u (tooMany ∷ []) ≡ lineWith d u (32 ∷ (tooMany ++ (10 ∷ [])))
-  unfolding frontText answerText colon
+  too-many-spread : lineOf d u (tooMany ∷ []) ≡ lineOfPath d u (32 ∷ (tooMany ++ (10 ∷ [])))
+  unfolding startText answerText colon
   too-many-spread = too-many-fields d u ∙ simp append-assoc
 
 -- the one path from the destination
-itself : (d : ℕ) → joinedOver (pathLine d d) ((d ∷ []) ∷ []) ≡ lineWith d d (32 ∷ (numberText d ++ (10 ∷ [])))
+itself : (d : ℕ) → joinedOver (pathLine d d) ((d ∷ []) ∷ []) ≡ lineOfPath d d (32 ∷ (numberText d ++ (10 ∷ [])))
 unfolding joinedOver
 itself d = rw append-nil (path-spread d d (d ∷ []) ∙ simp append-assoc)
 
-pub lines-right : LinesRight
+pub lines-right : PathLinesRight
 unfolding linesFrom tooMany
 lines-right t good d place u h =
     let s = sound-networks t good in

@@ -6,7 +6,7 @@ use mathlib.Core.List.{List, [], _∷_, _++_}
 use lib.Dec.{T}
 use Rattle.network.specs.Lists.{every, sameNumbers}
 use Rattle.topology_types.specs.declared.Topology.{Topology}
-use Rattle.order.specs.Table.{T-topology}
+use Rattle.order.specs.Facts.{T-topology}
 use Rattle.table.specs.Facts.{lone, F-topology}
 use Rattle.paths_rules.specs.Facts.{twelve}
 use Rattle.listing_rules.specs.Facts.{eleven}

@@ -19,16 +19,16 @@ use Rattle.paths_rules.specs.Calls.{mostPaths}
 use Rattle.paths_lines.specs.Lines.{colon, pathLine}
 
 -- room for a line: two numbers of two digits, the space between, ` :`, at most 64 places of two digits with a space before each, and the line's end
-abbrev pub mostLine : ℕ
-mostLine = 200
+abbrev pub mostPathLine : ℕ
+mostPathLine = 200
 
 -- room for the lines of a start
-abbrev pub mostLines : ℕ
-mostLines = mostLine * mostPaths
+abbrev pub mostPathLines : ℕ
+mostPathLines = mostPathLine * mostPaths
 
 -- the fields before a path
-unfoldable pub frontText : ℕ → ℕ → List ℕ
-frontText d u = answerText d u ++ (space ∷ colon)
+unfoldable pub startText : ℕ → ℕ → List ℕ
+startText d u = answerText d u ++ (space ∷ colon)
 
 -- the places of a path of 64 bytes
 unfoldable pub placesOf : List ℕ → List ℕ

@@ -22,14 +22,14 @@ use Rattle.paths_rules.specs.Theorems.{PathsRight}
 use Rattle.paths_lines.specs.Lines.{linesFrom, allPaths}
 
 -- 02, 103: destination, start, `:`, and what stands behind it; 32 is the space and 58 the colon
-abbrev pub lineWith : ℕ → ℕ → List ℕ → List ℕ
-lineWith d u rest = numberText d ++ (32 ∷ (numberText u ++ (32 ∷ 58 ∷ rest)))
+abbrev pub lineOfPath : ℕ → ℕ → List ℕ → List ℕ
+lineOfPath d u rest = numberText d ++ (32 ∷ (numberText u ++ (32 ∷ 58 ∷ rest)))
 
 -- 02, 103: the lines of the start u for destination d. The table is the listing's, under the order by 01's rule in shortest-path mode and with the
 -- topology's K. The paths are those of the call: `PathsRight` says that they are exactly the ways by the table's rows, each once and in the rows' order,
 -- and those that delivered packets go. Up to 512 there is a line for each, in that order: its places, a space before each, and the newline, 10. If there
 -- are more, there is one line, `more than 512 paths`. From the destination there is one path, itself.
-pub record Lines (t : Topology) (d u : ℕ) : Type 0 where
+pub record PathLines (t : Topology) (d u : ℕ) : Type 0 where
   pub order : List ℕ
   pub by-rule : ByRule (networkOf t) d shortest-path order
   pub table : List ℕ
@@ -37,14 +37,14 @@ pub record Lines (t : Topology) (d u : ℕ) : Type 0 where
   pub accepted : tableChecking t table ≡ answer 0 0
   pub paths : PathsRight t table u
   pub up-to-512 : length (pathsOf t table u) ≤ 512 →
-      linesFrom t d u ≡ joinedOver (λ p. lineWith d u (joinedOver (λ v. 32 ∷ numberText v) p ++ (10 ∷ []))) (pathsOf t table u)
+      linesFrom t d u ≡ joinedOver (λ p. lineOfPath d u (joinedOver (λ v. 32 ∷ numberText v) p ++ (10 ∷ []))) (pathsOf t table u)
   pub more-than-512 : 512 < length (pathsOf t table u) →
       linesFrom t d u
-      ≡ lineWith d u (32 ∷ 109 ∷ 111 ∷ 114 ∷ 101 ∷ 32 ∷ 116 ∷ 104 ∷ 97 ∷ 110 ∷ 32 ∷ 53 ∷ 49 ∷ 50 ∷ 32 ∷ 112 ∷ 97 ∷ 116 ∷ 104 ∷ 115 ∷ 10 ∷ [])
-  pub from-destination : u ≡ d → linesFrom t d u ≡ lineWith d d (32 ∷ (numberText d ++ (10 ∷ [])))
+      ≡ lineOfPath d u (32 ∷ 109 ∷ 111 ∷ 114 ∷ 101 ∷ 32 ∷ 116 ∷ 104 ∷ 97 ∷ 110 ∷ 32 ∷ 53 ∷ 49 ∷ 50 ∷ 32 ∷ 112 ∷ 97 ∷ 116 ∷ 104 ∷ 115 ∷ 10 ∷ [])
+  pub from-destination : u ≡ d → linesFrom t d u ≡ lineOfPath d d (32 ∷ (numberText d ++ (10 ∷ [])))
 
-abbrev pub LinesRight : Type 0
-LinesRight = (t : Topology) → T (sound t) → (d : ℕ) → d < t .routers → (u : ℕ) → u < t .routers → Lines t d u
+abbrev pub PathLinesRight : Type 0
+PathLinesRight = (t : Topology) → T (sound t) → (d : ℕ) → d < t .routers → (u : ℕ) → u < t .routers → PathLines t d u
 
 -- 02, 103: every destination, and within it every start, by place
 abbrev pub AllInTurn : Type 0

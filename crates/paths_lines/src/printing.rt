@@ -7,15 +7,15 @@ ghost use mathlib.Core.Path.{_≡_};
 ghost use Prim.Native.Nat.{_+_, _≤_, _<_};
 ghost use lib.ListN.{length};
 ghost use Rattle.topology_types.specs.Limits.{mostRouters};
-ghost use Rattle.text.specs.Lines.{Put};
+ghost use Rattle.text.specs.Inner.{Put};
 ghost use Rattle.listing_rules.specs.Inner.{Short};
 ghost use Rattle.paths_lines.specs.Lines.{tooMany, lineOf, pathLine};
-ghost use Rattle.paths_lines.specs.Inner.{mostLine, mostLines, frontText, placesOf, pathsText, Paths};
+ghost use Rattle.paths_lines.specs.Inner.{mostPathLine, mostPathLines, startText, placesOf, pathsText, Paths};
 
 // Destination, start and `:`.
 fn put_front(out: &mut [u8], at: usize, destination: u8, start: u8) -> usize
     requires { ⌜ at + 43 ≤ length (now out) ⌝ }
-    ensures { λ r. ⌜ Put (now (out .entry)) at (frontText destination start) r (now (out .exit)) ⌝ }
+    ensures { λ r. ⌜ Put (now (out .entry)) at (startText destination start) r (now (out .exit)) ⌝ }
 {
     let end = lines::put_pair(out, at, destination as usize, start as usize);
     lines::put(out, end, b" :")
@@ -23,7 +23,7 @@ fn put_front(out: &mut [u8], at: usize, destination: u8, start: u8) -> usize
 
 // The line of a start with more than 512 paths.
 pub(crate) fn put_too_many(out: &mut [u8], destination: u8, start: u8) -> usize
-    requires { ⌜ mostLine ≤ length (now out) ⌝ }
+    requires { ⌜ mostPathLine ≤ length (now out) ⌝ }
     ensures { λ r. ⌜ Put (now (out .entry)) 0 (lineOf destination start (tooMany ∷ [])) r (now (out .exit)) ⌝ }
 {
     let end = put_front(out, 0, destination, start);
@@ -32,7 +32,7 @@ pub(crate) fn put_too_many(out: &mut [u8], destination: u8, start: u8) -> usize
 
 // The line of a path of 64 bytes, its places up to the padding.
 fn put_path(out: &mut [u8], at: usize, destination: u8, start: u8, path: &[u8]) -> usize
-    requires { ⌜ (destination < 100) × (start < 100) × (length (now path) ≡ mostRouters) × Short (placesOf (now path)) × (at + mostLine ≤ length (now out)) ⌝ }
+    requires { ⌜ (destination < 100) × (start < 100) × (length (now path) ≡ mostRouters) × Short (placesOf (now path)) × (at + mostPathLine ≤ length (now out)) ⌝ }
     ensures { λ r. ⌜ Put (now (out .entry)) at (pathLine destination start (placesOf (now (path .entry)))) r (now (out .exit)) ⌝ }
 {
     let middle = put_front(out, at, destination, start);
@@ -50,7 +50,7 @@ pub(crate) fn put_paths(
     paths: &[u8],
     count: usize,
 ) -> usize
-    requires { ⌜ (destination < 100) × (start < 100) × Paths (now paths) count × (mostLines ≤ length (now out)) ⌝ }
+    requires { ⌜ (destination < 100) × (start < 100) × Paths (now paths) count × (mostPathLines ≤ length (now out)) ⌝ }
     ensures { λ r. ⌜ Put (now (out .entry)) 0 (pathsText destination start (now (paths .entry)) count) r (now (out .exit)) ⌝ }
 {
     let mut end: usize = 0;

@@ -6,16 +6,16 @@ use topology_types::Topology;
 ghost use mathlib.Core.Path.{_≡_};
 ghost use Prim.Native.Nat.{_≤_};
 ghost use lib.ListN.{length};
-ghost use Rattle.text.specs.Lines.{Put};
+ghost use Rattle.text.specs.Inner.{Put};
 ghost use Rattle.paths_lines.specs.Lines.{linesFrom};
-ghost use Rattle.paths_lines.specs.Inner.{mostLines, Toward};
+ghost use Rattle.paths_lines.specs.Inner.{mostPathLines, Toward};
 
 // Room for the lines of a start: 200 bytes for each path.
 pub const LINES: usize = 200 * PATHS;
 
 // An array comes out of a function, so that a proof that lends it knows it by what the function ensures and not by all its elements.
 pub fn room_for_lines() -> [u8; LINES]
-    ensures { λ r. ⌜ mostLines ≡ length r ⌝ }
+    ensures { λ r. ⌜ mostPathLines ≡ length r ⌝ }
 {
     [0; LINES]
 }
@@ -28,7 +28,7 @@ pub fn put_lines(
     start: Place,
     out: &mut [u8],
 ) -> usize
-    requires { ⌜ Toward t (now table) (destination .0) (start .0) × (mostLines ≤ length (now out)) ⌝ }
+    requires { ⌜ Toward t (now table) (destination .0) (start .0) × (mostPathLines ≤ length (now out)) ⌝ }
     ensures { λ r. ⌜ Put (now (out .entry)) 0 (linesFrom t (destination .0) (start .0)) r (now (out .exit)) ⌝ }
 {
     let mut paths = paths::unchecked::room_for_paths();

@@ -20,7 +20,7 @@ use Rattle.topology.specs.Written.{joinedOver}
 use Rattle.table.specs.Calls.{unlessRefused, tableChecking}
 use Rattle.forwarding_rules.proofs.Tested.{Kind, kind}
 use Rattle.paths_rules.specs.Calls.{pathsOf, pathsBytes, writingPaths}
-use Rattle.paths_rules.specs.Theorems.{Passed, Says, says-14, says-15, says-21, says-25, says-24, says-0, PathsAnswer, RefusalsKeep, Written, PathsWritten}
+use Rattle.paths_rules.specs.Theorems.{Passed, PathsSay, says-14, says-15, says-21, says-25, says-24, says-0, PathsAnswer, RefusalsKeep, PathsGiven, PathsWritten}
 use Rattle.paths_rules.specs.Theorems.{CutOffNoPath}
 use Rattle.paths_rules.proofs.Right.{no-paths}
 use Rattle.paths_rules.proofs.Bytes.{bytes-long, path-short, byte-place, byte-padding}
@@ -41,7 +41,7 @@ module _ (t : Topology) (table : List ℕ) (u : ℕ) (buffer : List ℕ) where
   long p = bytes-long t (p .is-sound) table (p .accepted) u (p .place)
 
   -- what each case leaves
-  left : {number at : ℕ} → Says t table u buffer number at → List ℕ
+  left : {number at : ℕ} → PathsSay t table u buffer number at → List ℕ
   left (says-14 out) = buffer
   left (says-15 good past) = buffer
   left (says-21 good place at e) = buffer
@@ -49,7 +49,7 @@ module _ (t : Topology) (table : List ℕ) (u : ℕ) (buffer : List ℕ) where
   left (says-24 p few short) = buffer
   left (says-0 p few room) = pathsBytes t table u ++ drop (64 * many) buffer
 
-  outcome : {number at : ℕ} (s : Says t table u buffer number at) → written ≡ record { answer = answer number at; buffer = left s }
+  outcome : {number at : ℕ} (s : PathsSay t table u buffer number at) → written ≡ record { answer = answer number at; buffer = left s }
   unfolding writingPaths unlessRefused turnedAway given left
   outcome (says-14 out) = rw (as-false (sound t) out)
   outcome (says-15 good past) = rw (as-true (sound t) good, le-ltb _ _ past)
@@ -60,7 +60,7 @@ module _ (t : Topology) (table : List ℕ) (u : ℕ) (buffer : List ℕ) where
 
   -- one of them holds
   abbrev One : Type 0
-  One = (number : ℕ) × (at : ℕ) × Says t table u buffer number at
+  One = (number : ℕ) × (at : ℕ) × PathsSay t table u buffer number at
 
   by-room : (p : Passed t table u) → many ≤ 512 → Dec (length buffer < 64 * many) → One
   by-room p few (yes short) = (24, _, says-24 p few short)
@@ -86,14 +86,14 @@ module _ (t : Topology) (table : List ℕ) (u : ℕ) (buffer : List ℕ) where
       step (inr out) = (14, 0, says-14 out)
 
   -- the answer tells which
-  only : {n a number at : ℕ} → Says t table u buffer n a → written .answer ≡ answer number at → Says t table u buffer number at
+  only : {n a number at : ℕ} → PathsSay t table u buffer n a → written .answer ≡ answer number at → PathsSay t table u buffer number at
   only {n} {a} {number} s e =
       let same : answer n a ≡ answer number _ = sym (ap (λ (o : Outcome). o .answer) (outcome s)) ∙ e in
-      subst (Says t table u buffer number) (ap (λ (x : Answer). x .at) same)
-      (subst (λ (k : ℕ). Says t table u buffer k a) (ap (λ (x : Answer). x .number) same) s)
+      subst (PathsSay t table u buffer number) (ap (λ (x : Answer). x .at) same)
+      (subst (λ (k : ℕ). PathsSay t table u buffer k a) (ap (λ (x : Answer). x .number) same) s)
 
   -- a refusal leaves the buffer
-  kept : {number at : ℕ} (s : Says t table u buffer number at) → number ≢ 0 → left s ≡ buffer
+  kept : {number at : ℕ} (s : PathsSay t table u buffer number at) → number ≢ 0 → left s ≡ buffer
   unfolding left
   kept (says-14 out) off = refl
   kept (says-15 good past) off = refl
@@ -103,7 +103,7 @@ module _ (t : Topology) (table : List ℕ) (u : ℕ) (buffer : List ℕ) where
   kept (says-0 p few room) off = absurd (off refl)
 
   -- success leaves the paths, each in its place
-  stands : {number at : ℕ} → Says t table u buffer number at → number ≡ 0 → Written t table u buffer
+  stands : {number at : ℕ} → PathsSay t table u buffer number at → number ≡ 0 → PathsGiven t table u buffer
   unfolding left
   stands (says-14 out) e = absurd (omega arith)
   stands (says-15 good past) e = absurd (omega arith)

@@ -17,7 +17,7 @@ use Rattle.topology_sound.proofs.Stores.{getD-mapped}
 use Rattle.order.proofs.Ranges.{getD-mem}
 use Rattle.table.specs.Listed.{placesIn, entriesIn}
 use Rattle.table.specs.Calls.{tableChecking}
-use Rattle.forwarding_rules.specs.Theorems.{Lists}
+use Rattle.forwarding_rules.specs.Theorems.{ListsPlace}
 use Rattle.forwarding_rules.proofs.Places.{Fits, places-long, place-at}
 use Rattle.forwarding_rules.proofs.Rules.{row-fits}
 use Rattle.paths_rules.proofs.Listed.{o, places}
@@ -33,13 +33,13 @@ module _ (t : Topology) (good : T (sound t)) (table : List ℕ) (right : tableCh
 
   -- an entry is listed at its turn
   pub lists : (before : List Arc) (a : Arc) (behind : List Arc) → entriesIn (networkOf t) table v ≡ before ++ (a ∷ behind) →
-      Lists table v (length before) (a .to)
+      ListsPlace table v (length before) (a .to)
   lists before a behind e =
       let count : length (placesIn table v) ≡ length before + suc (length behind) = rw (places t good table right v, e, length-map, length-append) in
       let h : length before < getD table (4 + 19 * v + 2) 0 = omega (arith, places-long fits) in
       (h, sym (place-at fits (length before) h) ∙ rw (places t good table right v, e) (place-behind before a behind))
 
-  pub listed : (a : Arc) → List·Memᴰ a (entriesIn (networkOf t) table v) → (j : ℕ) × Lists table v j (a .to)
+  pub listed : (a : Arc) → List·Memᴰ a (entriesIn (networkOf t) table v) → (j : ℕ) × ListsPlace table v j (a .to)
   listed a m = let (before, behind, e) = split m in (length before, lists before a behind e)
 
   many : length (entriesIn (networkOf t) table v) ≡ getD table (4 + 19 * v + 2) 0
@@ -52,7 +52,7 @@ module _ (t : Topology) (good : T (sound t)) (table : List ℕ) (right : tableCh
     pub among : List·Memᴰ arc (entriesIn (networkOf t) table v)
     pub parts : drop j (entriesIn (networkOf t) table v) ≡ arc ∷ drop (suc j) (entriesIn (networkOf t) table v)
 
-  pub turn : (j w : ℕ) → Lists table v j w → Turn j w
+  pub turn : (j w : ℕ) → ListsPlace table v j w → Turn j w
   turn j w (h, e) =
       let arcs = entriesIn (networkOf t) table v in
       let z : Arc = record { to = 0; cost = 0; link = 0 } in

@@ -7,13 +7,12 @@ use Rattle.network.specs.Distance.{absent, distanceIn, through, round, rounds, 
 use Rattle.network.specs.Order.{reached, leadsInto, ready, candidate, candidatesInTurn, holdsEachOnce, firstIs, othersInTurn, accepted}
 use Rattle.network.specs.Row.{rank, sortsBefore, rankedBefore, fullRow, row}
 use Rattle.network.specs.Paths.{pathsAt, throughEach, pathsFrom}
-use Rattle.topology_types.specs.Inner.{firstOr}
-use Rattle.topology_types.specs.Outcome.{turnedAway, given}
+use Rattle.topology_types.specs.Outcome.{firstOr, turnedAway, given}
 use Rattle.topology_types.specs.Topology.{noLink, padded, contents, held, zeros, seen, networkIn, networkOf}
 use Rattle.topology_sound.specs.Sound.{within, inLimits, wellLinked, uncrowded, isNoLink, unusedZero, slotted, sound}
 use Rattle.topology.specs.Written.{joinedOver}
-use Rattle.order.specs.Calls.{atFirst}
-use Rattle.order.specs.Table.{answers, link, T-topology, cutOff}
+use Rattle.order.specs.Calls.{refusedAtFirst}
+use Rattle.order.specs.Facts.{answers, link, T-topology, cutOff}
 use Rattle.table_rows.specs.Bytes.{rankOrNone, rowBytes, headerBytes, rowOf, rowsBytes, tableBytes, rowStart}
 use Rattle.table.specs.Listed.{kindIn, destinationIn, countIn, limitIn, rankIn, placesIn, arcsTo, entriesIn, listed, byRank, orderIn}
 use Rattle.table.specs.Calls.{unlessRefused, soundHeader, soundRanks, differing, wrongBytes, tableJudging, tableChecking}
@@ -31,7 +30,7 @@ unfolding numbersFrom below keep every any leastBy insert sort member distinct s
     pathsAt throughEach pathsFrom
     firstOr turnedAway given noLink padded contents held zeros seen networkIn networkOf
     within inLimits wellLinked uncrowded isNoLink unusedZero slotted sound
-    joinedOver atFirst answers link T-topology cutOff rankOrNone rowBytes headerBytes rowOf rowsBytes tableBytes rowStart
+    joinedOver refusedAtFirst answers link T-topology cutOff rankOrNone rowBytes headerBytes rowOf rowsBytes tableBytes rowStart
     kindIn destinationIn countIn limitIn rankIn placesIn arcsTo entriesIn listed byRank orderIn
     unlessRefused soundHeader soundRanks differing wrongBytes tableJudging tableChecking
     lone lone-table tables.none tables.one tables.two T-table-0 T-table-free cut-table-0 cut-table-3 F-links F-topology F-table F-table-1 room
@@ -46,7 +45,7 @@ unfolding numbersFrom below keep every any leastBy insert sort member distinct s
     pathsAt throughEach pathsFrom
     firstOr turnedAway given noLink padded contents held seen networkIn networkOf
     within inLimits wellLinked uncrowded isNoLink unusedZero slotted sound
-    joinedOver atFirst answers link rankOrNone rowBytes headerBytes rowOf rowsBytes tableBytes rowStart
+    joinedOver refusedAtFirst answers link rankOrNone rowBytes headerBytes rowOf rowsBytes tableBytes rowStart
     kindIn destinationIn countIn limitIn rankIn placesIn arcsTo entriesIn listed byRank orderIn
     unlessRefused soundHeader soundRanks differing wrongBytes tableJudging tableChecking
     pathsOf pathBytes pathsBytes writingPaths writes holds twelve twelve-table

@@ -23,7 +23,7 @@ use Rattle.table.specs.Listed.{destinationIn, entriesIn, listed}
 use Rattle.table.specs.Calls.{tableChecking}
 use Rattle.forwarding_rules.specs.Schedule.{rowsIn}
 use Rattle.forwarding_rules.specs.Calls.{done, by, figures, walking}
-use Rattle.forwarding_rules.specs.Theorems.{Lists, SoundSchedule, Reached}
+use Rattle.forwarding_rules.specs.Theorems.{ListsPlace, SoundSchedule, Reached}
 use Rattle.forwarding_rules.proofs.Listed.{Over, figure-reached}
 use Rattle.forwarding_rules.proofs.Figures.{valid-states}
 use Rattle.forwarding_rules.proofs.Passed.{walks-when, walks-only}
@@ -42,10 +42,10 @@ module _ (t : Topology) (good : T (sound t)) (table : List ℕ) (right : tableCh
   x = o t good table right
 
   -- an entry of network's row is listed, and what is listed is such an entry
-  to-byte : (v : ℕ) (a : Arc) → List·Memᴰ a (rows t good table right v) → (j : ℕ) × Lists table v j (a .to)
+  to-byte : (v : ℕ) (a : Arc) → List·Memᴰ a (rows t good table right v) → (j : ℕ) × ListsPlace table v j (a .to)
   to-byte v a m = entries.listed t good table right v a (rw (x .entries-are v) m)
 
-  to-entry : (v j w : ℕ) → Lists table v j w → (a : Arc) × List·Memᴰ a (rows t good table right v) × (a .to ≡ w)
+  to-entry : (v j w : ℕ) → ListsPlace table v j w → (a : Arc) × List·Memᴰ a (rows t good table right v) × (a .to ≡ w)
   to-entry v j w l = let f = entries.turn t good table right v j w l in (f .arc, rw (x .entries-are v) at (f .among), f .to)
 
   -- where two paths part by network's rows they part by the bytes
@@ -88,7 +88,7 @@ module _ (t : Topology) (good : T (sound t)) (table : List ℕ) (right : tableCh
           starts = r .starts;
           steps = λ before v w after e.
               let (a, m, to) = r .steps before v w after e in
-              subst (λ (y : ℕ). (j : ℕ) × Lists table v j y) to (to-byte v a m);
+              subst (λ (y : ℕ). (j : ℕ) × ListsPlace table v j y) to (to-byte v a m);
           ends = rw (x .destination-is) (r .ends);
         }
 

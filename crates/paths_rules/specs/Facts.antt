@@ -9,7 +9,7 @@ use Rattle.network.specs.Lists.{numbersFrom, below, every, sameNumbers}
 use Rattle.topology_types.specs.declared.Topology.{Topology}
 use Rattle.topology_types.specs.Topology.{held, zeros, networkOf}
 use Rattle.topology.specs.Written.{joinedOver}
-use Rattle.order.specs.Table.{answers, link, T-topology, cutOff}
+use Rattle.order.specs.Facts.{answers, link, T-topology, cutOff}
 use Rattle.table_rows.specs.Bytes.{tableBytes}
 use Rattle.table.specs.Facts.{lone, lone-table, T-table-0, T-table-free, F-topology, F-table, F-table-1, room, cut-table-0, cut-table-3}
 use Rattle.paths_rules.specs.Calls.{writingPaths}

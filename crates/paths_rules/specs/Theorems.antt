@@ -16,7 +16,7 @@ use Rattle.topology_sound.specs.Sound.{sound}
 use Rattle.table.specs.Calls.{tableChecking}
 use Rattle.forwarding_rules.specs.Schedule.{rowsIn}
 use Rattle.forwarding_rules.specs.Calls.{done, by, figures, walking}
-use Rattle.forwarding_rules.specs.Theorems.{OfAccepted, destinationByte, Lists, Reached}
+use Rattle.forwarding_rules.specs.Theorems.{OfAccepted, destinationByte, ListsPlace, Reached}
 use Rattle.paths_rules.specs.Calls.{pathsOf, pathsPast, writingPaths}
 
 -- 02, 103, its rule: from the destination there is one path, itself; the paths from any other station are those through each entry of its row in turn,
@@ -24,7 +24,7 @@ use Rattle.paths_rules.specs.Calls.{pathsOf, pathsPast, writingPaths}
 pub record PathRule (t : Topology) (table : List ℕ) (u : ℕ) : Type 0 where
   pub at-destination : u ≡ destinationByte table → pathsOf t table u ≡ (u ∷ []) ∷ []
   pub elsewhere : u ≢ destinationByte table → pathsOf t table u ≡ map (λ p. u ∷ p) (pathsPast t table u 0)
-  pub entry : (i v : ℕ) → Lists table u i v → pathsPast t table u i ≡ pathsOf t table v ++ pathsPast t table u (suc i)
+  pub entry : (i v : ℕ) → ListsPlace table u i v → pathsPast t table u i ≡ pathsOf t table v ++ pathsPast t table u (suc i)
   pub past : (i : ℕ) → getD table (4 + 19 * u + 2) 0 ≤ i → pathsPast t table u i ≡ []
 
 abbrev pub PathsByRule : Type 0
@@ -34,7 +34,7 @@ PathsByRule = OfAccepted (λ t table. (u : ℕ) → u < t .routers → PathRule 
 -- destination.
 pub record PathIs (table : List ℕ) (u : ℕ) (p : List ℕ) : Type 0 where
   pub starts : (rest : List ℕ) × (p ≡ u ∷ rest)
-  pub steps : (before : List ℕ) (v w : ℕ) (after : List ℕ) → p ≡ before ++ (v ∷ w ∷ after) → (j : ℕ) × Lists table v j w
+  pub steps : (before : List ℕ) (v w : ℕ) (after : List ℕ) → p ≡ before ++ (v ∷ w ∷ after) → (j : ℕ) × ListsPlace table v j w
   pub ends : (before : List ℕ) × (p ≡ before ++ (destinationByte table ∷ []))
 
 -- p and q go together as far as a station, where p goes to an earlier entry of its row than q
@@ -46,8 +46,8 @@ pub record Sooner (table p q : List ℕ) : Type 0 where
   pub earlier : j < k
   pub v : ℕ
   pub w : ℕ
-  pub p-entry : Lists table station j v
-  pub q-entry : Lists table station k w
+  pub p-entry : ListsPlace table station j v
+  pub q-entry : ListsPlace table station k w
   pub p-rest : List ℕ
   pub q-rest : List ℕ
   pub p-goes : p ≡ together ++ (station ∷ v ∷ p-rest)
@@ -81,20 +81,20 @@ pub record Passed (t : Topology) (table : List ℕ) (u : ℕ) : Type 0 where
   pub accepted : tableChecking t table ≡ answer 0 0
 
 -- 02, 103; 01, Refusals: what each number says, and its at
-pub data Says (t : Topology) (table : List ℕ) (u : ℕ) (buffer : List ℕ) : ℕ → ℕ → Type 0 where
-  says-14 : (T (sound t) → ⊥) → Says t table u buffer 14 0
-  says-15 : T (sound t) → t .routers ≤ u → Says t table u buffer 15 u
-  says-21 : T (sound t) → u < t .routers → (at : ℕ) → tableChecking t table ≡ answer 21 at → Says t table u buffer 21 at
-  says-25 : Passed t table u → 512 < length (pathsOf t table u) → Says t table u buffer 25 u
+pub data PathsSay (t : Topology) (table : List ℕ) (u : ℕ) (buffer : List ℕ) : ℕ → ℕ → Type 0 where
+  says-14 : (T (sound t) → ⊥) → PathsSay t table u buffer 14 0
+  says-15 : T (sound t) → t .routers ≤ u → PathsSay t table u buffer 15 u
+  says-21 : T (sound t) → u < t .routers → (at : ℕ) → tableChecking t table ≡ answer 21 at → PathsSay t table u buffer 21 at
+  says-25 : Passed t table u → 512 < length (pathsOf t table u) → PathsSay t table u buffer 25 u
   says-24 : Passed t table u → length (pathsOf t table u) ≤ 512 → length buffer < 64 * length (pathsOf t table u) →
-      Says t table u buffer 24 (64 * length (pathsOf t table u))
+      PathsSay t table u buffer 24 (64 * length (pathsOf t table u))
   says-0 : Passed t table u → length (pathsOf t table u) ≤ 512 → 64 * length (pathsOf t table u) ≤ length buffer →
-      Says t table u buffer 0 (64 * length (pathsOf t table u))
+      PathsSay t table u buffer 0 (64 * length (pathsOf t table u))
 
 abbrev pub PathsAnswer : Type 0
 PathsAnswer =
     (t : Topology) (table : List ℕ) (u : ℕ) (buffer : List ℕ) (number at : ℕ) →
-    (writingPaths t table u buffer .answer ≡ answer number at) ↔ Says t table u buffer number at
+    (writingPaths t table u buffer .answer ≡ answer number at) ↔ PathsSay t table u buffer number at
 
 -- 01, Refusals: no refusal writes
 abbrev pub RefusalsKeep : Type 0
@@ -103,7 +103,7 @@ RefusalsKeep =
     writingPaths t table u buffer .buffer ≡ buffer
 
 -- 02, 103: path i stands from byte 64 * i on, its places and then 255 up to 64 bytes; the rest of a longer buffer stays
-pub record Written (t : Topology) (table : List ℕ) (u : ℕ) (buffer : List ℕ) : Type 0 where
+pub record PathsGiven (t : Topology) (table : List ℕ) (u : ℕ) (buffer : List ℕ) : Type 0 where
   pub places : (i j : ℕ) → i < length (pathsOf t table u) → j < length (getD (pathsOf t table u) i []) →
       getD (writingPaths t table u buffer .buffer) (64 * i + j) 0 ≡ getD (getD (pathsOf t table u) i []) j 0
   pub padding : (i j : ℕ) → i < length (pathsOf t table u) → length (getD (pathsOf t table u) i []) ≤ j → j < 64 →
@@ -113,7 +113,7 @@ pub record Written (t : Topology) (table : List ℕ) (u : ℕ) (buffer : List �
 
 abbrev pub PathsWritten : Type 0
 PathsWritten =
-    (t : Topology) (table : List ℕ) (u : ℕ) (buffer : List ℕ) → writingPaths t table u buffer .answer .number ≡ 0 → Written t table u buffer
+    (t : Topology) (table : List ℕ) (u : ℕ) (buffer : List ℕ) → writingPaths t table u buffer .answer .number ≡ 0 → PathsGiven t table u buffer
 
 -- 02, 107: from a start with no path to the destination there is no path to list, and the call needs no bytes: it answers 0 at 0 and leaves the whole
 -- buffer, of whatever length.

@@ -3,7 +3,7 @@ use text::unchecked::lines;
 use topology_types::Answer;
 ghost use Prim.Native.Nat.{_≤_};
 ghost use lib.ListN.{length};
-ghost use Rattle.text.specs.Lines.{Put};
+ghost use Rattle.text.specs.Inner.{Put};
 ghost use Rattle.program_io.specs.Output.{refusedLine};
 
 // The line of a refusal, at the start of the slice; answers how many bytes it has.

@@ -14,8 +14,8 @@ ghost use mathlib.Core.Path.{_≡_};
 ghost use Prim.Native.Nat.{_+_, _*_, _≤_, _<_};
 ghost use lib.ListN.{length};
 ghost use Rattle.topology_types.specs.Limits.{mostRouters};
-ghost use Rattle.text.specs.Lines.{Put};
-ghost use Rattle.listing_rules.specs.Inner.{mostLine, mostLines, rowText, frontText, lineOf, Row, Small, Listable, tableText};
+ghost use Rattle.text.specs.Inner.{Put};
+ghost use Rattle.listing_rules.specs.Inner.{mostListingLine, mostListingLines, rowText, frontText, frontLine, RowFits, Small, Listable, tableText};
 
 // Room for a line, and for the lines of a destination.
 const LINE: usize = 14 + 3 * ENTRIES;
@@ -24,7 +24,7 @@ pub(crate) const LINES: usize = LINE * ROUTERS;
 
 // Arrays come out of functions, so that a proof that lends one knows it by what the function ensures and not by all its elements.
 pub(crate) fn room_for_lines() -> [u8; LINES]
-    ensures { λ r. ⌜ mostLines ≡ length r ⌝ }
+    ensures { λ r. ⌜ mostListingLines ≡ length r ⌝ }
 {
     [0; LINES]
 }
@@ -43,7 +43,7 @@ pub(crate) fn room_for_hops() -> [u8; ROUTERS]
 
 // The row, a space before each field.
 fn put_row(out: &mut [u8], at: usize, row: &[u8]) -> usize
-    requires { ⌜ Row (now row) × (at + 48 ≤ length (now out)) ⌝ }
+    requires { ⌜ RowFits (now row) × (at + 48 ≤ length (now out)) ⌝ }
     ensures { λ r. ⌜ Put (now (out .entry)) at (rowText (now (row .entry))) r (now (out .exit)) ⌝ }
 {
     if row.len() == 0 {
@@ -65,8 +65,8 @@ fn put_front(out: &mut [u8], at: usize, front: Front) -> usize
 
 // A line.
 fn put_line(out: &mut [u8], at: usize, front: Front, row: &[u8]) -> usize
-    requires { ⌜ Small front × Row (now row) × (at + mostLine ≤ length (now out)) ⌝ }
-    ensures { λ r. ⌜ Put (now (out .entry)) at (lineOf front (now (row .entry))) r (now (out .exit)) ⌝ }
+    requires { ⌜ Small front × RowFits (now row) × (at + mostListingLine ≤ length (now out)) ⌝ }
+    ensures { λ r. ⌜ Put (now (out .entry)) at (frontLine front (now (row .entry))) r (now (out .exit)) ⌝ }
 {
     let middle = put_front(out, at, front);
     let end = put_row(out, middle, row);
@@ -83,7 +83,7 @@ pub(crate) fn put_table<'a, 'b>(
     n: usize,
     destination: u8,
 ) -> usize
-    requires { ⌜ Listable (now table) (now hops) n destination × (at + mostLine * n ≤ length (now out)) ⌝ }
+    requires { ⌜ Listable (now table) (now hops) n destination × (at + mostListingLine * n ≤ length (now out)) ⌝ }
     ensures { λ r. ⌜ Put (now (out .entry)) at (tableText (now (table .entry)) (now (hops .entry)) destination n) r (now (out .exit)) ⌝ }
 {
     let mut end = at;

@@ -12,14 +12,14 @@ ghost use Prim.Native.Nat.{_+_, _*_, _≤_, _<_};
 ghost use lib.Dec.{T};
 ghost use lib.ListN.{length};
 ghost use Rattle.topology_sound.specs.Sound.{sound};
-ghost use Rattle.arcs.specs.Arcs.{Laid};
-ghost use Rattle.text.specs.Lines.{Put};
+ghost use Rattle.arcs.specs.Inner.{Laid};
+ghost use Rattle.text.specs.Inner.{Put};
 ghost use Rattle.listing_rules.specs.Listing.{linesFor, allLines};
-ghost use Rattle.listing_rules.specs.Inner.{mostLines};
+ghost use Rattle.listing_rules.specs.Inner.{mostListingLines};
 
 // The lines of a destination, from an offset of the slice on; answers the offset after them.
 pub fn put_lines(t: Topology, a: Arcs, destination: Place, out: &mut [u8], at: usize) -> usize
-    requires { ⌜ T (sound t) × Laid t a × (destination .0 < t .routers) × (at + mostLines ≤ length (now out)) ⌝ }
+    requires { ⌜ T (sound t) × Laid t a × (destination .0 < t .routers) × (at + mostListingLines ≤ length (now out)) ⌝ }
     ensures { λ r. ⌜ Put (now (out .entry)) at (linesFor t (destination .0)) r (now (out .exit)) ⌝ }
 {
     let n = t.routers;
@@ -33,7 +33,7 @@ pub fn put_lines(t: Topology, a: Arcs, destination: Place, out: &mut [u8], at: u
 
 // The lines of all destinations, into the first bytes of the slice; answers how many bytes they are.
 pub fn put_all(t: Topology, a: Arcs, out: &mut [u8]) -> usize
-    requires { ⌜ T (sound t) × Laid t a × (mostLines * t .routers ≤ length (now out)) ⌝ }
+    requires { ⌜ T (sound t) × Laid t a × (mostListingLines * t .routers ≤ length (now out)) ⌝ }
     ensures { λ r. ⌜ Put (now (out .entry)) 0 (allLines t) r (now (out .exit)) ⌝ }
 {
     let mut end: usize = 0;

@@ -10,9 +10,9 @@ use Rattle.topology_types.specs.Topology.{noLink, padded, contents, held, zeros
 use Rattle.topology_sound.specs.Sound.{within}
 use Rattle.stream_rules.specs.Stream.{bigEndianOn, bigEndian, bodyLength, halfIn, decoded, recordIn, records}
 use Rattle.stream_rules.specs.Halves.{firstHalf, secondHalf, linkHalves, halves, sameHalf, leaves, opposite, linkOf}
-use Rattle.stream_rules.specs.Reading.{refusal, accepted, routerFault, repeated, crowded, halvesFault, fault, withRouter, withLink, withLimit, arrived, added}
-use Rattle.stream_rules.specs.Reading.{width, isEnd, ended, unless, some?, inTurn, nothingListed, reading}
-use Rattle.stream_rules.specs.Table.{T-stream, inSequence, routers}
+use Rattle.stream_rules.specs.Reading.{refusal, acceptedReading, routerFault, repeated, crowded, halvesFault, fault, withRouter, withLink, withLimit, arrived, added}
+use Rattle.stream_rules.specs.Reading.{width, isEnd, ended, unless, anyRecord?, inTurn, nothingListed, reading}
+use Rattle.stream_rules.specs.Facts.{T-stream, inSequence, routers}
 use Rattle.topology.specs.Written.{joinedOver}
 use Rattle.table_rows.specs.Bytes.{rankOrNone, rowBytes, headerBytes, rowOf, rowsBytes, tableBytes, rowStart}
 use Rattle.table.specs.Listed.{destinationIn, rankIn, placesIn, arcsTo, entriesIn, listed}
@@ -23,7 +23,7 @@ use Rattle.paths_rules.specs.Calls.{pathsOf}
 use Rattle.paths_lines.specs.Lines.{colon, tooMany, lineOf, pathLine, linesFrom, linesTo, allPaths}
 use Rattle.paths_lines.specs.Facts.{T-0, T-1, T-2, lone-0}
 use Rattle.program_io.specs.Output.{refusedLine, printed, outputBy}
-use Rattle.routes.specs.Output.{output}
+use Rattle.routes.specs.Output.{routesOutput}
 use Rattle.routes.specs.Facts.{holds, refused, facts, FactsHold}
 
 pub facts-hold : FactsHold
@@ -35,10 +35,10 @@ unfolding numbersFrom below keep every any leastBy greatestBy ahead foremost ins
     noLink padded contents held zeros seen networkIn networkOf within
     bigEndianOn bigEndian bodyLength halfIn decoded recordIn records
     linkHalves firstHalf secondHalf halves sameHalf leaves opposite linkOf
-    refusal accepted routerFault repeated crowded halvesFault fault withRouter withLink withLimit arrived added
-    width isEnd ended unless some? inTurn nothingListed reading
+    refusal acceptedReading routerFault repeated crowded halvesFault fault withRouter withLink withLimit arrived added
+    width isEnd ended unless anyRecord? inTurn nothingListed reading
     T-stream inSequence routers joinedOver rankOrNone rowBytes headerBytes rowOf rowsBytes tableBytes rowStart
     destinationIn rankIn placesIn arcsTo entriesIn listed refusedWord answerText answerLine wordLine lastDigits numberText
     spaced tableFor pathsOf colon tooMany lineOf pathLine linesFrom linesTo allPaths T-0 T-1 T-2 lone-0
-    refusedLine printed outputBy output holds refused facts
+    refusedLine printed outputBy routesOutput holds refused facts
 facts-hold = tt

@@ -5,11 +5,11 @@ use Rattle.stream_rules.proofs.Returned.{reads-sound}
 use Rattle.program_io.proofs.Right.{all-print}
 use Rattle.paths_lines.specs.Lines.{allPaths}
 use Rattle.paths_lines.proofs.Right.{lines-right, all-in-turn}
-use Rattle.routes.specs.Output.{output}
-use Rattle.routes.specs.Theorems.{PrintsRight}
+use Rattle.routes.specs.Output.{routesOutput}
+use Rattle.routes.specs.Theorems.{RoutesPrintRight}
 
-pub prints-right : PrintsRight
-unfolding output
+pub prints-right : RoutesPrintRight
+unfolding routesOutput
 prints-right stream bytes =
     record {
       refused = all-print allPaths stream .refused;

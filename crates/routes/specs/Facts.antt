@@ -5,9 +5,9 @@ use mathlib.Core.Bool.{Bool}
 use mathlib.Core.List.{List, [], _∷_, _++_}
 use lib.Dec.{T}
 use Rattle.network.specs.Lists.{every, sameNumbers}
-use Rattle.stream_rules.specs.Table.{routers, T-stream}
+use Rattle.stream_rules.specs.Facts.{routers, T-stream}
 use Rattle.paths_lines.specs.Facts.{T-0, T-1, T-2, lone-0}
-use Rattle.routes.specs.Output.{output}
+use Rattle.routes.specs.Output.{routesOutput}
 
 -- a stream, and what is printed for it
 pub record Fact : Type 0 where
@@ -15,7 +15,7 @@ pub record Fact : Type 0 where
   pub prints : List ℕ
 
 unfoldable pub holds : Fact → Bool
-holds f = sameNumbers (output (f .stream)) (f .prints)
+holds f = sameNumbers (routesOutput (f .stream)) (f .prints)
 
 -- `refused ` and what stands behind it
 unfoldable pub refused : List ℕ → List ℕ

@@ -6,5 +6,5 @@ use Rattle.program_io.specs.Output.{outputBy}
 use Rattle.paths_lines.specs.Lines.{allPaths}
 
 -- the whole output: the lines of every path; a refused stream prints the listing's line
-unfoldable pub output : List ℕ → List ℕ
-output stream = outputBy allPaths stream
+unfoldable pub routesOutput : List ℕ → List ℕ
+routesOutput stream = outputBy allPaths stream

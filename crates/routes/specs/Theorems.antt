@@ -10,22 +10,22 @@ use Rattle.stream_rules.specs.Theorems.{Bytes}
 use Rattle.topology.specs.Written.{joinedOver}
 use Rattle.text.specs.Numbers.{numberText}
 use Rattle.paths_lines.specs.Lines.{linesFrom}
-use Rattle.paths_lines.specs.Theorems.{Lines}
-use Rattle.routes.specs.Output.{output}
+use Rattle.paths_lines.specs.Theorems.{PathLines}
+use Rattle.routes.specs.Output.{routesOutput}
 
 -- 02, 103: a refused stream prints the listing's line: `refused`, number, at; any other the lines of every destination, and within it of every start, by
 -- place, of the topology read
-pub record Prints (stream : List ℕ) : Type 0 where
+pub record RoutesPrint (stream : List ℕ) : Type 0 where
   pub refused : reading stream .answer .number ≢ 0 →
-      output stream
+      routesOutput stream
       ≡ 114 ∷ 101 ∷ 102 ∷ 117 ∷ 115 ∷ 101 ∷ 100 ∷ 32 ∷ (numberText (reading stream .answer .number)
       ++ (32 ∷ (numberText (reading stream .answer .at) ++ (10 ∷ []))))
   pub read : reading stream .answer .number ≡ 0 →
       let t = reading stream .topology in
-      output stream ≡ joinedOver (λ d. joinedOver (linesFrom t d) (below (t .routers))) (below (t .routers))
+      routesOutput stream ≡ joinedOver (λ d. joinedOver (linesFrom t d) (below (t .routers))) (below (t .routers))
   pub lines : reading stream .answer .number ≡ 0 →
       let t = reading stream .topology in
-      (d : ℕ) → d < t .routers → (u : ℕ) → u < t .routers → Lines t d u
+      (d : ℕ) → d < t .routers → (u : ℕ) → u < t .routers → PathLines t d u
 
-abbrev pub PrintsRight : Type 0
-PrintsRight = (stream : List ℕ) → Bytes stream → Prints stream
+abbrev pub RoutesPrintRight : Type 0
+RoutesPrintRight = (stream : List ℕ) → Bytes stream → RoutesPrint stream

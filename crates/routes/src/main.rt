@@ -14,8 +14,8 @@ ghost use Prim.Native.Nat.{_≤_, _<_};
 ghost use lib.Dec.{T};
 ghost use lib.ListN.{length};
 ghost use Rattle.topology_sound.specs.Sound.{sound};
-ghost use Rattle.arcs.specs.Arcs.{Laid};
-ghost use Rattle.paths_lines.specs.Inner.{mostLines};
+ghost use Rattle.arcs.specs.Inner.{Laid};
+ghost use Rattle.paths_lines.specs.Inner.{mostPathLines};
 
 // An array that comes out of a function is known by what the function ensures.
 fn room() -> [u8; TABLE]
@@ -26,7 +26,7 @@ fn room() -> [u8; TABLE]
 
 // Writes the lines of a destination, start by start, by place; answers whether that went well.
 fn write_to(t: Topology, a: Arcs, destination: Place, out: &mut [u8]) -> bool
-    requires { ⌜ T (sound t) × Laid t a × (destination .0 < t .routers) × (mostLines ≤ length (now out)) ⌝ }
+    requires { ⌜ T (sound t) × Laid t a × (destination .0 < t .routers) × (mostPathLines ≤ length (now out)) ⌝ }
 {
     let length = HEADER + ROW * t.routers;
     let mut table = room();
@@ -50,7 +50,7 @@ fn write_to(t: Topology, a: Arcs, destination: Place, out: &mut [u8]) -> bool
 
 // Writes the lines of all destinations, by place, until that fails.
 fn write_each(t: Topology, a: Arcs, out: &mut [u8])
-    requires { ⌜ T (sound t) × Laid t a × (mostLines ≤ length (now out)) ⌝ }
+    requires { ⌜ T (sound t) × Laid t a × (mostPathLines ≤ length (now out)) ⌝ }
 {
     let mut d: usize = 0;
     while d < t.routers {
@@ -63,7 +63,7 @@ fn write_each(t: Topology, a: Arcs, out: &mut [u8])
 
 // Writes the output for a stream.
 fn write_for(stream: &[u8], out: &mut [u8])
-    requires { ⌜ mostLines ≤ length (now out) ⌝ }
+    requires { ⌜ mostPathLines ≤ length (now out) ⌝ }
 {
     let reading = topology::read(stream);
     let answer = reading.answer;

@@ -15,14 +15,14 @@ use lib.Seq.{drop-drop}
 use Rattle.stream_rules.specs.declared.Record.{Record}
 use Rattle.stream_rules.specs.declared.Record.the-variants as record-of
 use Rattle.stream_rules.specs.declared.Reading.{Reading}
-use Rattle.stream_rules.specs.Halves.{Listing}
+use Rattle.stream_rules.specs.Halves.{StreamListing}
 use Rattle.stream_rules.specs.Stream.{recordIn, records}
 use Rattle.stream_rules.specs.Reading.{refusal, fault, added, width, isEnd, ended, unless, inTurn, nothingListed, reading}
 use Rattle.stream_rules.specs.Theorems.{Bytes}
 use Rattle.stream_rules.proofs.Stream.{WholeRecord, whole-record, some-records}
 use Rattle.stream_rules.proofs.Faults.{unless-fault}
 
-pub record Turn (s : List ℕ) (p : Listing) (at : ℕ) : Type 0 where
+pub record Turn (s : List ℕ) (p : StreamListing) (at : ℕ) : Type 0 where
   pub inside : at ≤ length s
   pub goes-on : reading s ≡ inTurn at p (records 0 (drop at s))
 
@@ -42,7 +42,7 @@ unfolding records
 first-is [] h = absurd (omega arith)
 first-is (kind ∷ rest) h = (_, refl)
 
-module _ (s : List ℕ) (p : Listing) (at : ℕ) (turn : Turn s p at) where
+module _ (s : List ℕ) (p : StreamListing) (at : ℕ) (turn : Turn s p at) where
   pub turn-past : length s ≤ at → reading s ≡ refusal 1 at
   unfolding records inTurn
   turn-past h = turn .goes-on ∙ rw (drop-of-length-le s h)

@@ -16,9 +16,9 @@ use Rattle.topology_types.specs.declared.Link.{Link}
 use Rattle.topology_types.specs.declared.Topology.{Topology}
 use Rattle.topology_types.specs.Topology.{contents, held}
 use Rattle.stream_rules.specs.declared.Record.the-variants as record-of
-use Rattle.stream_rules.specs.Halves.{Listing, linkHalves, halves, sameHalf, opposite, linkOf}
+use Rattle.stream_rules.specs.Halves.{StreamListing, linkHalves, halves, sameHalf, opposite, linkOf}
 use Rattle.stream_rules.specs.Reading.{repeated, crowded, fault, withRouter, withLink, withLimit, arrived, added, nothingListed}
-use Rattle.stream_rules.specs.Inner.{Listed, Indexed}
+use Rattle.stream_rules.specs.Inner.{WhileRead, Indexed}
 use Rattle.stream_rules.proofs.Held.{contents-held, padded-length, with-router, with-link, with-limit, router-added, link-added, limit-added}
 use Rattle.stream_rules.proofs.NoFault.{NewHalves, router-passes, halves-pass, one-fails, both-fail}
 use Rattle.stream_rules.proofs.Halves.{one, length-total, length-keep, total-split, halves-total, adds-last, adds-link}
@@ -28,7 +28,7 @@ use Rattle.stream_rules.proofs.Kept.{Good, good-nothing, good-listed, kept, fre
 use Rattle.stream_rules.proofs.Tables.{Tabled, Tallied, tabled-none, tallied-none, cost-tells, tabled-more, tallied-more}
 use Rattle.stream.specs.Inner.{Roomy, oppositeCost, paired}
 
-pub record Filled (p : Listing) (t : Topology) (costs leaving : List ℕ) (m : ℕ) : Type 0 where
+pub record Filled (p : StreamListing) (t : Topology) (costs leaving : List ℕ) (m : ℕ) : Type 0 where
   pub good : Good p
   pub whole : t ≡ held (p .contents)
   pub many : m ≡ length (halves p)
@@ -39,11 +39,11 @@ pub filled-first : Filled nothingListed (held (nothingListed .contents)) (replic
 unfolding nothingListed halves linkHalves
 filled-first = record { good = good-nothing; whole = refl; many = refl; tabled = tabled-none; tallied = tallied-none }
 
-module _ {p : Listing} {t : Topology} {costs leaving : List ℕ} {m : ℕ} (w : Filled p t costs leaving m) where
+module _ {p : StreamListing} {t : Topology} {costs leaving : List ℕ} {m : ℕ} (w : Filled p t costs leaving m) where
   pub contents-are : contents t ≡ p .contents
   contents-are = ap contents (w .whole) ∙ contents-held (p .contents)
 
-  pub listed : Listed t
+  pub listed : WhileRead t
   listed = rw (w .whole) (good-listed p (w .good))
 
   pub few : m ≤ 512

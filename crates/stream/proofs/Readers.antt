@@ -15,7 +15,7 @@ use Rattle.stream_rules.proofs.Stream.{cut}
 use Rattle.stream_rules.proofs.InTurn.{next-router, next-link, next-half, next-limit, next-unknown, next-end}
 use Rattle.stream.specs.declared.reader.Reader.{Reader}
 use Rattle.stream.specs.Reader.{taken, next}
-use Rattle.stream.specs.Readers.{moves, stays, ReaderTakes}
+use Rattle.stream.specs.Theorems.{moves, stays, ReaderTakes}
 
 -- the first of some records
 unfoldable first : List Record → Record

@@ -9,7 +9,7 @@ use lib.ListN.{length, take, drop, replicate, take-append-drop}
 use Rattle.topology_types.specs.declared.Topology.{Topology}
 use Rattle.topology_types.specs.Topology.{held}
 use Rattle.stream_rules.specs.declared.Record.{Record}
-use Rattle.stream_rules.specs.Halves.{Listing}
+use Rattle.stream_rules.specs.Halves.{StreamListing}
 use Rattle.stream_rules.specs.Stream.{recordIn}
 use Rattle.stream_rules.specs.Reading.{fault, added, width, isEnd, nothingListed}
 use Rattle.stream_rules.specs.Theorems.{Bytes}
@@ -18,7 +18,7 @@ use Rattle.stream.proofs.AtTurn.{Turn, turn-first, turn-taken}
 use Rattle.stream.proofs.Filled.{Filled, filled-first}
 
 pub record Standing (s : List ℕ) (t : Topology) (costs leaving : List ℕ) (m at : ℕ) : Type 0 where
-  pub listing : Listing
+  pub listing : StreamListing
   pub turn : Turn s listing at
   pub bytes : Bytes s
   pub filled : Filled listing t costs leaving m

@@ -1,3 +1,3 @@
 pub mod Reader
 pub mod Inner
-pub mod Readers
+pub mod Theorems

@@ -12,7 +12,7 @@ ghost use Prim.Native.Nat.{_+_, _*_, _≤_};
 ghost use lib.ListN.{length, take, getD, set};
 ghost use Rattle.topology_types.specs.Limits.{mostRouters, mostHalves, mostNextHops};
 ghost use Rattle.topology_sound.specs.Sound.{within};
-ghost use Rattle.stream_rules.specs.Halves.{Listing};
+ghost use Rattle.stream_rules.specs.Halves.{StreamListing};
 ghost use Rattle.stream_rules.specs.Reading.{fault, width};
 ghost use Rattle.stream_rules.specs.Inner.{Indexed};
 ghost use Rattle.stream.specs.Inner.{Roomy};
@@ -50,7 +50,7 @@ pub(crate) fn fault_of<'a>(
     record: Record,
 ) -> u8
     requires { ⌜ (n ≤ mostRouters) × (m ≤ mostHalves) × (length (now ids) ≡ mostRouters) ⌝ }
-    ensures { λ r. ⌜ ((p : Listing) → p .contents .ids ≡ take n (now (ids .entry)) → Indexed p n m (now (costs .entry)) (now (leaving .entry)) → r ≡ fault p «record») ⌝ }
+    ensures { λ r. ⌜ ((p : StreamListing) → p .contents .ids ≡ take n (now (ids .entry)) → Indexed p n m (now (costs .entry)) (now (leaving .entry)) → r ≡ fault p «record») ⌝ }
 {
     match record {
         Record::Router(id) => unchecked::router_fault(ids, n, id),

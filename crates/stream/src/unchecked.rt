@@ -22,10 +22,10 @@ ghost use lib.Dec.{ltb};
 ghost use lib.ListN.{length, take, getD, set};
 ghost use Rattle.topology_types.specs.Limits.{mostRouters, mostHalves, mostLinks};
 ghost use Rattle.topology_types.specs.Topology.{Contents, contents, held};
-ghost use Rattle.stream_rules.specs.Halves.{Listing, opposite};
+ghost use Rattle.stream_rules.specs.Halves.{StreamListing, opposite};
 ghost use Rattle.stream_rules.specs.Reading.{refusal, routerFault, halvesFault};
 ghost use Rattle.stream_rules.specs.Reading as said;
-ghost use Rattle.stream_rules.specs.Inner.{Listed, Indexed};
+ghost use Rattle.stream_rules.specs.Inner.{WhileRead, Indexed};
 ghost use Rattle.stream.specs.Inner.{Roomy, oppositeCost, paired};
 
 // All zeros but for the next-hop limit.
@@ -86,7 +86,7 @@ pub fn halves_fault<'a>(
     both: bool,
 ) -> u8
     requires { ⌜ (n ≤ mostRouters) × (m ≤ mostHalves) ⌝ }
-    ensures { λ r. ⌜ ((p : Listing) → Indexed p n m (now (costs .entry)) (now (leaving .entry)) → r ≡ halvesFault p h (cond both (h ∷ opposite h ∷ []) (h ∷ []))) ⌝ }
+    ensures { λ r. ⌜ ((p : StreamListing) → Indexed p n m (now (costs .entry)) (now (leaving .entry)) → r ≡ halvesFault p h (cond both (h ∷ opposite h ∷ []) (h ∷ []))) ⌝ }
 {
     let from = h.from.index();
     let to = h.to.index();
@@ -153,7 +153,7 @@ pub fn half_taken<'a>(
 
 // At the end record: refusals 11 and 12.
 pub fn ended(t: Topology, at: usize, length: usize) -> Reading
-    requires { ⌜ Listed t × (at < «length») ⌝ }
+    requires { ⌜ WhileRead t × (at < «length») ⌝ }
     ensures { λ r. ⌜ r ≡ said.ended (ltb (at + 1) «length») at (contents t) ⌝ }
 {
     if at + 1 < length {

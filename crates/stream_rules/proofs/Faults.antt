@@ -11,7 +11,7 @@ use Rattle.network.specs.Lists.{any}
 use Rattle.topology_types.specs.declared.Half.{Half}
 use Rattle.topology_types.specs.Limits.{mostRouters, mostHalves, mostNeighbours}
 use Rattle.stream_rules.specs.declared.Reading.{Reading}
-use Rattle.stream_rules.specs.Halves.{Listing, halves}
+use Rattle.stream_rules.specs.Halves.{StreamListing, halves}
 use Rattle.stream_rules.specs.Reading.{refusal, repeated, crowded, unless}
 use Rattle.stream_rules.specs.Inner.{Indexed}
 
@@ -21,7 +21,7 @@ unless-fault zero at r h = absurd (h refl)
 unless-fault (suc number) at r h = refl
 
 -- what the tables have of places that are listed
-module _ {p : Listing} {n m : ℕ} {costs leaving : List ℕ} (i : Indexed p n m costs leaving) (few : n ≤ mostRouters) where
+module _ {p : StreamListing} {n m : ℕ} {costs leaving : List ℕ} (i : Indexed p n m costs leaving) (few : n ≤ mostRouters) where
   pub repeated-by : (h : Half) {u v : ℕ} → u ≡ h .from .0 → v ≡ h .to .0 → u < n → v < n →
       repeated p h ≡ not (eqb (getD costs (u * mostRouters + v) 0) 0)
   repeated-by h f s a b = rw (f, s) (sym (i .listed h (omega arith) (omega arith)))
@@ -31,7 +31,7 @@ module _ {p : Listing} {n m : ℕ} {costs leaving : List ℕ} (i : Indexed p n m
   crowded-by place e h = rw (e, i .out place (omega arith))
 
 -- the tests of halves from one of them on, the last first
-module _ (p : Listing) (h : Half) (new : List Half) where
+module _ (p : StreamListing) (h : Half) (new : List Half) where
   abbrev pub from-10 : ℕ
   from-10 = cond (any (λ k. crowded p (k .from .0)) new) 10 0
 

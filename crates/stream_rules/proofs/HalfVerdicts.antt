@@ -13,10 +13,9 @@ use Rattle.network.specs.Lists.{any, keep}
 use Rattle.network.proofs.Lists.{any-some, some-any}
 use Rattle.topology_types.specs.declared.Half.{Half}
 use Rattle.topology_types.specs.declared.Link.{Link}
-use Rattle.stream_rules.specs.Halves.{Listing, firstHalf, secondHalf, linkHalves, halves, sameHalf, leaves, opposite}
+use Rattle.stream_rules.specs.Halves.{StreamListing, firstHalf, secondHalf, linkHalves, halves, sameHalf, leaves, opposite}
 use Rattle.stream_rules.specs.Reading.{repeated, crowded, halvesFault, fault}
-use Rattle.stream_rules.specs.Theorems.{HalfListed, halvesListed, halvesLeaving, BothListed, Differing, Costing}
-use Rattle.stream_rules.specs.Theorems.{HalfFaults, LinkFaults}
+use Rattle.stream_rules.specs.Theorems.{HalfListed, halvesListed, halvesLeaving, BothListed, Differing, Costing, HalfFaults, LinkFaults}
 use Rattle.stream_rules.proofs.Faults.{from-6, from-7, from-8, from-9, from-10}
 use Rattle.stream_rules.proofs.Halves.{total, one, length-total, length-keep, halves-total}
 use Rattle.stream_rules.proofs.Opposite.{same-places}
@@ -33,7 +32,7 @@ link-half (l ∷ ls) (List·Memᴰ·tail (List·Memᴰ·head e)) = (l, List·Mem
 link-half (l ∷ ls) (List·Memᴰ·tail (List·Memᴰ·tail m)) = let (k, n, e) = link-half ls m in (k, List·Memᴰ·tail n, e)
 
 -- how many halves there are, and how many leave a place
-halves-count : (p : Listing) → length (halves p) ≡ halvesListed p
+halves-count : (p : StreamListing) → length (halves p) ≡ halvesListed p
 halves-count p =
     omega (
       arith,
@@ -62,7 +61,7 @@ links-leaving u (l ∷ ls) = go (eqb (l .first .0) u) (eqb (l .second .0) u) (li
     go false true e = omega arith
     go false false e = omega arith
 
-leaving-count : (p : Listing) (u : ℕ) → length (keep (leaves u) (halves p)) ≡ halvesLeaving p u
+leaving-count : (p : StreamListing) (u : ℕ) → length (keep (leaves u) (halves p)) ≡ halvesLeaving p u
 unfolding leaves
 leaving-count p u =
     omega (
@@ -73,7 +72,7 @@ leaving-count p u =
       length-keep (leaves u) (p .lone),
     )
 
-module _ (p : Listing) where
+module _ (p : StreamListing) where
   -- whether a half is listed
   known : (h : Half) → Decides (HalfListed p (h .from .0) (h .to .0)) (HalfListed p (h .from .0) (h .to .0) → ⊥) (repeated p h)
   unfolding repeated halves firstHalf secondHalf
@@ -113,7 +112,7 @@ last (holds x o) = holds x o
 last (fails q o) = fails q o
 
 -- the numbers of a record that lists the halves `new`, by what its last three tests say
-module _ (p : Listing) (h : Half) (new : List Half) {P8 Q8 P9 Q9 P10 Q10 : Type 0} (eighth : Decides P8 Q8 (any (repeated p) new))
+module _ (p : StreamListing) (h : Half) (new : List Half) {P8 Q8 P9 Q9 P10 Q10 : Type 0} (eighth : Decides P8 Q8 (any (repeated p) new))
     (ninth : Decides P9 Q9 (ltb 512 (length (halves p) + length new))) (tenth : Decides P10 Q10 (any (λ k. crowded p (k .from .0)) new)) where
   record Says : Type 0 where
     says-5 : (halvesFault p h new ≡ 5) ↔ ((length (p .contents .ids) ≤ h .from .0) ⊎ (length (p .contents .ids) ≤ h .to .0))
@@ -151,7 +150,7 @@ module _ (p : Listing) (h : Half) (new : List Half) {P8 Q8 P9 Q9 P10 Q10 : Type 
         says-0 = ends (next left-10 (omega arith) tenth);
       }
 
-pub half-faults : (p : Listing) (h : Half) → HalfFaults p h
+pub half-faults : (p : StreamListing) (h : Half) → HalfFaults p h
 unfolding fault any
 half-faults p h =
     let s = all-say p h (h ∷ []) (last (known p h)) (room p 1) (last (many p (h .from .0))) in
@@ -165,7 +164,7 @@ half-faults p h =
       says-0 = s .says-0;
     }
 
-pub link-faults : (p : Listing) (h : Half) → LinkFaults p h
+pub link-faults : (p : StreamListing) (h : Half) → LinkFaults p h
 unfolding fault any opposite
 link-faults p h =
     let s =

@@ -13,7 +13,7 @@ use Rattle.network.specs.Lists.{any, keep}
 use Rattle.topology_types.specs.declared.Half.{Half}
 use Rattle.topology_types.specs.declared.Link.{Link}
 use Rattle.stream_rules.specs.declared.Record.the-variants as record-of
-use Rattle.stream_rules.specs.Halves.{Listing, firstHalf, secondHalf, linkHalves, halves, sameHalf, opposite, linkOf}
+use Rattle.stream_rules.specs.Halves.{StreamListing, firstHalf, secondHalf, linkHalves, halves, sameHalf, opposite, linkOf}
 use Rattle.stream_rules.specs.Reading.{withLink, arrived, added}
 
 -- what f gives over the halves, added up
@@ -124,12 +124,12 @@ unfolding total linkHalves
 links-more f [] l = omega arith
 links-more f (k ∷ ls) l = omega (arith, links-more f ls l)
 
-pub halves-total : (f : Half → ℕ) (p : Listing) → total f (halves p) ≡ total f (linkHalves (p .contents .links)) + total f (p .lone)
+pub halves-total : (f : Half → ℕ) (p : StreamListing) → total f (halves p) ≡ total f (linkHalves (p .contents .links)) + total f (p .lone)
 unfolding halves
 halves-total f p = total-append f (linkHalves (p .contents .links)) (p .lone)
 
 -- a record 2 adds both halves
-pub adds-link : (p : Listing) (h : Half) → Adds (halves p ++ (h ∷ [])) (opposite h) (halves (added p (record-of.Link h)))
+pub adds-link : (p : StreamListing) (h : Half) → Adds (halves p ++ (h ∷ [])) (opposite h) (halves (added p (record-of.Link h)))
 unfolding added withLink linkOf firstHalf secondHalf opposite
 adds-link p h f =
     omega (

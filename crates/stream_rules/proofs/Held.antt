@@ -11,7 +11,7 @@ use Rattle.topology_types.specs.declared.Topology.{Topology}
 use Rattle.topology_types.specs.Limits.{mostRouters, mostLinks}
 use Rattle.topology_types.specs.Topology.{Contents, noLink, padded, contents, held}
 use Rattle.stream_rules.specs.Reading.{withRouter, withLink, withLimit}
-use Rattle.stream_rules.specs.Inner.{Listed}
+use Rattle.stream_rules.specs.Inner.{WhileRead}
 
 -- what a topology holds is what was put in
 pub contents-held : (c : Contents) → contents (held c) ≡ c
@@ -61,7 +61,7 @@ link-held c l h =
     λ i. record { routers = length (c .ids); links = more i; limit = c .limit; id = padded 0 mostRouters (c .ids); link = stored i }
 
 -- what is listed lies in the slots as `held` has it, so that the code's store lists one more
-module _ (t : Topology) (listed : Listed t) where
+module _ (t : Topology) (listed : WhileRead t) where
   pub routers-held : t .routers ≡ length (contents t .ids)
   unfolding held
   routers-held = ap (λ (s : Topology). s .routers) (listed .whole)

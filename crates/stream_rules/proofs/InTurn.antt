@@ -13,10 +13,10 @@ use Rattle.topology_types.specs.declared.Half.{Half}
 use Rattle.topology_types.specs.Topology.{noLink, padded, held, zeros}
 use Rattle.stream_rules.specs.declared.Record.{Record}
 use Rattle.stream_rules.specs.declared.Record.the-variants as record-of
-use Rattle.stream_rules.specs.Halves.{Listing, linkHalves, halves, opposite, linkOf}
+use Rattle.stream_rules.specs.Halves.{StreamListing, linkHalves, halves, opposite, linkOf}
 use Rattle.stream_rules.specs.Stream.{bigEndianOn, bigEndian, bodyLength, halfIn, decoded, recordIn, records}
-use Rattle.stream_rules.specs.Reading.{refusal, fault, withRouter, withLink, withLimit, added, width, isEnd, ended, unless, some?, inTurn, nothingListed, reading}
-use Rattle.stream_rules.specs.Theorems.{fourBytes, twoBytes, halfOf, Lists, refused, ReadsInTurn}
+use Rattle.stream_rules.specs.Reading.{refusal, fault, withRouter, withLink, withLimit, added, width, isEnd, ended, unless, anyRecord?, inTurn, nothingListed, reading}
+use Rattle.stream_rules.specs.Theorems.{fourBytes, twoBytes, halfOf, BytesList, refused, ReadsInTurn}
 use Rattle.stream_rules.proofs.Halves.{total}
 use Rattle.stream_rules.proofs.Opposite.{Once}
 use Rattle.stream_rules.proofs.Lone.{once-added, first-added, second-added}
@@ -64,65 +64,65 @@ unfolding records recordIn decoded bodyLength
 next-end rest = rw (le-ltb (length rest) 0 (omega arith))
 
 -- it is taken, or it ends the reading
-pub goes-on : (at : ℕ) (p : Listing) (r : Record) (rs : List Record) → fault p r ≡ 0 → isEnd r ≡ false →
+pub goes-on : (at : ℕ) (p : StreamListing) (r : Record) (rs : List Record) → fault p r ≡ 0 → isEnd r ≡ false →
     inTurn at p (r ∷ rs) ≡ inTurn (at + width r) (added p r) rs
 unfolding inTurn unless
 goes-on at p r rs e f = rw (e, f)
 
-stops : (at : ℕ) (p : Listing) (r : Record) (rs : List Record) (number : ℕ) → fault p r ≡ suc number → inTurn at p (r ∷ rs) ≡ refused (suc number) at
+stops : (at : ℕ) (p : StreamListing) (r : Record) (rs : List Record) (number : ℕ) → fault p r ≡ suc number → inTurn at p (r ∷ rs) ≡ refused (suc number) at
 unfolding inTurn unless refusal zeros noLink held padded
 stops at p r rs number e = rw e
 
-ends : (at : ℕ) (p : Listing) (rs : List Record) → inTurn at p (record-of.End ∷ rs) ≡ ended (some? rs) at (p .contents)
+ends : (at : ℕ) (p : StreamListing) (rs : List Record) → inTurn at p (record-of.End ∷ rs) ≡ ended (anyRecord? rs) at (p .contents)
 unfolding inTurn unless fault isEnd
 ends at p rs = refl
 
-module _ (s : List ℕ) (p : Listing) where
+module _ (s : List ℕ) (p : StreamListing) where
   -- after s the reading stands at its end with p
   abbrev Stands : Type 0
   Stands = (rest : List ℕ) → reading (s ++ rest) ≡ inTurn (length s) p (records 0 rest)
 
   one-more : (bytes : List ℕ) (r : Record) → ((rest : List ℕ) → records 0 (bytes ++ rest) ≡ r ∷ records 0 rest) → length bytes ≡ width r →
-      fault p r ≡ 0 → isEnd r ≡ false → {q : Listing} → added p r ≡ q → Stands → (rest : List ℕ) →
+      fault p r ≡ 0 → isEnd r ≡ false → {q : StreamListing} → added p r ≡ q → Stands → (rest : List ℕ) →
       reading ((s ++ bytes) ++ rest) ≡ inTurn (length (s ++ bytes)) q (records 0 rest)
   one-more bytes r is long ok more then stands rest =
       rw (append-assoc s bytes rest, stands (bytes ++ rest), is rest, goes-on (length s) p r (records 0 rest) ok more, then, length-append s bytes, long)
 
-lists-once : {s : List ℕ} {p : Listing} → Lists s p → Once (halves p)
+lists-once : {s : List ℕ} {p : StreamListing} → BytesList s p → Once (halves p)
 unfolding added withRouter withLink withLimit linkOf opposite
-lists-once Lists.nothing = λ g. unfold halves linkHalves total in omega arith
-lists-once (Lists.router {p = p} a b e f ok l) = once-added p (lists-once l) (record-of.Router (fourBytes a b e f)) ok
-lists-once (Lists.link {p = p} u v e f ok l) = once-added p (lists-once l) (record-of.Link (halfOf u v (twoBytes e f))) ok
-lists-once (Lists.first-half {p = p} u v e f ok out l) =
-    subst (λ (q : Listing). Once (halves q)) (first-added p u v (twoBytes e f) out) (once-added p (lists-once l) (record-of.Half (halfOf u v (twoBytes e f))) ok)
-lists-once (Lists.second-half {p = p} u v e f ok before c after stands l) =
+lists-once BytesList.nothing = λ g. unfold halves linkHalves total in omega arith
+lists-once (BytesList.router {p = p} a b e f ok l) = once-added p (lists-once l) (record-of.Router (fourBytes a b e f)) ok
+lists-once (BytesList.link {p = p} u v e f ok l) = once-added p (lists-once l) (record-of.Link (halfOf u v (twoBytes e f))) ok
+lists-once (BytesList.first-half {p = p} u v e f ok out l) =
+    subst (λ (q : StreamListing). Once (halves q)) (first-added p u v (twoBytes e f) out) (once-added p (lists-once l) (record-of.Half (halfOf u v (twoBytes e f))) ok)
+lists-once (BytesList.second-half {p = p} u v e f ok before c after stands l) =
     let once = lists-once l in
-    subst (λ (q : Listing). Once (halves q)) (second-added p u v (twoBytes e f) once before c after stands)
+    subst (λ (q : StreamListing). Once (halves q)) (second-added p u v (twoBytes e f) once before c after stands)
     (once-added p once (record-of.Half (halfOf u v (twoBytes e f))) ok)
-lists-once (Lists.limit {p = p} k ok l) = once-added p (lists-once l) (record-of.Limit k) ok
+lists-once (BytesList.limit {p = p} k ok l) = once-added p (lists-once l) (record-of.Limit k) ok
 
-stands : {s : List ℕ} {p : Listing} → Lists s p → (rest : List ℕ) → reading (s ++ rest) ≡ inTurn (length s) p (records 0 rest)
+stands : {s : List ℕ} {p : StreamListing} → BytesList s p → (rest : List ℕ) → reading (s ++ rest) ≡ inTurn (length s) p (records 0 rest)
 unfolding reading nothingListed added withRouter withLink withLimit linkOf opposite isEnd width
-stands Lists.nothing rest = refl
-stands (Lists.router {s} {p} a b e f ok l) rest =
+stands BytesList.nothing rest = refl
+stands (BytesList.router {s} {p} a b e f ok l) rest =
     one-more s p (1 ∷ a ∷ b ∷ e ∷ f ∷ []) (record-of.Router (fourBytes a b e f)) (next-router a b e f) refl ok refl refl (λ more. stands l more) rest
-stands (Lists.link {s} {p} u v e f ok l) rest =
+stands (BytesList.link {s} {p} u v e f ok l) rest =
     one-more s p (2 ∷ u ∷ v ∷ e ∷ f ∷ []) (record-of.Link (halfOf u v (twoBytes e f))) (next-link u v e f) refl ok refl refl (λ more. stands l more) rest
-stands (Lists.first-half {s} {p} u v e f ok out l) rest =
+stands (BytesList.first-half {s} {p} u v e f ok out l) rest =
     one-more s p (4 ∷ u ∷ v ∷ e ∷ f ∷ []) (record-of.Half (halfOf u v (twoBytes e f))) (next-half u v e f) refl ok refl
     (first-added p u v (twoBytes e f) out) (λ more. stands l more) rest
-stands (Lists.second-half {s} {p} u v e f ok before c after is l) rest =
+stands (BytesList.second-half {s} {p} u v e f ok before c after is l) rest =
     one-more s p (4 ∷ u ∷ v ∷ e ∷ f ∷ []) (record-of.Half (halfOf u v (twoBytes e f))) (next-half u v e f) refl ok refl
     (second-added p u v (twoBytes e f) (lists-once l) before c after is) (λ more. stands l more) rest
-stands (Lists.limit {s} {p} k ok l) rest = one-more s p (8 ∷ k ∷ []) (record-of.Limit k) (next-limit k) refl ok refl refl (λ more. stands l more) rest
+stands (BytesList.limit {s} {p} k ok l) rest = one-more s p (8 ∷ k ∷ []) (record-of.Limit k) (next-limit k) refl ok refl refl (λ more. stands l more) rest
 
-module _ (s : List ℕ) (p : Listing) (l : Lists s p) where
+module _ (s : List ℕ) (p : StreamListing) (l : BytesList s p) where
   -- the next record ends the reading there
   refuses : (bytes : List ℕ) (r : Record) (rs : List Record) (number : ℕ) → records 0 bytes ≡ r ∷ rs → fault p r ≡ suc number →
       reading (s ++ bytes) ≡ refused (suc number) (length s)
   refuses bytes r rs number is e = stands l bytes ∙ rw is (stops (length s) p r rs number e)
 
-  end-here : (rest : List ℕ) → reading (s ++ (3 ∷ rest)) ≡ ended (some? (records 0 rest)) (length s) (p .contents)
+  end-here : (rest : List ℕ) → reading (s ++ (3 ∷ rest)) ≡ ended (anyRecord? (records 0 rest)) (length s) (p .contents)
   end-here rest = stands l (3 ∷ rest) ∙ rw (next-end rest) (ends (length s) p (records 0 rest))
 
   no-record : reading s ≡ refused 1 (length s)
@@ -130,7 +130,7 @@ module _ (s : List ℕ) (p : Listing) (l : Lists s p) where
   no-record = ap reading (sym (append-nil s)) ∙ stands l []
 
 pub reads-in-turn : ReadsInTurn
-unfolding fault bodyLength some? records
+unfolding fault bodyLength anyRecord? records
 reads-in-turn s p l = record {
   no-record = no-record s p l;
   unknown = λ kind n1 n2 n3 n4 n8 rest. refuses s p l _ _ _ 1 (next-unknown kind n1 n2 n3 n4 n8 rest) refl;

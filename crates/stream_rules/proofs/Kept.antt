@@ -24,9 +24,9 @@ use Rattle.topology_sound.specs.Sound.{within}
 use Rattle.topology_sound.proofs.Sound.{within-fact}
 use Rattle.stream_rules.specs.declared.Record.{Record}
 use Rattle.stream_rules.specs.declared.Record.the-variants as record-of
-use Rattle.stream_rules.specs.Halves.{Listing, linkHalves, halves, sameHalf, leaves, opposite}
+use Rattle.stream_rules.specs.Halves.{StreamListing, linkHalves, halves, sameHalf, leaves, opposite}
 use Rattle.stream_rules.specs.Reading.{repeated, crowded, fault, withRouter, withLink, withLimit, arrived, added, nothingListed}
-use Rattle.stream_rules.specs.Inner.{Listed}
+use Rattle.stream_rules.specs.Inner.{WhileRead}
 use Rattle.stream_rules.proofs.Stream.{whole}
 use Rattle.stream_rules.proofs.Fitting.{Fitting}
 use Rattle.stream_rules.proofs.Held.{contents-held}
@@ -36,7 +36,7 @@ use Rattle.stream_rules.proofs.Opposite.{adds-half}
 use Rattle.stream_rules.proofs.GoodHalves.{asLink, unsound, GoodHalves, good-none, good-more, sound-among-more, same-none, leaves-other}
 use Rattle.stream_rules.proofs.GoodHalves.{links-many, pairs-apart, arcs-few, links-sound}
 
-pub record Good (p : Listing) : Type 0 where
+pub record Good (p : StreamListing) : Type 0 where
   pub routers-fit : length (p .contents .ids) ≤ 64
   pub limit-least : 1 ≤ p .contents .limit
   pub limit-most : p .contents .limit ≤ 16
@@ -45,7 +45,7 @@ pub record Good (p : Listing) : Type 0 where
   pub good-halves : GoodHalves (length (p .contents .ids)) (halves p)
 
 -- what that says of the links
-module _ (p : Listing) (g : Good p) where
+module _ (p : StreamListing) (g : Good p) where
   part : (f : Half → ℕ) → total f (linkHalves (p .contents .links)) ≤ total f (halves p)
   part f = omega (arith, halves-total f p)
 
@@ -77,7 +77,7 @@ good-nothing =
     }
 
 -- halves that a record lists, as tests of totals
-module _ (p : Listing) where
+module _ (p : StreamListing) where
   pub fresh-none : (h : Half) → repeated p h ≡ false → total (one (sameHalf h)) (halves p) ≡ 0
   unfolding repeated
   fresh-none h e = none-total (sameHalf h) (halves p) e
@@ -98,7 +98,7 @@ module _ (p : Listing) where
         back-most = omega arith;
       }
 
-module _ (p : Listing) (g : Good p) where
+module _ (p : StreamListing) (g : Good p) where
   n : ℕ
   n = length (p .contents .ids)
 
@@ -155,7 +155,7 @@ module _ (p : Listing) (g : Good p) where
       (omega (arith, more (one (leaves (h .to .0))), few-leave p (h .to .0) few′, leaves-other (h .to .0) h (s .ends-differ)))
 
   -- the same routers and K with other halves
-  relisted : (q : Listing) → p .contents .ids ≡ q .contents .ids → p .contents .limit ≡ q .contents .limit → GoodHalves n (halves q) → Good q
+  relisted : (q : StreamListing) → p .contents .ids ≡ q .contents .ids → p .contents .limit ≡ q .contents .limit → GoodHalves n (halves q) → Good q
   unfolding n
   relisted q ids limit w = record {
     routers-fit = rw ids at (g .routers-fit);
@@ -197,7 +197,7 @@ module _ (p : Listing) (g : Good p) where
   kept record-of.End e fits = g
   kept (record-of.Refused number) e fits = g
 
-pub good-listed : (p : Listing) → Good p → Listed (held (p .contents))
+pub good-listed : (p : StreamListing) → Good p → WhileRead (held (p .contents))
 unfolding held
 good-listed p g =
     record {

@@ -13,7 +13,7 @@ pub mod Returned
 pub mod Decides
 pub mod HalfVerdicts
 pub mod Verdicts
-pub mod Table
+pub mod Facts
 pub mod Lone
 pub mod InTurn
 pub mod Numbers

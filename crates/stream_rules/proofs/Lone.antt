@@ -14,7 +14,7 @@ use Rattle.network.proofs.Lists.{any-some}
 use Rattle.topology_types.specs.declared.Half.{Half}
 use Rattle.stream_rules.specs.declared.Record.{Record}
 use Rattle.stream_rules.specs.declared.Record.the-variants as record-of
-use Rattle.stream_rules.specs.Halves.{Listing, halves, sameHalf, opposite, linkOf}
+use Rattle.stream_rules.specs.Halves.{StreamListing, halves, sameHalf, opposite, linkOf}
 use Rattle.stream_rules.specs.Reading.{repeated, fault, withRouter, withLink, withLimit, arrived, added}
 use Rattle.stream_rules.specs.Theorems.{halfOf, linkAt}
 use Rattle.stream_rules.proofs.NoFault.{halves-pass, one-fails, both-fail}
@@ -61,7 +61,7 @@ unfolding opposite
 not-itself h apart = same-none (opposite h) h (λ e. apart (sym e))
 
 -- no half is listed twice, whatever they cost
-pub once-added : (p : Listing) → Once (halves p) → (r : Record) → fault p r ≡ 0 → Once (halves (added p r))
+pub once-added : (p : StreamListing) → Once (halves p) → (r : Record) → fault p r ≡ 0 → Once (halves (added p r))
 unfolding fault added withRouter withLimit halves
 once-added p once (record-of.Router id) e = once
 once-added p once (record-of.Link h) e =
@@ -78,7 +78,7 @@ once-added p once (record-of.Limit k) e = once
 once-added p once record-of.End e = once
 once-added p once (record-of.Refused number) e = once
 
-module _ (p : Listing) (u v cost : ℕ) where
+module _ (p : StreamListing) (u v cost : ℕ) where
   abbrev against : Half → Bool
   against = sameHalf (opposite (halfOf u v cost))
 

@@ -12,7 +12,7 @@ use lib.ListN.{length}
 use Rattle.network.specs.Lists.{any, member}
 use Rattle.topology_types.specs.declared.Half.{Half}
 use Rattle.topology_types.specs.Topology.{Contents}
-use Rattle.stream_rules.specs.Halves.{Listing, halves}
+use Rattle.stream_rules.specs.Halves.{StreamListing, halves}
 use Rattle.stream_rules.specs.Reading.{routerFault, repeated, crowded, halvesFault}
 
 -- a test that would refuse, in a chain that does not
@@ -35,7 +35,7 @@ router-passes c id = (
 )
 
 -- the halves `new` that a record lists, the first of which is h
-pub record NewHalves (p : Listing) (h : Half) (new : List Half) : Type 0 where
+pub record NewHalves (p : StreamListing) (h : Half) (new : List Half) : Type 0 where
   pub from-listed : h .from .0 < length (p .contents .ids)
   pub to-listed : h .to .0 < length (p .contents .ids)
   pub ends-differ : h .from .0 ≢ h .to .0
@@ -49,7 +49,7 @@ both-listed true true e = (refl, refl)
 both-listed true false e = let never : _≡_ {A = ℕ} 0 1 = cc in absurd (omega arith)
 both-listed false b e = let never : _≡_ {A = ℕ} 0 1 = cc in absurd (omega arith)
 
-pub halves-pass : (p : Listing) (h : Half) (new : List Half) → (halvesFault p h new ≡ 0) ↔ NewHalves p h new
+pub halves-pass : (p : StreamListing) (h : Half) (new : List Half) → (halvesFault p h new ≡ 0) ↔ NewHalves p h new
 unfolding halvesFault
 halves-pass p h new = (
   λ e.

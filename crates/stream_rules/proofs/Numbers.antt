@@ -14,9 +14,9 @@ use Rattle.topology_sound.specs.Sound.{within}
 use Rattle.stream_rules.specs.declared.Reading.{Reading}
 use Rattle.stream_rules.specs.declared.Record.{Record}
 use Rattle.stream_rules.specs.declared.Record.the-variants as record-of
-use Rattle.stream_rules.specs.Halves.{Listing, halves}
+use Rattle.stream_rules.specs.Halves.{StreamListing, halves}
 use Rattle.stream_rules.specs.Stream.{bigEndian, bodyLength, decoded, halfIn, recordIn, records}
-use Rattle.stream_rules.specs.Reading.{refusal, accepted, routerFault, repeated, crowded, halvesFault, fault, added, width, isEnd, ended, unless, some?, inTurn}
+use Rattle.stream_rules.specs.Reading.{refusal, acceptedReading, routerFault, repeated, crowded, halvesFault, fault, added, width, isEnd, ended, unless, anyRecord?, inTurn}
 use Rattle.stream_rules.specs.Reading.{nothingListed, reading}
 use Rattle.stream_rules.specs.Theorems.{ReadNumbers}
 
@@ -28,7 +28,7 @@ either : (b : Bool) (n rest : ℕ) → Met n → Met rest → Met (cond b n rest
 either true n rest m k = m
 either false n rest m k = k
 
-met-halves : (p : Listing) (h : Half) (new : List Half) → Met (halvesFault p h new)
+met-halves : (p : StreamListing) (h : Half) (new : List Half) → Met (halvesFault p h new)
 unfolding halvesFault member any
 met-halves p h new =
     let n = length (p .contents .ids) in
@@ -40,7 +40,7 @@ met-halves p h new =
 
 -- whatever is listed before the record
 abbrev EachMet : Record → Type 0
-EachMet r = (p : Listing) → Met (fault p r)
+EachMet r = (p : StreamListing) → Met (fault p r)
 
 met-router : (id : ℕ) → EachMet (record-of.Router id)
 unfolding fault routerFault member any
@@ -77,25 +77,25 @@ met-unless zero at r m rest = rest
 met-unless (suc number) at r m rest = m
 
 met-ended : (follows : Bool) (at : ℕ) (c : Contents) → Met (ended follows at c .answer .number)
-unfolding ended refusal accepted member any
+unfolding ended refusal acceptedReading member any
 met-ended true at c = tt
 met-ended false at c = cases (eqb (length (c .ids)) 0)
   where
-    cases : (b : Bool) → Met (cond b (refusal 12 at) (accepted c) .answer .number)
+    cases : (b : Bool) → Met (cond b (refusal 12 at) (acceptedReading c) .answer .number)
     cases true = tt
     cases false = tt
 
 -- the next record's fault, or the end's, or what comes after
-met-next : (at : ℕ) (p : Listing) (r : Record) (rs : List Record) → EachMet r → ((q : Listing) (then : ℕ) → Met (inTurn then q rs .answer .number)) →
+met-next : (at : ℕ) (p : StreamListing) (r : Record) (rs : List Record) → EachMet r → ((q : StreamListing) (then : ℕ) → Met (inTurn then q rs .answer .number)) →
     Met (inTurn at p (r ∷ rs) .answer .number)
 unfolding inTurn
 met-next at p r rs this others = met-unless (fault p r) at _ (this p) (cases (isEnd r))
   where
-    cases : (b : Bool) → Met (cond b (ended (some? rs) at (p .contents)) (inTurn (at + width r) (added p r) rs) .answer .number)
-    cases true = met-ended (some? rs) at (p .contents)
+    cases : (b : Bool) → Met (cond b (ended (anyRecord? rs) at (p .contents)) (inTurn (at + width r) (added p r) rs) .answer .number)
+    cases true = met-ended (anyRecord? rs) at (p .contents)
     cases false = others (added p r) (at + width r)
 
-met-turns : (s : List ℕ) (skipped at : ℕ) (p : Listing) → Met (inTurn at p (records skipped s) .answer .number)
+met-turns : (s : List ℕ) (skipped at : ℕ) (p : StreamListing) → Met (inTurn at p (records skipped s) .answer .number)
 unfolding records inTurn refusal member any
 met-turns [] skipped at p = tt
 met-turns (kind ∷ rest) zero at p =

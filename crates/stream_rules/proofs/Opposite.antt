@@ -14,7 +14,7 @@ use Rattle.network.proofs.Tests.{both, truth, as-false, as-true}
 use Rattle.network.proofs.Lists.{mem-keep}
 use Rattle.topology_types.specs.declared.Half.{Half}
 use Rattle.stream_rules.specs.declared.Record.the-variants as record-of
-use Rattle.stream_rules.specs.Halves.{Listing, firstHalf, secondHalf, linkHalves, halves, sameHalf, opposite, linkOf}
+use Rattle.stream_rules.specs.Halves.{StreamListing, firstHalf, secondHalf, linkHalves, halves, sameHalf, opposite, linkOf}
 use Rattle.stream_rules.specs.Reading.{withLink, arrived, added}
 use Rattle.stream_rules.proofs.Halves.{total, one, costLike, total-append, total-split, total-keep, length-keep, none-total, nothing-kept, Adds}
 use Rattle.stream_rules.proofs.Halves.{links-more, halves-total, both-or-none}
@@ -52,7 +52,7 @@ once-more hs more h once none adds g = cases (truth (sameHalf g h))
         let last : one (sameHalf g) h ≡ 0 = ap (λ b. cond {A = ℕ} b 1 0) (as-false (sameHalf g h) o) in
         omega (arith, adds (one (sameHalf g)), once g)
 
-module _ (p : Listing) (once : Once (halves p)) (h : Half) (new : any (sameHalf h) (halves p) ≡ false) where
+module _ (p : StreamListing) (once : Once (halves p)) (h : Half) (new : any (sameHalf h) (halves p) ≡ false) where
   -- the lone halves that are the opposite
   abbrev pub opposites : List Half
   opposites = keep (sameHalf (opposite h)) (p .lone)

@@ -21,9 +21,9 @@ use Rattle.topology_sound.specs.Sound.{sound}
 use Rattle.topology_sound.specs.Theorems.{Sound}
 use Rattle.topology_sound.proofs.Sound.{sound-exact}
 use Rattle.stream_rules.specs.declared.Record.{Record}
-use Rattle.stream_rules.specs.Halves.{Listing}
+use Rattle.stream_rules.specs.Halves.{StreamListing}
 use Rattle.stream_rules.specs.Stream.{bodyLength, records}
-use Rattle.stream_rules.specs.Reading.{refusal, accepted, fault, added, width, isEnd, ended, unless, some?, inTurn, nothingListed, reading}
+use Rattle.stream_rules.specs.Reading.{refusal, acceptedReading, fault, added, width, isEnd, ended, unless, anyRecord?, inTurn, nothingListed, reading}
 use Rattle.stream_rules.specs.Theorems.{Bytes, Read, ReadsSound}
 use Rattle.stream_rules.proofs.Held.{contents-held, padded-length}
 use Rattle.stream_rules.proofs.Fitting.{Fitting, record-fits}
@@ -39,7 +39,7 @@ module _ {A : Type 0} (z : A) (slots : ℕ) (xs : List A) (fit : length xs ≤ s
   padded-rest x m = mem-replicate (slots - length xs) z (rw drop-append-seam at m)
 
 -- what is good and has a router is sound
-module _ (p : Listing) (g : Good p) (some : 0 < length (p .contents .ids)) where
+module _ (p : StreamListing) (g : Good p) (some : 0 < length (p .contents .ids)) where
   abbrev c : Contents
   c = p .contents
 
@@ -80,9 +80,9 @@ unfolding refusal zeros held padded noLink
 read-refusal number at other =
     record { at-none = λ z. absurd (other z); is-sound = λ z. absurd (other z); zeros = λ n. refl }
 
-module _ (p : Listing) (g : Good p) where
-  read-accepted : 0 < length (p .contents .ids) → Read (accepted (p .contents))
-  unfolding accepted
+module _ (p : StreamListing) (g : Good p) where
+  read-accepted : 0 < length (p .contents .ids) → Read (acceptedReading (p .contents))
+  unfolding acceptedReading
   read-accepted some = record { at-none = λ z. refl; is-sound = λ z. good-sound p g some; zeros = λ other. absurd (other refl) }
 
   pub ended-reads : (follows : Bool) (at : ℕ) → Read (ended follows at (p .contents))
@@ -90,11 +90,11 @@ module _ (p : Listing) (g : Good p) where
   ended-reads true at = read-refusal 11 (at + 1) (λ e. omega (arith, e))
   ended-reads false at = cases (eqb (length (p .contents .ids)) 0) refl
     where
-      cases : (b : Bool) → eqb (length (p .contents .ids)) 0 ≡ b → Read (cond b (refusal 12 at) (accepted (p .contents)))
+      cases : (b : Bool) → eqb (length (p .contents .ids)) 0 ≡ b → Read (cond b (refusal 12 at) (acceptedReading (p .contents)))
       cases true e = read-refusal 12 at (λ e. omega (arith, e))
       cases false e = read-accepted (omega (arith, eqb-false (length (p .contents .ids)) 0 e))
 
-turns-read : (rs : List Record) (at : ℕ) (p : Listing) → Good p → ((r : Record) → List·Memᴰ r rs → Fitting r) → Read (inTurn at p rs)
+turns-read : (rs : List Record) (at : ℕ) (p : StreamListing) → Good p → ((r : Record) → List·Memᴰ r rs → Fitting r) → Read (inTurn at p rs)
 unfolding inTurn unless
 turns-read [] at p g fit = read-refusal 1 at (λ e. omega (arith, e))
 turns-read (r ∷ rs) at p g fit =
@@ -102,8 +102,8 @@ turns-read (r ∷ rs) at p g fit =
     (λ e. turns-read rs (at + width r) (added p r) (kept p g r e (fit r (List·Memᴰ·head refl))) (λ q m. fit q (List·Memᴰ·tail m)))
   where
     cases : (number : ℕ) → fault p r ≡ number → (b : Bool) → (fault p r ≡ 0 → Read (inTurn (at + width r) (added p r) rs)) →
-        Read (unless number at (cond b (ended (some? rs) at (p .contents)) (inTurn (at + width r) (added p r) rs)))
-    cases zero e true rest = ended-reads p g (some? rs) at
+        Read (unless number at (cond b (ended (anyRecord? rs) at (p .contents)) (inTurn (at + width r) (added p r) rs)))
+    cases zero e true rest = ended-reads p g (anyRecord? rs) at
     cases zero e false rest = rest e
     cases (suc number) e b rest = read-refusal (suc number) at (λ z. omega (arith, z))
 

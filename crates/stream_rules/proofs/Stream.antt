@@ -16,9 +16,9 @@ use lib.ListN.{length, getD, take, drop, length-drop}
 use lib.Seq.{drop-cons}
 use Rattle.stream_rules.specs.declared.Record.{Record}
 use Rattle.stream_rules.specs.declared.Record.the-variants as record-of
-use Rattle.stream_rules.specs.Halves.{Listing}
+use Rattle.stream_rules.specs.Halves.{StreamListing}
 use Rattle.stream_rules.specs.Stream.{bigEndianOn, bigEndian, bodyLength, decoded, halfIn, recordIn, records}
-use Rattle.stream_rules.specs.Reading.{fault, width, some?}
+use Rattle.stream_rules.specs.Reading.{fault, width, anyRecord?}
 
 -- the bytes from at on, by the first two
 pub two-bytes : (s : List ℕ) (at : ℕ) → at + 2 ≤ length s → drop at s ≡ getD s at 0 ∷ getD s (at + 1) 0 ∷ drop (at + 2) s
@@ -120,7 +120,7 @@ unfolding width
 width-within s = ⊎-elim (λ r. rw r zero-le) (⊎-elim (λ r. rw r zero-le) (λ w. w .fits)) (first-record s)
 
 -- a record that has no fault is whole, the end too
-pub whole-record : (p : Listing) (s : List ℕ) → fault p (recordIn s) ≡ 0 → WholeRecord s
+pub whole-record : (p : StreamListing) (s : List ℕ) → fault p (recordIn s) ≡ 0 → WholeRecord s
 unfolding fault
 whole-record p s e = ⊎-elim (λ r. absurd (omega (arith, rw r at e))) (⊎-elim (λ r. absurd (omega (arith, rw r at e))) (λ w. w)) (first-record s)
 
@@ -128,7 +128,7 @@ pub no-bytes : records 0 [] ≡ []
 unfolding records
 no-bytes = refl
 
-pub some-records : (s : List ℕ) → some? (records 0 s) ≡ ltb 0 (length s)
-unfolding records some?
+pub some-records : (s : List ℕ) → anyRecord? (records 0 s) ≡ ltb 0 (length s)
+unfolding records anyRecord?
 some-records [] = refl
 some-records (b ∷ s) = sym (lt-ltb 0 (suc (length s)) (omega arith))

@@ -17,13 +17,13 @@ use Rattle.topology_types.specs.Topology.{Contents, padded, noLink, held}
 use Rattle.topology_types.specs.Outcome.{answer}
 use Rattle.topology_sound.specs.Sound.{within}
 use Rattle.stream_rules.specs.declared.Reading.{Reading}
-use Rattle.stream_rules.specs.Halves.{Listing, halves}
-use Rattle.stream_rules.specs.Reading.{refusal, accepted, routerFault, fault, ended}
+use Rattle.stream_rules.specs.Halves.{StreamListing, halves}
+use Rattle.stream_rules.specs.Reading.{refusal, acceptedReading, routerFault, fault, ended}
 use Rattle.stream_rules.specs.Theorems.{RouterFaults, listedIn, LimitFaults, EndFaults, FaultsEach}
 use Rattle.stream_rules.proofs.Decides.{Decides, holds, fails, decide, both, most, later, neither, found, past, Left, next, says, ends}
 use Rattle.stream_rules.proofs.HalfVerdicts.{half-faults, link-faults}
 
-module _ (p : Listing) where
+module _ (p : StreamListing) where
   listed : (id : ℕ) → Decides (List·Memᴰ id (p .contents .ids)) (List·Memᴰ id (p .contents .ids) → ⊥) (member id (p .contents .ids))
   listed id = decide (member id (p .contents .ids)) (member-mem id (p .contents .ids)) (λ o m. o (mem-member id (p .contents .ids) m)) (λ o m. o m)
 
@@ -60,8 +60,8 @@ module _ (c : Contents) (p : ℕ) where
   -- by the two tests
   by-tests : (at : ℕ) {follows none : Bool} → Decides (follows ≡ true) (follows ≡ false) follows →
       Decides (length (c .ids) ≡ 0) (0 < length (c .ids)) none →
-      EndFaults c follows at p (cond follows (refusal 11 (at + 1)) (cond none (refusal 12 at) (accepted c)) .answer)
-  unfolding refusal accepted
+      EndFaults c follows at p (cond follows (refusal 11 (at + 1)) (cond none (refusal 12 at) (acceptedReading c)) .answer)
+  unfolding refusal acceptedReading
   by-tests at (holds e o) d =
       record {
         says-11 = (λ a. (at-of a, e), λ (z, f). ap (answer 11) (sym z));
@@ -96,9 +96,9 @@ module _ (c : Contents) (p : ℕ) where
 
 -- a reading that is not refused passed every test, and returns what is listed
 module _ (c : Contents) (at : ℕ) where
-  by-cases : (follows none : Bool) (r : Reading) → r ≡ cond follows (refusal 11 (at + 1)) (cond none (refusal 12 at) (accepted c)) →
+  by-cases : (follows none : Bool) (r : Reading) → r ≡ cond follows (refusal 11 (at + 1)) (cond none (refusal 12 at) (acceptedReading c)) →
       r .answer .number ≡ 0 → r .topology ≡ listedIn c
-  unfolding refusal accepted held padded noLink
+  unfolding refusal acceptedReading held padded noLink
   by-cases true none r e z = absurd (omega (arith, ap (λ (x : Reading). x .answer .number) e))
   by-cases false true r e z = absurd (omega (arith, ap (λ (x : Reading). x .answer .number) e))
   by-cases false false r e z = ap (λ (x : Reading). x .topology) e

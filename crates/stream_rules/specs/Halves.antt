@@ -9,7 +9,7 @@ use Rattle.topology_types.specs.declared.Link.{Link}
 use Rattle.topology_types.specs.Topology.{Contents}
 
 -- What is listed while records are taken: routers, links and K, and the lone halves in the order in which they came.
-pub record Listing : Type 0 where
+pub record StreamListing : Type 0 where
   pub contents : Contents
   pub lone : List Half
 
@@ -25,7 +25,7 @@ linkHalves [] = []
 linkHalves (l ∷ ls) = firstHalf l ∷ secondHalf l ∷ linkHalves ls
 
 -- every half that is listed: both of each link, and the lone ones
-unfoldable pub halves : Listing → List Half
+unfoldable pub halves : StreamListing → List Half
 halves p = linkHalves (p .contents .links) ++ p .lone
 
 -- 02, #105, 8: the same half, from one place to the other, whatever it costs

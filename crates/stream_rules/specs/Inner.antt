@@ -11,18 +11,18 @@ use Rattle.topology_types.specs.declared.Half.{Half}
 use Rattle.topology_types.specs.declared.Topology.{Topology}
 use Rattle.topology_types.specs.Limits.{mostRouters}
 use Rattle.topology_types.specs.Topology.{contents, held}
-use Rattle.topology_types.specs.Inner.{Counted}
-use Rattle.stream_rules.specs.Halves.{Listing, halves, leaves}
+use Rattle.topology_types.specs.Inner.{CountsFit}
+use Rattle.stream_rules.specs.Halves.{StreamListing, halves, leaves}
 use Rattle.stream_rules.specs.Reading.{repeated}
 
 -- the counts are within the limits, and unused slots are zero: what holds of a topology while it is read
-pub record Listed (t : Topology) : Type 0 where
-  pub counted : Counted t
+pub record WhileRead (t : Topology) : Type 0 where
+  pub counted : CountsFit t
   pub whole : t ≡ held (contents t)
 
 -- what is known of the listing without going through its halves: n routers, m halves, a table that has 0 at u * 64 + v exactly
 -- where the half from u to v is not listed, and one that has at u how many halves leave u
-pub record Indexed (p : Listing) (n m : ℕ) (costs leaving : List ℕ) : Type 0 where
+pub record Indexed (p : StreamListing) (n m : ℕ) (costs leaving : List ℕ) : Type 0 where
   pub routers : n ≡ length (p .contents .ids)
   pub many : m ≡ length (halves p)
   pub listed : (h : Half) → h .from .0 < mostRouters → h .to .0 < mostRouters →

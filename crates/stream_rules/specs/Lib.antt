@@ -3,4 +3,4 @@ pub mod Stream
 pub mod Reading
 pub mod Inner
 pub mod Theorems
-pub mod Table
+pub mod Facts

@@ -15,7 +15,7 @@ use Rattle.topology_sound.specs.Sound.{within}
 use Rattle.stream_rules.specs.declared.Reading.{Reading}
 use Rattle.stream_rules.specs.declared.Record.{Record}
 use Rattle.stream_rules.specs.declared.Record.the-variants as record-of
-use Rattle.stream_rules.specs.Halves.{Listing, halves, sameHalf, leaves, opposite, linkOf}
+use Rattle.stream_rules.specs.Halves.{StreamListing, halves, sameHalf, leaves, opposite, linkOf}
 use Rattle.stream_rules.specs.Stream.{records}
 
 -- 01, Refusals: a refused reading returns the topology of all zeros
@@ -23,23 +23,23 @@ unfoldable pub refusal : ℕ → ℕ → Reading
 refusal number at = record { answer = answer number at; topology = zeros }
 
 -- 01, Refusals: a success has number 0 and, since no buffer is written, at 0
-unfoldable pub accepted : Contents → Reading
-accepted c = record { answer = answer 0 0; topology = held c }
+unfoldable pub acceptedReading : Contents → Reading
+acceptedReading c = record { answer = answer 0 0; topology = held c }
 
 -- 01, Refusals, 3 and 4: the number of the first test that a router's record fails, 0 if it fails none
 unfoldable pub routerFault : Contents → ℕ → ℕ
 routerFault c id = cond (member id (c .ids)) 3 (cond (leb mostRouters (length (c .ids))) 4 0)
 
 -- 02, #105, 8: the half is listed already
-unfoldable pub repeated : Listing → Half → Bool
+unfoldable pub repeated : StreamListing → Half → Bool
 repeated p h = any (sameHalf h) (halves p)
 
 -- 02, #105, 10: as many halves leave the place as may leave a router
-unfoldable pub crowded : Listing → ℕ → Bool
+unfoldable pub crowded : StreamListing → ℕ → Bool
 crowded p place = leb mostNeighbours (length (keep (leaves place) (halves p)))
 
 -- 01, Refusals, 5 to 10, and 02, #105: the same of a record that lists the halves `new`, the first of which is h
-unfoldable pub halvesFault : Listing → Half → List Half → ℕ
+unfoldable pub halvesFault : StreamListing → Half → List Half → ℕ
 halvesFault p h new =
     let n = length (p .contents .ids) in
     cond (not (ltb (h .from .0) n && ltb (h .to .0) n)) 5
@@ -51,7 +51,7 @@ halvesFault p h new =
 
 -- 01, Refusals: the same of any record. 1 and 2 stand in the record's place; record 2 counts as both halves (02, #105); 16 is the limit's; the end's
 -- faults are those of `ended`.
-unfoldable pub fault : Listing → Record → ℕ
+unfoldable pub fault : StreamListing → Record → ℕ
 fault p (record-of.Router id) = routerFault (p .contents) id
 fault p (record-of.Link h) = halvesFault p h (h ∷ opposite h ∷ [])
 fault p (record-of.Half h) = halvesFault p h (h ∷ [])
@@ -71,13 +71,13 @@ withLimit c k = record { ids = c .ids; links = c .links; limit = k }
 
 -- 02, #105: two opposite halves make a link, numbered when the second arrives. What is listed with the half h, by the lone halves that are opposite to
 -- it, of which there is at most one, since no half is listed twice: without one it is lone, with one both make a link.
-unfoldable pub arrived : Listing → Half → List Half → Listing
+unfoldable pub arrived : StreamListing → Half → List Half → StreamListing
 arrived p h [] = record { contents = p .contents; lone = p .lone ++ (h ∷ []) }
 arrived p h (k ∷ ks) =
     record { contents = withLink (p .contents) (linkOf k h); lone = keep (λ lone. not (sameHalf (opposite h) lone)) (p .lone) }
 
 -- what is listed with a record more; record 2 counts as both halves, so its link is numbered then, with its places as read (02, #105)
-unfoldable pub added : Listing → Record → Listing
+unfoldable pub added : StreamListing → Record → StreamListing
 added p (record-of.Router id) = record { contents = withRouter (p .contents) id; lone = p .lone }
 added p (record-of.Link h) = record { contents = withLink (p .contents) (linkOf h (opposite h)); lone = p .lone }
 added p (record-of.Half h) = arrived p h (keep (sameHalf (opposite h)) (p .lone))
@@ -105,7 +105,7 @@ isEnd (record-of.Refused number) = false
 
 -- 01, Refusals, 11 and 12, at the end record: whether a byte follows it, and where it stands. Routers that no path joins are listed too (02, #107).
 unfoldable pub ended : Bool → ℕ → Contents → Reading
-ended follows at c = cond follows (refusal 11 (at + 1)) (cond (eqb (length (c .ids)) 0) (refusal 12 at) (accepted c))
+ended follows at c = cond follows (refusal 11 (at + 1)) (cond (eqb (length (c .ids)) 0) (refusal 12 at) (acceptedReading c))
 
 -- 01, Refusals: a fault refuses at the record, else the reading goes on
 unfoldable pub unless : ℕ → ℕ → Reading → Reading
@@ -113,18 +113,18 @@ unless zero at r = r
 unless (suc number) at r = refusal (suc number) at
 
 -- 01, Refusals, 11: whether a byte follows the end record, as it begins another record
-unfoldable pub some? : List Record → Bool
-some? [] = false
-some? (r ∷ rs) = true
+unfoldable pub anyRecord? : List Record → Bool
+anyRecord? [] = false
+anyRecord? (r ∷ rs) = true
 
 -- 01, Refusals: records are taken in turn and the first fault ends the reading; the first of them stands at `at`. At the end record lone halves are
 -- dropped (02, #105).
-unfoldable pub inTurn : ℕ → Listing → List Record → Reading
+unfoldable pub inTurn : ℕ → StreamListing → List Record → Reading
 inTurn at p [] = refusal 1 at
-inTurn at p (r ∷ rs) = unless (fault p r) at (cond (isEnd r) (ended (some? rs) at (p .contents)) (inTurn (at + width r) (added p r) rs))
+inTurn at p (r ∷ rs) = unless (fault p r) at (cond (isEnd r) (ended (anyRecord? rs) at (p .contents)) (inTurn (at + width r) (added p r) rs))
 
 -- 01, Topology stream: before the first record nothing is listed; 02, #101: K is 3
-unfoldable pub nothingListed : Listing
+unfoldable pub nothingListed : StreamListing
 nothingListed = record { contents = record { ids = []; links = []; limit = defaultNextHops }; lone = [] }
 
 -- 01, Topology stream: what reading a stream returns

@@ -6,7 +6,7 @@ use mathlib.Core.List.{List, [], _∷_, _++_, List·Memᴰ}
 use mathlib.Core.Logic.{_↔_, _≢_, _⊎_}
 use mathlib.Core.Path.{_≡_}
 use lib.Dec.{T, eqb}
-use lib.ListN.{length, replicate}
+use lib.ListN.{length, getD, replicate}
 use Rattle.network.specs.Lists.{keep}
 use Rattle.topology_types.specs.declared.Answer.{Answer}
 use Rattle.topology_types.specs.declared.Half.{Half}
@@ -17,7 +17,7 @@ use Rattle.topology_types.specs.Topology.{Contents}
 use Rattle.topology_sound.specs.Sound.{sound}
 use Rattle.stream_rules.specs.declared.Reading.{Reading}
 use Rattle.stream_rules.specs.declared.Record.the-variants as record-of
-use Rattle.stream_rules.specs.Halves.{Listing}
+use Rattle.stream_rules.specs.Halves.{StreamListing}
 use Rattle.stream_rules.specs.Reading.{fault, ended, reading}
 
 -- every element is a byte
@@ -62,47 +62,47 @@ abbrev pub ReadNumbers : Type 0
 ReadNumbers = (s : List ℕ) → List·Memᴰ (reading s .answer .number) (0 ∷ 1 ∷ 2 ∷ 3 ∷ 4 ∷ 5 ∷ 6 ∷ 7 ∷ 8 ∷ 9 ∷ 10 ∷ 11 ∷ 12 ∷ 16 ∷ [])
 
 -- 01, Refusals, 3 and 4: what each number of a router's record says, after what is listed; the tests before it pass.
-pub record RouterFaults (p : Listing) (id : ℕ) : Type 0 where
+pub record RouterFaults (p : StreamListing) (id : ℕ) : Type 0 where
   pub says-3 : (fault p (record-of.Router id) ≡ 3) ↔ List·Memᴰ id (p .contents .ids)
   pub says-4 : (fault p (record-of.Router id) ≡ 4) ↔ ((List·Memᴰ id (p .contents .ids) → ⊥) × (64 ≤ length (p .contents .ids)))
   pub says-0 : (fault p (record-of.Router id) ≡ 0) ↔ ((List·Memᴰ id (p .contents .ids) → ⊥) × (length (p .contents .ids) < 64))
 
 -- 02, #105, 8: the half from u to v is listed: as a link's, in the direction from its first place to its second or the other way round, or as a lone one
-pub data HalfListed (p : Listing) (u v : ℕ) : Type 0 where
+pub data HalfListed (p : StreamListing) (u v : ℕ) : Type 0 where
   going : (l : Link) → List·Memᴰ l (p .contents .links) → l .first .0 ≡ u → l .second .0 ≡ v → HalfListed p u v
   coming : (l : Link) → List·Memᴰ l (p .contents .links) → l .second .0 ≡ u → l .first .0 ≡ v → HalfListed p u v
   alone : (k : Half) → List·Memᴰ k (p .lone) → k .from .0 ≡ u → k .to .0 ≡ v → HalfListed p u v
 
 -- 02, #105, 9: how many halves are listed: two of each link, and the lone ones
-abbrev pub halvesListed : Listing → ℕ
+abbrev pub halvesListed : StreamListing → ℕ
 halvesListed p = 2 * length (p .contents .links) + length (p .lone)
 
 -- 02, #105, 10: how many of them leave u: of links that have it as their first place or as their second, and lone ones from it
-abbrev pub halvesLeaving : Listing → ℕ → ℕ
+abbrev pub halvesLeaving : StreamListing → ℕ → ℕ
 halvesLeaving p u =
     length (keep (λ l. eqb (l .first .0) u) (p .contents .links)) + length (keep (λ l. eqb (l .second .0) u) (p .contents .links))
     + length (keep (λ k. eqb (k .from .0) u) (p .lone))
 
 -- the tests that records 2 and 4 share pass, in their order: 5; then 6; then 7
-abbrev pub BothListed : Listing → Half → Type 0
+abbrev pub BothListed : StreamListing → Half → Type 0
 BothListed p h = (h .from .0 < length (p .contents .ids)) × (h .to .0 < length (p .contents .ids))
 
-abbrev pub Differing : Listing → Half → Type 0
+abbrev pub Differing : StreamListing → Half → Type 0
 Differing p h = BothListed p h × (h .from .0 ≢ h .to .0)
 
-abbrev pub Costing : Listing → Half → Type 0
+abbrev pub Costing : StreamListing → Half → Type 0
 Costing p h = Differing p h × (h .cost ≢ 0)
 
 -- then 8 and 9 of a record 4: one half
-abbrev pub NewHalf : Listing → Half → Type 0
+abbrev pub NewHalf : StreamListing → Half → Type 0
 NewHalf p h = Costing p h × (HalfListed p (h .from .0) (h .to .0) → ⊥)
 
-abbrev pub RoomForOne : Listing → Half → Type 0
+abbrev pub RoomForOne : StreamListing → Half → Type 0
 RoomForOne p h = NewHalf p h × (halvesListed p + 1 ≤ 512)
 
 -- 01, Refusals, 5 to 10, and 02, #105: what each number of a record 4 says, after what is listed; the tests before it pass. The same half is refused,
 -- not the opposite one, and only the router that sends is crowded.
-pub record HalfFaults (p : Listing) (h : Half) : Type 0 where
+pub record HalfFaults (p : StreamListing) (h : Half) : Type 0 where
   pub says-5 : (fault p (record-of.Half h) ≡ 5) ↔ ((length (p .contents .ids) ≤ h .from .0) ⊎ (length (p .contents .ids) ≤ h .to .0))
   pub says-6 : (fault p (record-of.Half h) ≡ 6) ↔ (BothListed p h × (h .from .0 ≡ h .to .0))
   pub says-7 : (fault p (record-of.Half h) ≡ 7) ↔ (Differing p h × (h .cost ≡ 0))
@@ -112,16 +112,16 @@ pub record HalfFaults (p : Listing) (h : Half) : Type 0 where
   pub says-0 : (fault p (record-of.Half h) ≡ 0) ↔ (RoomForOne p h × (halvesLeaving p (h .from .0) < 16))
 
 -- the same of a record 2: both halves, one from each of its places
-abbrev pub EitherListed : Listing → Half → Type 0
+abbrev pub EitherListed : StreamListing → Half → Type 0
 EitherListed p h = HalfListed p (h .from .0) (h .to .0) ⊎ HalfListed p (h .to .0) (h .from .0)
 
-abbrev pub NewLink : Listing → Half → Type 0
+abbrev pub NewLink : StreamListing → Half → Type 0
 NewLink p h = Costing p h × ((HalfListed p (h .from .0) (h .to .0) → ⊥) × (HalfListed p (h .to .0) (h .from .0) → ⊥))
 
-abbrev pub RoomForTwo : Listing → Half → Type 0
+abbrev pub RoomForTwo : StreamListing → Half → Type 0
 RoomForTwo p h = NewLink p h × (halvesListed p + 2 ≤ 512)
 
-pub record LinkFaults (p : Listing) (h : Half) : Type 0 where
+pub record LinkFaults (p : StreamListing) (h : Half) : Type 0 where
   pub says-5 : (fault p (record-of.Link h) ≡ 5) ↔ ((length (p .contents .ids) ≤ h .from .0) ⊎ (length (p .contents .ids) ≤ h .to .0))
   pub says-6 : (fault p (record-of.Link h) ≡ 6) ↔ (BothListed p h × (h .from .0 ≡ h .to .0))
   pub says-7 : (fault p (record-of.Link h) ≡ 7) ↔ (Differing p h × (h .cost ≡ 0))
@@ -133,7 +133,7 @@ pub record LinkFaults (p : Listing) (h : Half) : Type 0 where
       ↔ (RoomForTwo p h × ((halvesLeaving p (h .from .0) < 16) × (halvesLeaving p (h .to .0) < 16)))
 
 -- 01, Refusals, 16: what each number of a limit's record says
-pub record LimitFaults (p : Listing) (k : ℕ) : Type 0 where
+pub record LimitFaults (p : StreamListing) (k : ℕ) : Type 0 where
   pub says-16 : (fault p (record-of.Limit k) ≡ 16) ↔ ((k ≡ 0) ⊎ (16 < k))
   pub says-0 : (fault p (record-of.Limit k) ≡ 0) ↔ ((1 ≤ k) × (k ≤ 16))
 
@@ -145,7 +145,7 @@ pub record EndFaults (c : Contents) (follows : Bool) (at points : ℕ) (a : Answ
   pub says-0 : (a ≡ answer 0 points) ↔ ((points ≡ 0) × (follows ≡ false) × (0 < length (c .ids)))
 
 -- 01, Refusals, the table and the order of the tests: what each number says, record by record, whatever is listed before it.
-pub record Faults (p : Listing) : Type 0 where
+pub record Faults (p : StreamListing) : Type 0 where
   pub routers : (id : ℕ) → RouterFaults p id
   pub links : (h : Half) → LinkFaults p h
   pub halves : (h : Half) → HalfFaults p h
@@ -158,7 +158,7 @@ pub record Faults (p : Listing) : Type 0 where
       ended follows at (p .contents) .topology ≡ listedIn (p .contents)
 
 abbrev pub FaultsEach : Type 0
-FaultsEach = (p : Listing) → Faults p
+FaultsEach = (p : StreamListing) → Faults p
 
 -- 01, Topology stream: numbers are big-endian, here of 4 bytes and of 2; a half from u to v at a cost
 abbrev pub fourBytes : ℕ → ℕ → ℕ → ℕ → ℕ
@@ -170,6 +170,13 @@ halfOf u v cost = record { from = record { 0 = u }; to = record { 0 = v }; cost 
 abbrev pub twoBytes : ℕ → ℕ → ℕ
 twoBytes e f = e * 256 + f
 
+-- the number in the two bytes, or four, from an offset on
+abbrev pub twoAt : List ℕ → ℕ → ℕ
+twoAt s at = getD s at 0 * 256 + getD s (at + 1) 0
+
+abbrev pub fourAt : List ℕ → ℕ → ℕ
+fourAt s at = ((getD s at 0 * 256 + getD s (at + 1) 0) * 256 + getD s (at + 2) 0) * 256 + getD s (at + 3) 0
+
 -- a link from u to v that costs so much that way, and so much the way back
 abbrev pub linkAt : ℕ → ℕ → ℕ → ℕ → Link
 linkAt u v cost back = record { first = record { 0 = u }; second = record { 0 = v }; cost = cost; back = back }
@@ -179,16 +186,16 @@ linkAt u v cost back = record { first = record { 0 = u }; second = record { 0 = 
 -- K is 3 if there is none (02, #101). A half is kind 4, its sender, where it sends to and its cost (02, #105). If its opposite is not among the lone
 -- halves, it is lone; if it is, that one is lone no more, and both make a link, which gets its number then: its first place is the sender of the half
 -- that was there, and each end has the cost of its own half.
-pub data Lists : List ℕ → Listing → Type 0 where
-  nothing : Lists [] (record { contents = record { ids = []; links = []; limit = 3 }; lone = [] })
-  router : {s : List ℕ} {p : Listing} (a b e f : ℕ) → fault p (record-of.Router (fourBytes a b e f)) ≡ 0 → Lists s p →
-      Lists (s ++ (1 ∷ a ∷ b ∷ e ∷ f ∷ []))
+pub data BytesList : List ℕ → StreamListing → Type 0 where
+  nothing : BytesList [] (record { contents = record { ids = []; links = []; limit = 3 }; lone = [] })
+  router : {s : List ℕ} {p : StreamListing} (a b e f : ℕ) → fault p (record-of.Router (fourBytes a b e f)) ≡ 0 → BytesList s p →
+      BytesList (s ++ (1 ∷ a ∷ b ∷ e ∷ f ∷ []))
       (record {
         contents = record { ids = p .contents .ids ++ (fourBytes a b e f ∷ []); links = p .contents .links; limit = p .contents .limit };
         lone = p .lone;
       })
-  link : {s : List ℕ} {p : Listing} (u v e f : ℕ) → fault p (record-of.Link (halfOf u v (twoBytes e f))) ≡ 0 → Lists s p →
-      Lists (s ++ (2 ∷ u ∷ v ∷ e ∷ f ∷ []))
+  link : {s : List ℕ} {p : StreamListing} (u v e f : ℕ) → fault p (record-of.Link (halfOf u v (twoBytes e f))) ≡ 0 → BytesList s p →
+      BytesList (s ++ (2 ∷ u ∷ v ∷ e ∷ f ∷ []))
       (record {
         contents =
             record {
@@ -198,12 +205,12 @@ pub data Lists : List ℕ → Listing → Type 0 where
             };
         lone = p .lone;
       })
-  first-half : {s : List ℕ} {p : Listing} (u v e f : ℕ) → fault p (record-of.Half (halfOf u v (twoBytes e f))) ≡ 0 →
-      ((cost : ℕ) → List·Memᴰ (halfOf v u cost) (p .lone) → ⊥) → Lists s p →
-      Lists (s ++ (4 ∷ u ∷ v ∷ e ∷ f ∷ [])) (record { contents = p .contents; lone = p .lone ++ (halfOf u v (twoBytes e f) ∷ []) })
-  second-half : {s : List ℕ} {p : Listing} (u v e f : ℕ) → fault p (record-of.Half (halfOf u v (twoBytes e f))) ≡ 0 →
-      (before : List Half) (cost : ℕ) (after : List Half) → p .lone ≡ before ++ (halfOf v u cost ∷ after) → Lists s p →
-      Lists (s ++ (4 ∷ u ∷ v ∷ e ∷ f ∷ []))
+  first-half : {s : List ℕ} {p : StreamListing} (u v e f : ℕ) → fault p (record-of.Half (halfOf u v (twoBytes e f))) ≡ 0 →
+      ((cost : ℕ) → List·Memᴰ (halfOf v u cost) (p .lone) → ⊥) → BytesList s p →
+      BytesList (s ++ (4 ∷ u ∷ v ∷ e ∷ f ∷ [])) (record { contents = p .contents; lone = p .lone ++ (halfOf u v (twoBytes e f) ∷ []) })
+  second-half : {s : List ℕ} {p : StreamListing} (u v e f : ℕ) → fault p (record-of.Half (halfOf u v (twoBytes e f))) ≡ 0 →
+      (before : List Half) (cost : ℕ) (after : List Half) → p .lone ≡ before ++ (halfOf v u cost ∷ after) → BytesList s p →
+      BytesList (s ++ (4 ∷ u ∷ v ∷ e ∷ f ∷ []))
       (record {
         contents =
             record {
@@ -213,8 +220,8 @@ pub data Lists : List ℕ → Listing → Type 0 where
             };
         lone = before ++ after;
       })
-  limit : {s : List ℕ} {p : Listing} (k : ℕ) → fault p (record-of.Limit k) ≡ 0 → Lists s p →
-      Lists (s ++ (8 ∷ k ∷ []))
+  limit : {s : List ℕ} {p : StreamListing} (k : ℕ) → fault p (record-of.Limit k) ≡ 0 → BytesList s p →
+      BytesList (s ++ (8 ∷ k ∷ []))
       (record { contents = record { ids = p .contents .ids; links = p .contents .links; limit = k }; lone = p .lone })
 
 -- 01, Refusals: what a refused reading returns
@@ -223,7 +230,7 @@ refused number at = record { answer = answer number at; topology = allZeros }
 
 -- 01, Refusals: records are taken in turn and the first fault ends the reading, at its record. Bytes that list so go on in one of these ways:
 -- they end (1), or the next record is of an unknown kind (2), is cut short (1), has a fault, or is the end record.
-pub record NextRecord (s : List ℕ) (p : Listing) : Type 0 where
+pub record NextRecord (s : List ℕ) (p : StreamListing) : Type 0 where
   pub no-record : reading s ≡ refused 1 (length s)
   pub unknown : (kind : ℕ) → kind ≢ 1 → kind ≢ 2 → kind ≢ 3 → kind ≢ 4 → kind ≢ 8 → (rest : List ℕ) →
       reading (s ++ (kind ∷ rest)) ≡ refused 2 (length s)
@@ -244,4 +251,4 @@ pub record NextRecord (s : List ℕ) (p : Listing) : Type 0 where
   pub end-followed : (byte : ℕ) (rest : List ℕ) → reading (s ++ (3 ∷ byte ∷ rest)) ≡ ended true (length s) (p .contents)
 
 abbrev pub ReadsInTurn : Type 0
-ReadsInTurn = (s : List ℕ) (p : Listing) → Lists s p → NextRecord s p
+ReadsInTurn = (s : List ℕ) (p : StreamListing) → BytesList s p → NextRecord s p

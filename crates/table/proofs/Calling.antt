@@ -18,25 +18,24 @@ use Rattle.network.specs.Order.{shortest-path, free, build, accepted}
 use Rattle.network.specs.Theorems.Order.{Accepted}
 use Rattle.network.proofs.Tests.{both, and, truth, as-true, as-false}
 use Rattle.network.proofs.Order.{acceptance-exact, built-accepted, shortest-path-is-free}
-use Rattle.topology_types.specs.Inner.{firstOr}
+use Rattle.topology_types.specs.Outcome.{firstOr, answer}
 use Rattle.topology_types.specs.declared.Answer.{Answer}
 use Rattle.topology_types.specs.declared.Topology.{Topology}
 use Rattle.topology_types.specs.Topology.{networkOf}
-use Rattle.topology_types.specs.Outcome.{answer}
 use Rattle.topology_sound.specs.Sound.{sound}
 use Rattle.topology_sound.proofs.Sound.{sound-networks}
 use Rattle.arcs.specs.declared.Arcs.{Arcs}
-use Rattle.arcs.specs.Arcs.{Laid}
+use Rattle.arcs.specs.Inner.{Laid}
 use Rattle.order_standings.specs.declared.Mode.{Mode}
 use Rattle.order_standings.specs.declared.Mode.the-variants as mode
-use Rattle.order.specs.Calls.{modeOf, reachedCount, orderBytes, atFirst, judging, checking}
-use Rattle.distances.specs.Settled.{Settled}
+use Rattle.order.specs.Calls.{modeOf, reachedCount, orderBytes, refusedAtFirst, judging, checking}
+use Rattle.distances.specs.Inner.{Settled}
 use Rattle.order.proofs.Answers.{is-0}
 use Rattle.order.proofs.Decided.{judged, first-there, none-there, ranks-below}
 use Rattle.order.proofs.Orders.{exact, checks}
 use Rattle.order.proofs.Reached.{accepted-long}
 use Rattle.table_rows.specs.Bytes.{rankOrNone, rowStart, tableLength}
-use Rattle.table_rows.specs.Keys.{Fillable}
+use Rattle.table_rows.specs.Inner.{Fillable}
 use Rattle.table_rows.proofs.RankBytes.{accepted-ranked}
 use Rattle.table.specs.Listed.{destinationIn, rankIn, byRank, orderIn}
 use Rattle.table.specs.Calls.{soundHeader, soundRanks, differing, wrongBytes, tableJudging}
@@ -159,7 +158,7 @@ module _ (t : Topology) (table : List ℕ) where
           (first-there (wrongBytes (networkOf t) (t .routers) table) (length table) r 21 (answer 0 0) found h)
 
       pub none-wrong : length table ≤ r → answer 0 0 ≡ tableJudging t table
-      unfolding tableJudging atFirst
+      unfolding tableJudging refusedAtFirst
       none-wrong h =
           rw (
             eq-eqb (length table) (tableLength (t .routers)) long,

@@ -6,13 +6,12 @@ use Rattle.network.specs.Distance as of-distance
 use Rattle.network.specs.Distance.{absent, distanceIn, through, round, rounds, distances}
 use Rattle.network.specs.Order.{reached, leadsInto, shortestNextHops, ready, candidate, candidatesInTurn, holdsEachOnce, firstIs, othersInTurn, accepted}
 use Rattle.network.specs.Row.{rank, sortsBefore, rankedBefore, fullRow, row}
-use Rattle.topology_types.specs.Inner.{firstOr}
-use Rattle.topology_types.specs.Outcome.{turnedAway, given}
+use Rattle.topology_types.specs.Outcome.{firstOr, turnedAway, given}
 use Rattle.topology_types.specs.Topology.{noLink, padded, contents, held, zeros, seen, networkIn, networkOf}
 use Rattle.topology_sound.specs.Sound.{within, inLimits, wellLinked, uncrowded, isNoLink, unusedZero, slotted, sound}
 use Rattle.topology.specs.Written.{joinedOver}
-use Rattle.order.specs.Calls.{modeOf, reachedCount, wrongRanks, ranksAfter, unreadyRanks, atFirst, judging, checking}
-use Rattle.order.specs.Table.{answers, link, twoCosts, T-topology, cutOff, twoParts}
+use Rattle.order.specs.Calls.{modeOf, reachedCount, wrongRanks, ranksAfter, unreadyRanks, refusedAtFirst, judging, checking}
+use Rattle.order.specs.Facts.{answers, link, twoCosts, T-topology, cutOff, twoParts}
 use Rattle.table_rows.specs.Bytes.{rankOrNone, rowBytes, headerBytes, rowOf, rowsBytes, tableBytes, rowStart}
 use Rattle.table.specs.Listed.{kindIn, destinationIn, countIn, limitIn, rankIn, byRank, orderIn, inShortestPathMode}
 use Rattle.table.specs.Calls.{unlessRefused, filling, soundHeader, soundRanks, differing, wrongBytes, tableJudging, tableChecking}
@@ -28,7 +27,7 @@ unfolding numbersFrom below keep every any leastBy insert sort member distinct s
     reached leadsInto ready candidate rank sortsBefore rankedBefore fullRow row
     turnedAway given noLink padded contents held zeros seen networkIn networkOf
     within inLimits wellLinked uncrowded isNoLink unusedZero slotted sound
-    joinedOver modeOf reachedCount wrongRanks ranksAfter unreadyRanks atFirst judging checking answers link twoCosts T-topology cutOff twoParts
+    joinedOver modeOf reachedCount wrongRanks ranksAfter unreadyRanks refusedAtFirst judging checking answers link twoCosts T-topology cutOff twoParts
     rankOrNone rowBytes headerBytes rowOf rowsBytes tableBytes rowStart unlessRefused filling
     holds lone slope F-links F-topology F-falling none one two room filled
     lone-table T-table-0 T-table-1 T-table-2 T-table-free F-table F-table-1 F-table-falling slope-table-0 slope-table-2
@@ -42,7 +41,7 @@ unfolding numbersFrom below keep every any leastBy insert sort member distinct s
     reached leadsInto ready candidate candidatesInTurn holdsEachOnce firstIs othersInTurn accepted rank sortsBefore rankedBefore fullRow row
     firstOr noLink padded contents held zeros seen networkIn networkOf
     within inLimits wellLinked uncrowded isNoLink unusedZero slotted sound
-    joinedOver atFirst answers link twoCosts T-topology cutOff twoParts
+    joinedOver refusedAtFirst answers link twoCosts T-topology cutOff twoParts
     rankOrNone rowBytes headerBytes rowOf rowsBytes tableBytes rowStart
     kindIn destinationIn countIn limitIn rankIn byRank orderIn soundHeader soundRanks differing wrongBytes tableChecking tableJudging
     holds lone slope F-links F-topology F-falling none one two checked

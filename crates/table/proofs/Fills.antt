@@ -24,7 +24,7 @@ use Rattle.order.proofs.Orders.{part-is, checks}
 use Rattle.order.proofs.Verdicts.{checks-each}
 use Rattle.table_rows.specs.Bytes.{tableBytes}
 use Rattle.table.specs.Calls.{unlessRefused, filling}
-use Rattle.table.specs.Theorems.{FillsWell, FillRefuses, TableIs, GivenBy, withLimit, GivenIsFilled}
+use Rattle.table.specs.Theorems.{FillsWell, FillRefuses, TableIs, GivenBy, limitSetTo, GivenIsFilled}
 use Rattle.table.proofs.Bytes.{bytes-exact}
 use Rattle.table.proofs.Verdicts.{table-long, tables-exact}
 
@@ -92,16 +92,16 @@ fill-refuses t d order buffer =
     }
 
 -- the network does not depend on K
-same-network : (t : Topology) (limit : ℕ) → networkOf (withLimit t limit) ≡ networkOf t
+same-network : (t : Topology) (limit : ℕ) → networkOf (limitSetTo t limit) ≡ networkOf t
 unfolding networkOf networkIn contents
 same-network t limit = refl
 
 -- a K from 1 to 16 keeps a topology sound
-limited-sound : (t : Topology) (limit : ℕ) → T (sound t) → 1 ≤ limit → limit ≤ 16 → T (sound (withLimit t limit))
+limited-sound : (t : Topology) (limit : ℕ) → T (sound t) → 1 ≤ limit → limit ≤ 16 → T (sound (limitSetTo t limit))
 unfolding networkOf networkIn contents
 limited-sound t limit s least most =
     let w = sound-exact t .0 s in
-    sound-exact (withLimit t limit) .1
+    sound-exact (limitSetTo t limit) .1
     record {
       routers-least = w .routers-least;
       routers-most = w .routers-most;
@@ -124,7 +124,7 @@ whole bytes buffer e = rw (le-ltb (length buffer) (length bytes) (omega arith), 
 
 pub given-is-filled : GivenIsFilled
 given-is-filled t s table d limit order g buffer e =
-    let u = withLimit t limit in
+    let u = limitSetTo t limit in
     let n = same-network t limit in
     let a : Accepted (networkOf u) d free order = rw n (g .in-free) in
     let bytes : table ≡ tableBytes (networkOf u) d limit order = rw n (bytes-exact (networkOf t) d limit (g .limit-most) order table .1 (g .bytes)) in

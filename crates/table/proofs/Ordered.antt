@@ -17,7 +17,7 @@ use Rattle.network.proofs.Below.{getD-below, length-map-below}
 use Rattle.network.proofs.Lists.{pairwise-split}
 use Rattle.network.proofs.Pigeon.{member?}
 use Rattle.network.proofs.Rank.{rank-in, rank-is-turn}
-use Rattle.topology_types.specs.Inner.{firstOr}
+use Rattle.topology_types.specs.Outcome.{firstOr}
 use Rattle.topology_types.specs.Topology.{padded}
 use Rattle.order.specs.Calls.{orderBytes}
 use Rattle.order_standings.proofs.Counts.{keep-append}

@@ -19,11 +19,11 @@ use Rattle.topology_types.specs.Topology.{networkOf}
 use Rattle.topology_types.specs.Outcome.{answer}
 use Rattle.topology_sound.specs.Sound.{sound}
 use Rattle.topology_sound.proofs.Sound.{sound-networks}
-use Rattle.order.specs.Calls.{atFirst}
+use Rattle.order.specs.Calls.{refusedAtFirst}
 use Rattle.table_rows.specs.Bytes.{tableBytes, rowStart}
 use Rattle.table.specs.Listed.{destinationIn, limitIn}
 use Rattle.table.specs.Calls.{wrongBytes, differing, tableJudging, tableChecking}
-use Rattle.table.specs.Theorems.{TableIs, GivenBy, SomeGive, SoundStart, WrongAt, by-length, by-start, by-byte}
+use Rattle.table.specs.Theorems.{TableIs, GivenBy, SomeGive, SoundStart, WrongTableAt, by-length, by-start, by-byte}
 use Rattle.table.specs.Theorems.{TablesExact, OnlyOneGives, TableChecked, TablesEach, AcceptedGiven}
 use Rattle.table.proofs.Bytes.{bytes-exact}
 use Rattle.table.proofs.Accepting.{starts?, its-order, starts, start-passes, none-differs, agree, first-apart, apart-first}
@@ -91,8 +91,8 @@ module _ (t : Topology) (table : List ℕ) where
           rw (b .destination, b .limit-is) (bytes-exact (networkOf t) d limit (g .limit-most) order table .1 b)
 
     -- what is wrong is refused, and what is given is accepted
-    refuses : (at : ℕ) → WrongAt t table at → tableChecking t table ≡ answer 21 at
-    unfolding tableChecking tableJudging rowStart atFirst
+    refuses : (at : ℕ) → WrongTableAt t table at → tableChecking t table ≡ answer 21 at
+    unfolding tableChecking tableJudging rowStart refusedAtFirst
     refuses at (by-length out e) = rw (good, ne-eqb (length table) (4 + 19 * t .routers) out, e)
     refuses at (by-start long none e) =
         rw (good, eq-eqb (length table) (4 + 19 * t .routers) long, as-false (starts? t table) (λ p. none _ (starts t is-sound table p)), e)
@@ -107,7 +107,7 @@ module _ (t : Topology) (table : List ℕ) where
         )
 
     accepts : SomeGive t table → tableChecking t table ≡ answer 0 0
-    unfolding tableChecking tableJudging rowStart atFirst
+    unfolding tableChecking tableJudging rowStart refusedAtFirst
     accepts (d, limit, order, g) =
         let s = start-of d limit order g in
         rw (
@@ -120,7 +120,7 @@ module _ (t : Topology) (table : List ℕ) where
 
     -- a table is wrong somewhere, or some order and K give it
     abbrev Judged : Type 0
-    Judged = ((at : ℕ) × WrongAt t table at) ⊎ SomeGive t table
+    Judged = ((at : ℕ) × WrongTableAt t table at) ⊎ SomeGive t table
 
     judge-bytes : length table ≡ 4 + 19 * t .routers → (order : List ℕ) → SoundStart t table order → (wrong : List ℕ) →
         differing table (itsBytes order) ≡ wrong → Judged
@@ -153,14 +153,14 @@ module _ (t : Topology) (table : List ℕ) where
         step (inl s) = absurd (other s (judged s))
         step (inr out) = (one-answer 14 14 at 0 e (unsound out) .1, out)
 
-    says-21 : tableChecking t table ≡ answer 21 at → T (sound t) × WrongAt t table at
+    says-21 : tableChecking t table ≡ answer 21 at → T (sound t) × WrongTableAt t table at
     says-21 e = step (truth (sound t))
       where
-        there : (s : T (sound t)) → Judged s → WrongAt t table at
-        there s (inl (r, w)) = subst (WrongAt t table) (sym (one-answer 21 21 at r e (refuses s r w) .1)) w
+        there : (s : T (sound t)) → Judged s → WrongTableAt t table at
+        there s (inl (r, w)) = subst (WrongTableAt t table) (sym (one-answer 21 21 at r e (refuses s r w) .1)) w
         there s (inr g) = absurd (omega (arith, one-answer 21 0 at 0 e (accepts s g)))
 
-        step : T (sound t) ⊎ (T (sound t) → ⊥) → T (sound t) × WrongAt t table at
+        step : T (sound t) ⊎ (T (sound t) → ⊥) → T (sound t) × WrongTableAt t table at
         step (inl s) = (s, there s (judged s))
         step (inr out) = absurd (omega (arith, one-answer 21 14 at 0 e (unsound out)))
 

@@ -15,7 +15,7 @@ use Rattle.topology_types.specs.Outcome.{answer, Outcome, turnedAway, given}
 use Rattle.topology_types.specs.Topology.{networkOf}
 use Rattle.topology_sound.specs.Sound.{sound, within}
 use Rattle.order_standings.specs.declared.Mode.the-variants as mode
-use Rattle.order.specs.Calls.{reachedCount, atFirst, checking}
+use Rattle.order.specs.Calls.{reachedCount, refusedAtFirst, checking}
 use Rattle.table_rows.specs.Bytes.{rankOrNone, tableBytes, tableLength}
 use Rattle.table.specs.Listed.{kindIn, destinationIn, countIn, limitIn, rankIn, orderIn}
 
@@ -54,7 +54,7 @@ unfoldable pub tableJudging : Topology → List ℕ → Answer
 tableJudging t table =
     cond (not (eqb (length table) (tableLength (t .routers)))) (answer 21 (length table))
     (cond (not (soundHeader (t .routers) table && soundRanks (networkOf t) (t .routers) table)) (answer 21 0)
-    (atFirst 21 (wrongBytes (networkOf t) (t .routers) table) (answer 0 0)))
+    (refusedAtFirst 21 (wrongBytes (networkOf t) (t .routers) table) (answer 0 0)))
 
 -- 14, then 21
 unfoldable pub tableChecking : Topology → List ℕ → Answer

@@ -9,7 +9,7 @@ use lib.ListN.{replicate, set, take}
 use Rattle.network.specs.Lists.{every, sameNumbers}
 use Rattle.topology_types.specs.declared.Topology.{Topology}
 use Rattle.topology_types.specs.Topology.{held, zeros, networkOf}
-use Rattle.order.specs.Table.{answers, link, twoCosts, T-topology, cutOff, twoParts}
+use Rattle.order.specs.Facts.{answers, link, twoCosts, T-topology, cutOff, twoParts}
 use Rattle.table.specs.Listed.{byRank, orderIn, inShortestPathMode}
 use Rattle.table.specs.Calls.{filling, tableChecking}
 

@@ -10,11 +10,11 @@ use Rattle.network.specs.Network.{Network}
 use Rattle.network.specs.Order.{free}
 use Rattle.network.specs.Theorems.Order.{Accepted}
 use Rattle.topology_types.specs.declared.Topology.{Topology}
-use Rattle.topology_types.specs.Inner.{firstOr}
+use Rattle.topology_types.specs.Outcome.{firstOr}
 use Rattle.topology_types.specs.Topology.{networkOf}
 use Rattle.arcs.specs.declared.Arcs.{Arcs}
 use Rattle.order.specs.Calls.{orderBytes}
-use Rattle.order.specs.Proposed.{Measured}
+use Rattle.order.specs.Inner.{Measured}
 use Rattle.table_rows.specs.Bytes.{tableLength}
 use Rattle.table.specs.Listed.{destinationIn, byRank, orderIn}
 use Rattle.table.specs.Calls.{soundHeader, soundRanks, wrongBytes}

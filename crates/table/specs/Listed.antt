@@ -10,7 +10,7 @@ use Rattle.network.specs.Network.{Arc, Network, size, arcsOf}
 use Rattle.network.specs.Order.{shortest-path, accepted}
 use Rattle.network.specs.Forwarding.{Forwarding}
 use Rattle.network.specs.Routing.{firstLive}
-use Rattle.topology_types.specs.Inner.{firstOr}
+use Rattle.topology_types.specs.Outcome.{firstOr}
 use Rattle.topology.specs.Written.{joinedOver}
 use Rattle.table_rows.specs.Bytes.{rowStart}
 
@@ -43,16 +43,16 @@ unfoldable pub entriesIn : Network → List ℕ → ℕ → List Arc
 entriesIn n table u = joinedOver (arcsTo n u) (placesIn table u)
 
 -- What a table lists: its destination, and by place the rank and the entries, each with its arc.
-pub record Listing : Type 0 where
+pub record TableListing : Type 0 where
   pub destination : ℕ
   pub rank : ℕ → ℕ
   pub entries : ℕ → List Arc
 
-unfoldable pub listed : Network → List ℕ → Listing
+unfoldable pub listed : Network → List ℕ → TableListing
 listed n table = record { destination = destinationIn table; rank = rankIn table; entries = entriesIn n table }
 
 -- 01, Packet, hop and schedule: routers that forward by what a table lists, to the first entry whose link is up
-abbrev pub forwardingBy : Listing → Forwarding
+abbrev pub forwardingBy : TableListing → Forwarding
 forwardingBy l =
     record {
       State = ℕ;

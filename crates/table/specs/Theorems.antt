@@ -97,15 +97,15 @@ OnlyOneGives =
     (d' limit' : ℕ) (order' : List ℕ) → GivenBy t table d' limit' order' → (d ≡ d') × (limit ≡ limit') × (order ≡ order')
 
 -- the topology with next-hop limit k, all else the same
-abbrev pub withLimit : Topology → ℕ → Topology
-withLimit t k = record { routers = t .routers; links = t .links; limit = k; id = t .id; link = t .link }
+abbrev pub limitSetTo : Topology → ℕ → Topology
+limitSetTo t k = record { routers = t .routers; links = t .links; limit = k; id = t .id; link = t .link }
 
 -- 01, Rows and tables: the bytes that are accepted are what filling would give for that order and the header's K, on the topology with that K.
 abbrev pub GivenIsFilled : Type 0
 GivenIsFilled =
     (t : Topology) → T (sound t) → (table : List ℕ) (d limit : ℕ) (order : List ℕ) → GivenBy t table d limit order →
     (buffer : List ℕ) → length buffer ≡ length table →
-    filling (withLimit t limit) d (upToN t order) buffer ≡ record { answer = answer 0 (length table); buffer = table }
+    filling (limitSetTo t limit) d (upToN t order) buffer ≡ record { answer = answer 0 (length table); buffer = table }
 
 -- 01, Refusals, 21: the header is sound, and the ranks are those of an order accepted in free mode
 pub record SoundStart (t : Topology) (table order : List ℕ) : Type 0 where
@@ -136,15 +136,15 @@ pub record FirstWrong (t : Topology) (table order : List ℕ) (at : ℕ) : Type 
   pub earlier : (i : ℕ) → i < at → getD table i 0 ≡ getD (tableBytes (networkOf t) (getD table 1 0) (getD table 3 0) order) i 0
 
 -- 01, Refusals, 21: where it points
-pub data WrongAt (t : Topology) (table : List ℕ) (at : ℕ) : Type 0 where
-  by-length : length table ≢ 4 + 19 * t .routers → at ≡ length table → WrongAt t table at
-  by-start : length table ≡ 4 + 19 * t .routers → ((order : List ℕ) → SoundStart t table order → ⊥) → at ≡ 0 → WrongAt t table at
-  by-byte : length table ≡ 4 + 19 * t .routers → (order : List ℕ) → SoundStart t table order → FirstWrong t table order at → WrongAt t table at
+pub data WrongTableAt (t : Topology) (table : List ℕ) (at : ℕ) : Type 0 where
+  by-length : length table ≢ 4 + 19 * t .routers → at ≡ length table → WrongTableAt t table at
+  by-start : length table ≡ 4 + 19 * t .routers → ((order : List ℕ) → SoundStart t table order → ⊥) → at ≡ 0 → WrongTableAt t table at
+  by-byte : length table ≡ 4 + 19 * t .routers → (order : List ℕ) → SoundStart t table order → FirstWrong t table order at → WrongTableAt t table at
 
 -- 01, Refusals: what each answer of checking a table says, and when it is given.
 pub record TableChecked (t : Topology) (table : List ℕ) (at : ℕ) : Type 0 where
   pub says-14 : (tableChecking t table ≡ answer 14 at) ↔ ((at ≡ 0) × (T (sound t) → ⊥))
-  pub says-21 : (tableChecking t table ≡ answer 21 at) ↔ (T (sound t) × WrongAt t table at)
+  pub says-21 : (tableChecking t table ≡ answer 21 at) ↔ (T (sound t) × WrongTableAt t table at)
   pub says-0 : (tableChecking t table ≡ answer 0 at) ↔ ((at ≡ 0) × T (sound t) × SomeGive t table)
 
 abbrev pub TablesEach : Type 0

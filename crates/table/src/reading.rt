@@ -8,7 +8,7 @@ ghost use Prim.Native.Nat.{_≤_};
 ghost use lib.Dec.{eqb};
 ghost use lib.ListN.{length};
 ghost use Rattle.network.specs.Lists.{below, every};
-ghost use Rattle.topology_types.specs.Inner.{firstOr};
+ghost use Rattle.topology_types.specs.Outcome.{firstOr};
 ghost use Rattle.topology_types.specs.Limits.{mostRouters};
 ghost use Rattle.table_rows.specs.Bytes.{tableLength};
 ghost use Rattle.table.specs.Listed.{rankIn};

@@ -17,7 +17,7 @@ ghost use Rattle.network.specs.Order as «said-order»;
 ghost use Rattle.topology_types.specs.Limits.{mostRouters};
 ghost use Rattle.topology_types.specs.Topology.{networkOf};
 ghost use Rattle.topology_sound.specs.Sound.{sound};
-ghost use Rattle.arcs.specs.Arcs.{Laid};
+ghost use Rattle.arcs.specs.Inner.{Laid};
 ghost use Rattle.order.specs.Calls.{modeOf};
 ghost use Rattle.table_rows.specs.Bytes.{tableBytes, tableLength};
 ghost use Rattle.table.specs.Listed.{byRank};

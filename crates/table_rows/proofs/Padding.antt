@@ -10,13 +10,13 @@ use lib.Seq.{length-take-le, getD-append-add, getD-take, take-suc}
 use Rattle.topology_types.specs.Topology.{padded}
 use Rattle.topology.specs.Inner.{over}
 use Rattle.topology.proofs.Over.{over-length, over-next}
-use Rattle.table_rows.specs.Keys.{placeOf}
+use Rattle.table_rows.specs.Inner.{placeInKey}
 
 module _ (keys : List ℕ) (count : ℕ) (few : count ≤ 16) (long : length keys ≡ 16) where
   abbrev pub entries : List ℕ
-  entries = padded 255 16 (map placeOf (take count keys))
+  entries = padded 255 16 (map placeInKey (take count keys))
 
-  pub named : length (map placeOf (take count keys)) ≡ count
+  pub named : length (map placeInKey (take count keys)) ≡ count
   named = simp (length-map, length-take-le count keys (omega arith))
 
   pub entries-length : length entries ≡ 16
@@ -24,17 +24,17 @@ module _ (keys : List ℕ) (count : ℕ) (few : count ≤ 16) (long : length key
   entries-length = simp (length-append, length-replicate, named) (omega arith)
 
   pub entry-used : (i : ℕ) → i < count → getD entries i 0 ≡ getD keys i 0 % 256
-  unfolding padded placeOf
+  unfolding padded placeInKey
   entry-used i h =
-      rw (List·getD-append (map placeOf (take count keys)) _ 0 i (rw named h))
-      (List·getD-map placeOf (take count keys) i 0 ∙ ap placeOf (getD-take count keys i 0 h))
+      rw (List·getD-append (map placeInKey (take count keys)) _ 0 i (rw named h))
+      (List·getD-map placeInKey (take count keys) i 0 ∙ ap placeInKey (getD-take count keys i 0 h))
 
   pub entry-unused : (i : ℕ) → count ≤ i → i < 16 → getD entries i 0 ≡ 255
   unfolding padded
   entry-unused i h k =
-      let behind : i ≡ length (map placeOf (take count keys)) + (i - count) = rw named (omega arith) in
-      ap (λ (j : ℕ). getD entries j 0) behind ∙ getD-append-add (map placeOf (take count keys)) _ (i - count) 0
-      ∙ getD-replicate (16 - length (map placeOf (take count keys))) (i - count) 255 0 (rw named (omega arith))
+      let behind : i ≡ length (map placeInKey (take count keys)) + (i - count) = rw named (omega arith) in
+      ap (λ (j : ℕ). getD entries j 0) behind ∙ getD-append-add (map placeInKey (take count keys)) _ (i - count) 0
+      ∙ getD-replicate (16 - length (map placeInKey (take count keys))) (i - count) 255 0 (rw named (omega arith))
 
 -- the first i of some bytes, put into a buffer from `at` on; a store puts the next one
 module _ (buffer : List ℕ) (at : ℕ) (xs : List ℕ) (fits : at + length xs ≤ length buffer) (i : ℕ) {out : List ℕ} (put : out ≡ over buffer at (take i xs)) where

@@ -17,13 +17,13 @@ use Rattle.topology_types.specs.Topology.{padded, networkOf}
 use Rattle.arcs.specs.declared.Arcs.{Arcs}
 use Rattle.arcs.proofs.Slots.{below-more}
 use Rattle.order.specs.declared.unchecked.Ranks.{Ranks}
-use Rattle.order.specs.Proposed.{RanksOf}
+use Rattle.order.specs.Inner.{RanksOf}
 use Rattle.topology.specs.Inner.{over}
 use Rattle.topology.specs.Written.{joinedOver}
 use Rattle.topology.proofs.Over.{over-start, over-none, over-over}
 use Rattle.topology.proofs.Joined.{joined-length, joined-many, put-length, put-next}
 use Rattle.table_rows.specs.Bytes.{rowBytes, headerBytes, rowOf, rowsBytes, tableBytes, rowStart, tableLength}
-use Rattle.table_rows.specs.Keys.{Weights, rankOf, sortedKeys, placeOf, Fillable}
+use Rattle.table_rows.specs.Inner.{Weights, rankOf, sortedKeys, placeInKey, Fillable}
 use Rattle.table_rows.proofs.RankBytes.{rank-of}
 use Rattle.table_rows.proofs.KeyLaw.{weighable, key-law}
 
@@ -82,7 +82,7 @@ pub row-put : {t : Topology} {a : Arcs} {ds : List ℕ} {d limit : ℕ} {order :
     {weights : List ℕ} → Weights (t .id) ds (t .routers) weights → {ranks : Ranks} → RanksOf order ranks → (u : ℕ) → u < t .routers →
     (keys : List ℕ) (found count : ℕ) → take found keys ≡ sortedKeys (a .to) (a .cost) weights (ranks .by) u (getD (a .count) u 0) →
     ((found < limit) × (count ≡ found)) ⊎ ((limit ≤ found) × (count ≡ limit)) →
-    rowBytes (rankOf (ranks .by) u) (map placeOf (take count keys)) ≡ rowOf (networkOf t) (distances (networkOf t) d) limit order u
+    rowBytes (rankOf (ranks .by) u) (map placeInKey (take count keys)) ≡ rowOf (networkOf t) (distances (networkOf t) d) limit order u
 unfolding rowOf
 row-put {limit} f w r u u-in keys found count e cut =
     rw (rank-of r u (omega (arith, weighable f .most)), cut-keys keys found limit count e cut, key-law f w r u u-in)

@@ -24,9 +24,9 @@ use Rattle.topology_types.specs.Topology.{networkOf}
 use Rattle.topology_sound.specs.Sound.{sound}
 use Rattle.topology_sound.proofs.Sound.{sound-exact, sound-networks}
 use Rattle.order.specs.declared.unchecked.Ranks.{Ranks}
-use Rattle.order.specs.Proposed.{Ranked, RanksOf}
+use Rattle.order.specs.Inner.{Ranked, RanksOf}
 use Rattle.table_rows.specs.Bytes.{rankOrNone}
-use Rattle.table_rows.specs.Keys.{rankOf}
+use Rattle.table_rows.specs.Inner.{rankOf}
 
 module _ (order : List ℕ) (u : ℕ) where
   -- a router that the order holds has its rank

@@ -14,7 +14,7 @@ ghost use Prim.Native.Nat.{_≤_};
 ghost use lib.ListN.{length, drop};
 ghost use Rattle.topology_types.specs.Topology.{networkOf};
 ghost use Rattle.table_rows.specs.Bytes.{tableBytes, tableLength};
-ghost use Rattle.table_rows.specs.Keys.{Fillable};
+ghost use Rattle.table_rows.specs.Inner.{Fillable};
 
 // The table for the destination, the next-hop limit and an order, into the first bytes of the slice. The order is the ranked places alone, without the 255s
 // that follow them in a proposal; the row of a place that it does not hold has 255 for its rank.

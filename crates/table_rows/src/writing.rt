@@ -10,7 +10,7 @@ ghost use lib.ListN.{length, take};
 ghost use Rattle.topology_types.specs.Limits.{mostNextHops};
 ghost use Rattle.topology.specs.Inner.{over};
 ghost use Rattle.table_rows.specs.Bytes.{headerBytes, rowBytes};
-ghost use Rattle.table_rows.specs.Keys.{placeOf};
+ghost use Rattle.table_rows.specs.Inner.{placeInKey};
 
 // The header: kind 16, destination, router count, K.
 pub(crate) fn put_header(out: &mut [u8], destination: Place, count: u8, limit: u8)
@@ -32,7 +32,7 @@ pub(crate) fn put_row<'a>(
     count: usize,
 )
     requires { ⌜ (length (now keys) ≡ mostNextHops) × (count ≤ mostNextHops) × (at + 19 ≤ length (now out)) ⌝ }
-    ensures { λ _. ⌜ now (out .exit) ≡ over (now (out .entry)) at (rowBytes (rank .0) (map placeOf (take count (now (keys .entry))))) ⌝ }
+    ensures { λ _. ⌜ now (out .exit) ≡ over (now (out .entry)) at (rowBytes (rank .0) (map placeInKey (take count (now (keys .entry))))) ⌝ }
 {
     out[at] = 17;
     out[at + 1] = rank.0;

@@ -9,7 +9,7 @@ use lib.ListN.{length, drop, length-drop}
 use lib.Seq.{drop-drop}
 use Rattle.te.specs.declared.LinkRecord.{LinkRecord}
 use Rattle.te.specs.SubTlvs.{spanOf, subIn}
-use Rattle.te.specs.Cost.{nothing, refusal, concluded, faultOf, added, takenFrom, costing}
+use Rattle.te.specs.Cost.{nothing, refusedCost, concluded, faultOf, addedSub, takenFrom, costing}
 use Rattle.te.specs.Theorems.{Kept}
 use Rattle.te.proofs.Turn.{good, whole, four-at-least, kept-nothing, kept-added, at-end, fault-here, next}
 
@@ -27,7 +27,7 @@ module _ {value : List ℕ} {at : ℕ} {r : LinkRecord} (a : Ahead value at r) w
   ended h = sym (at-end at r (drop at value) (omega (arith, length-drop at value))) ∙ a .rest
 
   module _ (h : at < length value) where
-    pub stopped : faultOf (subIn (drop at value)) ≢ 0 → refusal (faultOf (subIn (drop at value))) at ≡ costing value
+    pub stopped : faultOf (subIn (drop at value)) ≢ 0 → refusedCost (faultOf (subIn (drop at value))) at ≡ costing value
     stopped f = sym (fault-here at r (drop at value) (omega (arith, length-drop at value)) f) ∙ a .rest
 
     module _ (f : faultOf (subIn (drop at value)) ≡ 0) where
@@ -35,12 +35,12 @@ module _ {value : List ℕ} {at : ℕ} {r : LinkRecord} (a : Ahead value at r) w
       pub room : (at + 4 ≤ length value) × (at + spanOf (drop at value) ≤ length value) × (4 ≤ spanOf (drop at value))
       room = omega (arith, whole (drop at value) f, length-drop at value, four-at-least (drop at value))
 
-      pub moved : Ahead value (at + spanOf (drop at value)) (added r (subIn (drop at value)))
+      pub moved : Ahead value (at + spanOf (drop at value)) (addedSub r (subIn (drop at value)))
       moved = record {
         inside = room .1;
         kept = kept-added (a .kept) (subIn (drop at value)) (good (drop at value));
         rest =
-            ap (takenFrom (at + spanOf (drop at value)) 0 (added r (subIn (drop at value)))) (sym (drop-drop (spanOf (drop at value)) at value))
+            ap (takenFrom (at + spanOf (drop at value)) 0 (addedSub r (subIn (drop at value)))) (sym (drop-drop (spanOf (drop at value)) at value))
             ∙ sym (next at r (drop at value) (omega (arith, length-drop at value)) f)
             ∙ a .rest;
       }

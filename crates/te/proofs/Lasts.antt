@@ -11,7 +11,7 @@ use Rattle.te.specs.declared.SubTlv.{SubTlv}
 use Rattle.te.specs.declared.SubTlv.the-variants.{TeMetric, MaxBandwidth, Reservable}
 use Rattle.te.specs.declared.LinkRecord.{LinkRecord}
 use Rattle.te.specs.Cost.{nothing, gathered}
-use Rattle.te.specs.Answers.{LastOf, NoneOf, FieldOf, RecordOf}
+use Rattle.te.specs.Theorems.{LastOf, NoneOf, FieldOf, RecordOf}
 
 -- which of the three cases
 abbrev kind : SubTlv → ℕ

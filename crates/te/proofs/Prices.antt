@@ -13,9 +13,8 @@ use Rattle.te.specs.declared.SubTlv.{SubTlv}
 use Rattle.te.specs.declared.SubTlv.the-variants.{TeMetric, MaxBandwidth}
 use Rattle.te.specs.declared.LinkRecord.{LinkRecord}
 use Rattle.te.specs.SubTlvs.{usable}
-use Rattle.te.specs.Cost.{bandwidthCost, maximumCost, costOf}
-use Rattle.te.specs.Theorems.{Kept, Greatest}
-use Rattle.te.specs.Answers.{OneUsable, RecordOf, CostOf}
+use Rattle.te.specs.Cost.{bandwidthCost, maximumCost, recordCost}
+use Rattle.te.specs.Theorems.{Kept, Greatest, OneUsable, RecordOf, CostOf}
 use Rattle.te.proofs.Patterns.{finite}
 use Rattle.te.proofs.Greatest.{bandwidth-costs, tested}
 use Rattle.te.proofs.Costs.{by-metric, too-low, too-high, by-maximum, by-none}
@@ -27,7 +26,7 @@ module _ {subs : List SubTlv} {r : LinkRecord} (f : RecordOf subs r) (k : Kept r
   priced : T (usable (r .maximum)) → 1 ≤ bandwidthCost (r .maximum)
   priced u = let (m, e, is) = finite (r .maximum) u in rw is (tested m e (subst (λ (x : Float). T (usable x)) is u) .least)
 
-  pub by-use : OneUsable subs → costOf r ≢ 0
+  pub by-use : OneUsable subs → recordCost r ≢ 0
   by-use (inl (n, l, low, high)) z =
       let same : r .metric ≡ n = one-metric (f .metric .present (is-there TeMetric 0 (f .metric) l)) l in
       omega (arith, by-metric r (omega arith) (omega arith))
@@ -58,8 +57,8 @@ module _ {subs : List SubTlv} {r : LinkRecord} (f : RecordOf subs r) (k : Kept r
       go true e = refl
       go false e = absurd (n (by-none r e))
 
-  module _ (n : costOf r ≢ 0) where
-    of-maximum : costOf r ≡ maximumCost r → r .hasmaximum ≡ true
+  module _ (n : recordCost r ≢ 0) where
+    of-maximum : recordCost r ≡ maximumCost r → r .hasmaximum ≡ true
     of-maximum e = has-maximum (λ z. n (e ∙ z))
 
     pub of-use : OneUsable subs
@@ -71,13 +70,13 @@ module _ {subs : List SubTlv} {r : LinkRecord} (f : RecordOf subs r) (k : Kept r
       ]
     ]
 
-    greatest : costOf r ≡ maximumCost r →
-        (m : ℕ) × (e : ℤ) × (r .hasmaximum ≡ true) × (r .maximum ≡ fin false m e) × Greatest m e (costOf r)
+    greatest : recordCost r ≡ maximumCost r →
+        (m : ℕ) × (e : ℤ) × (r .hasmaximum ≡ true) × (r .maximum ≡ fin false m e) × Greatest m e (recordCost r)
     greatest same =
         let has = of-maximum same in
         let u = k .maximum-present has in
         let (m, e, is) = finite (r .maximum) u in
-        (m, e, has, is, bandwidth-costs m e (costOf r) (subst (λ (x : Float). T (usable x)) is u) .0 (sym (same ∙ by-maximum r has ∙ ap bandwidthCost is)))
+        (m, e, has, is, bandwidth-costs m e (recordCost r) (subst (λ (x : Float). T (usable x)) is u) .0 (sym (same ∙ by-maximum r has ∙ ap bandwidthCost is)))
 
-    pub cost-of : CostOf r (costOf r)
+    pub cost-of : CostOf r (recordCost r)
     cost-of = record { by-metric = by-metric r; by-bandwidth = ⊎-elim (λ low. greatest (too-low r low)) (λ high. greatest (too-high r high)) }

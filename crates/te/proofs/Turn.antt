@@ -19,7 +19,7 @@ use Rattle.te.specs.declared.SubTlv.{SubTlv}
 use Rattle.te.specs.declared.SubTlv.the-variants.{TeMetric, MaxBandwidth, Reservable}
 use Rattle.te.specs.declared.LinkRecord.{LinkRecord}
 use Rattle.te.specs.SubTlvs.{typeOf, lengthOf, spanOf, cutShort, numberIn, usable, caseOf, judged, subIn}
-use Rattle.te.specs.Cost.{nothing, gathered, refusal, concluded, faultOf, added, takenFrom}
+use Rattle.te.specs.Cost.{nothing, gathered, refusedCost, concluded, faultOf, addedSub, takenFrom}
 use Rattle.te.specs.Theorems.{Kept}
 use Rattle.te.proofs.SubTlvs.{header-cut, value-cut}
 
@@ -70,8 +70,8 @@ kept-nothing = record {
   reservable-present = λ e. absurd (false≢true e);
 }
 
-pub kept-added : {r : LinkRecord} → Kept r → (f : Found) → Good f → Kept (added r f)
-unfolding added gathered
+pub kept-added : {r : LinkRecord} → Kept r → (f : Found) → Good f → Kept (addedSub r f)
+unfolding addedSub gathered
 kept-added k (Refused number) g = k
 kept-added k Skipped g = k
 kept-added k (Is (TeMetric n)) g = record {
@@ -119,23 +119,23 @@ module _ (at : ℕ) (r : LinkRecord) where
   at-end [] h = refl
   at-end (b ∷ s) h = absurd (omega arith)
 
-  pub fault-here : (s : List ℕ) → 1 ≤ length s → faultOf (subIn s) ≢ 0 → takenFrom at 0 r s ≡ refusal (faultOf (subIn s)) at
+  pub fault-here : (s : List ℕ) → 1 ≤ length s → faultOf (subIn s) ≢ 0 → takenFrom at 0 r s ≡ refusedCost (faultOf (subIn s)) at
   unfolding takenFrom
   fault-here [] h f = absurd (omega arith)
   fault-here (b ∷ s) h f = rw (ne-eqb (faultOf (subIn (b ∷ s))) 0 f) refl
 
   pub next : (s : List ℕ) → 1 ≤ length s → faultOf (subIn s) ≡ 0 →
-      takenFrom at 0 r s ≡ takenFrom (at + spanOf s) 0 (added r (subIn s)) (drop (spanOf s) s)
+      takenFrom at 0 r s ≡ takenFrom (at + spanOf s) 0 (addedSub r (subIn s)) (drop (spanOf s) s)
   unfolding takenFrom
   next [] h f = absurd (omega arith)
   next (b ∷ s) h f =
       rw (eq-eqb (faultOf (subIn (b ∷ s))) 0 f)
-      (skipped (added r (subIn (b ∷ s))) (at + 1) (n - 1) s (omega (arith, whole (b ∷ s) f)) ∙ same n (four-at-least (b ∷ s)))
+      (skipped (addedSub r (subIn (b ∷ s))) (at + 1) (n - 1) s (omega (arith, whole (b ∷ s) f)) ∙ same n (four-at-least (b ∷ s)))
     where
       n : ℕ
       n = spanOf (b ∷ s)
 
       same : (k : ℕ) → 4 ≤ k →
-          takenFrom (at + 1 + (k - 1)) 0 (added r (subIn (b ∷ s))) (drop (k - 1) s) ≡ takenFrom (at + k) 0 (added r (subIn (b ∷ s))) (drop k (b ∷ s))
+          takenFrom (at + 1 + (k - 1)) 0 (addedSub r (subIn (b ∷ s))) (drop (k - 1) s) ≡ takenFrom (at + k) 0 (addedSub r (subIn (b ∷ s))) (drop k (b ∷ s))
       same zero l = absurd (omega arith)
-      same (suc k) l = rw (sub-one (suc k)) (ap (λ (i : ℕ). takenFrom i 0 (added r (subIn (b ∷ s))) (drop k s)) (omega arith))
+      same (suc k) l = rw (sub-one (suc k)) (ap (λ (i : ℕ). takenFrom i 0 (addedSub r (subIn (b ∷ s))) (drop k s)) (omega arith))

@@ -70,16 +70,16 @@ unfoldable pub maximumCost : LinkRecord → ℕ
 maximumCost r = cond (r .hasmaximum) (bandwidthCost (r .maximum)) 0
 
 -- 02, #108: the TE metric if within 1 to 65,535, else by the maximum bandwidth; 0 where neither can be used
-unfoldable pub costOf : LinkRecord → ℕ
-costOf r = cond (leb 1 (r .metric) && leb (r .metric) 65535) (r .metric) (maximumCost r)
+unfoldable pub recordCost : LinkRecord → ℕ
+recordCost r = cond (leb 1 (r .metric) && leb (r .metric) 65535) (r .metric) (maximumCost r)
 
 -- 02, #108: refused, cost and record are all 0
-unfoldable pub refusal : ℕ → ℕ → LinkCost
-refusal number at = record { answer = answer number at; cost = 0; link = nothing }
+unfoldable pub refusedCost : ℕ → ℕ → LinkCost
+refusedCost number at = record { answer = answer number at; cost = 0; link = nothing }
 
 -- 02, #108: the answer carries the cost and the record; 29 at the end where neither 5 nor 6 can be used
 unfoldable pub concluded : ℕ → LinkRecord → LinkCost
-concluded end r = cond (eqb (costOf r) 0) (refusal 29 end) (record { answer = answer 0 0; cost = costOf r; link = r })
+concluded end r = cond (eqb (recordCost r) 0) (refusedCost 29 end) (record { answer = answer 0 0; cost = recordCost r; link = r })
 
 -- the number of a fault, 0 where there is none
 unfoldable pub faultOf : Found → ℕ
@@ -88,10 +88,10 @@ faultOf Skipped = 0
 faultOf (Is s) = 0
 
 -- the record with what was found: only one of the three cases changes it
-unfoldable pub added : LinkRecord → Found → LinkRecord
-added r (Refused number) = r
-added r Skipped = r
-added r (Is s) = gathered r s
+unfoldable pub addedSub : LinkRecord → Found → LinkRecord
+addedSub r (Refused number) = r
+addedSub r Skipped = r
+addedSub r (Is s) = gathered r s
 
 -- 02, #108: the sub-TLVs from an offset on, in turn, with what was gathered before; the first `skipped` bytes still belong to the one before. The first
 -- fault decides, at the sub-TLV.
@@ -99,7 +99,7 @@ unfoldable pub takenFrom : ℕ → ℕ → LinkRecord → List ℕ → LinkCost
 takenFrom at skipped r [] = concluded at r
 takenFrom at zero r (byte ∷ rest) =
     let found = subIn (byte ∷ rest) in
-    cond (eqb (faultOf found) 0) (takenFrom (at + 1) (spanOf (byte ∷ rest) - 1) (added r found) rest) (refusal (faultOf found) at)
+    cond (eqb (faultOf found) 0) (takenFrom (at + 1) (spanOf (byte ∷ rest) - 1) (addedSub r found) rest) (refusedCost (faultOf found) at)
 takenFrom at (suc skipped) r (byte ∷ rest) = takenFrom (at + 1) skipped r rest
 
 -- 02, #108: what the value of a Link TLV answers

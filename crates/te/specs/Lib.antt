@@ -1,5 +1,4 @@
 pub mod SubTlvs
 pub mod Cost
 pub mod Theorems
-pub mod Answers
 pub mod Facts

@@ -4,7 +4,7 @@ mod reading;
 
 use topology_types::Answer;
 ghost use mathlib.Core.Path.{_≡_};
-ghost use Rattle.te.specs.Cost.{faultOf, maximumCost, costOf, costing};
+ghost use Rattle.te.specs.Cost.{faultOf, maximumCost, recordCost, costing};
 ghost use Rattle.te.specs.Cost as said;
 ghost use Rattle.te.specs.Theorems.{Kept};
 
@@ -77,7 +77,7 @@ fn gathered(r: LinkRecord, s: SubTlv) -> LinkRecord
 
 // What a refused value answers.
 fn refused(number: u8, at: usize) -> LinkCost
-    ensures { λ r. ⌜ r ≡ said.refusal number at ⌝ }
+    ensures { λ r. ⌜ r ≡ said.refusedCost number at ⌝ }
 {
     LinkCost {
         answer: Answer { number, at },
@@ -99,7 +99,7 @@ fn fault_of(found: Found) -> u8
 
 // The record with what was found: only one of the three cases changes it.
 fn added(r: LinkRecord, found: Found) -> LinkRecord
-    ensures { λ x. ⌜ x ≡ said.added r found ⌝ }
+    ensures { λ x. ⌜ x ≡ said.addedSub r found ⌝ }
 {
     match found {
         Found::Refused(_) => r,
@@ -122,7 +122,7 @@ fn cost_by_maximum(r: LinkRecord) -> u16
 // The cost by a record, 0 where nothing in it can be used.
 fn cost_of(r: LinkRecord) -> u16
     requires { ⌜ Kept r ⌝ }
-    ensures { λ c. ⌜ c ≡ costOf r ⌝ }
+    ensures { λ c. ⌜ c ≡ recordCost r ⌝ }
 {
     if r.metric < 1 {
         return cost_by_maximum(r);

@@ -11,7 +11,7 @@ use lib.Dec.{leb}
 use lib.ListN.{length, getD}
 use Rattle.network.specs.Lists.{every}
 use Rattle.text.specs.declared.unchecked.fields.Value.the-variants.{Is, Wrong}
-use Rattle.text.specs.Numbers.{decimal, onto, plain, numeral, number}
+use Rattle.text.specs.Numbers.{decimal, onto, plainNumber, numeral, number}
 use Rattle.text.proofs.Scan.{every-at, and-left, and-right}
 
 module _ (c : ℕ) where
@@ -34,38 +34,38 @@ module _ (c : ℕ) where
 module _ (s : List ℕ) where
   pub all-decimal : numeral s ≡ true → every decimal s ≡ true
   unfolding numeral
-  all-decimal e = and-right (plain s) (every decimal s) e
+  all-decimal e = and-right (plainNumber s) (every decimal s) e
 
   pub digit-at : (i : ℕ) → numeral s ≡ true → i < length s → (48 ≤ getD s i 0) × (getD s i 0 ≤ 57)
   digit-at i e h = digit-fact (getD s i 0) (every-at decimal s i (all-decimal e) h)
 
-  pub not-plain : plain s ≡ false → numeral s ≡ false
+  pub not-plain : plainNumber s ≡ false → numeral s ≡ false
   unfolding numeral
   not-plain e = rw (e)
 
-  pub if-plain : plain s ≡ true → numeral s ≡ every decimal s
+  pub if-plain : plainNumber s ≡ true → numeral s ≡ every decimal s
   unfolding numeral
   if-plain e = rw (e)
 
-pub plain-empty : (s : List ℕ) → length s ≡ 0 → plain s ≡ false
-unfolding plain
+pub plain-empty : (s : List ℕ) → length s ≡ 0 → plainNumber s ≡ false
+unfolding plainNumber
 plain-empty [] h = refl
 plain-empty (c ∷ s) h = absurd (omega arith)
 
-pub plain-zero : (s : List ℕ) → 1 < length s → getD s 0 0 ≡ 48 → plain s ≡ false
-unfolding plain
+pub plain-zero : (s : List ℕ) → 1 < length s → getD s 0 0 ≡ 48 → plainNumber s ≡ false
+unfolding plainNumber
 plain-zero [] h e = absurd (omega arith)
 plain-zero (c ∷ []) h e = absurd (omega arith)
 plain-zero (c ∷ d ∷ s) h e = rw (eq-eqb c 48 e)
 
-pub plain-one : (s : List ℕ) → length s ≢ 0 → length s ≤ 1 → plain s ≡ true
-unfolding plain
+pub plain-one : (s : List ℕ) → length s ≢ 0 → length s ≤ 1 → plainNumber s ≡ true
+unfolding plainNumber
 plain-one [] h k = absurd (h refl)
 plain-one (c ∷ []) h k = refl
 plain-one (c ∷ d ∷ s) h k = absurd (omega arith)
 
-pub plain-more : (s : List ℕ) → 1 < length s → getD s 0 0 ≢ 48 → plain s ≡ true
-unfolding plain
+pub plain-more : (s : List ℕ) → 1 < length s → getD s 0 0 ≢ 48 → plainNumber s ≡ true
+unfolding plainNumber
 plain-more [] h e = absurd (omega arith)
 plain-more (c ∷ []) h e = absurd (omega arith)
 plain-more (c ∷ d ∷ s) h e = rw (ne-eqb c 48 e)

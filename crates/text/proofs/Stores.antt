@@ -8,7 +8,7 @@ use native.Mathlib.Numerals.{add-one}
 use native.Mathlib.Omega.{arith}
 use lib.ListN.{length, set, take, drop, length-append}
 use lib.Seq.{sets, sets-eq, take-append-seam}
-use Rattle.text.specs.Lines.{Put}
+use Rattle.text.specs.Inner.{Put}
 
 -- one store, and what is left to put
 pub sets-next : (b : List ℕ) (i : ℕ) (x : ℕ) (xs text : List ℕ) → text ≡ x ∷ xs → sets b i text ≡ sets (set b i x) (i + 1) xs

@@ -14,7 +14,8 @@ use lib.ListN.{length, length-append}
 use Rattle.io.specs.Digits.{glyph, digits}
 use Rattle.text.specs.Numbers.{lastDigits, numberText}
 use Rattle.text.specs.Hex.{none, digit, hexOf, bytesText}
-use Rattle.text.specs.Lines.{Put, Gathered, fits, countWith, bufferWith, answerText, answerLine, wordLine, bufferLine, newline}
+use Rattle.text.specs.Inner.{Put, Gathered, fits, countWith, bufferWith}
+use Rattle.text.specs.Lines.{answerText, answerLine, wordLine, bufferLine, newline}
 
 module _ (buffer : List ℕ) (count : ℕ) (part : List ℕ) where
   pub too-long : length buffer < count + length part → Gathered buffer count part (length buffer + 1) buffer

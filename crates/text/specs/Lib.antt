@@ -2,3 +2,4 @@ pub mod Fields
 pub mod Hex
 pub mod Lines
 pub mod Numbers
+pub mod Inner

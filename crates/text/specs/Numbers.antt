@@ -18,14 +18,14 @@ onto n [] = n
 onto n (c ∷ s) = onto (n * 10 + (c - 48)) s
 
 -- a text of one byte or more, and of more only if the first is not `0`
-unfoldable pub plain : List ℕ → Bool
-plain [] = false
-plain (c ∷ []) = true
-plain (c ∷ d ∷ s) = not (eqb c 48)
+unfoldable pub plainNumber : List ℕ → Bool
+plainNumber [] = false
+plainNumber (c ∷ []) = true
+plainNumber (c ∷ d ∷ s) = not (eqb c 48)
 
 -- digits alone, with no zeros in front other than 0 itself
 unfoldable pub numeral : List ℕ → Bool
-numeral s = plain s && every decimal s
+numeral s = plainNumber s && every decimal s
 
 -- the number that a field holds, unless it is no number or too large
 unfoldable pub number : ℕ → List ℕ → Value

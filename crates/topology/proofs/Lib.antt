@@ -9,4 +9,4 @@ pub mod TakenInTurn
 pub mod RoundTrip
 pub mod Outcomes
 pub mod OldStreams
-pub mod Table
+pub mod Facts

@@ -23,7 +23,7 @@ use Rattle.topology_types.proofs.Arcs.{ending, arcs-more, arcs-stay, ends-at}
 use Rattle.stream_rules.specs.declared.Reading.{Reading}
 use Rattle.stream_rules.specs.declared.Record.{Record}
 use Rattle.stream_rules.specs.declared.Record.the-variants as record-of
-use Rattle.stream_rules.specs.Halves.{Listing, firstHalf, secondHalf, sameHalf, opposite, linkOf}
+use Rattle.stream_rules.specs.Halves.{StreamListing, firstHalf, secondHalf, sameHalf, opposite, linkOf}
 use Rattle.stream_rules.specs.Reading.{fault, withLink, arrived, added, width, isEnd, inTurn}
 use Rattle.stream_rules.specs.Theorems.{HalfListed}
 use Rattle.stream_rules.proofs.Verdicts.{faults-each}
@@ -31,21 +31,21 @@ use Rattle.stream_rules.proofs.InTurn.{goes-on}
 use Rattle.topology.proofs.Rewritten.{linkRecords}
 
 -- the reading goes on so, from somewhere
-pub record Goes (r : Reading) (p : Listing) (rs : List Record) : Type 0 where
+pub record Goes (r : Reading) (p : StreamListing) (rs : List Record) : Type 0 where
   pub at : ℕ
   pub on : r ≡ inTurn at p rs
 
-pub first : {r q : Reading} {p : Listing} {rs : List Record} → r ≡ q → Goes q p rs → Goes r p rs
+pub first : {r q : Reading} {p : StreamListing} {rs : List Record} → r ≡ q → Goes q p rs → Goes r p rs
 first e g = record { at = g .at; on = e ∙ g .on }
 
-pub followed : {r : Reading} {p q : Listing} {rs ss : List Record} → Goes r p rs → ((at : ℕ) → Goes (inTurn at p rs) q ss) → Goes r q ss
+pub followed : {r : Reading} {p q : StreamListing} {rs ss : List Record} → Goes r p rs → ((at : ℕ) → Goes (inTurn at p rs) q ss) → Goes r q ss
 followed g h = first (g .on) (h (g .at))
 
 -- a record taken, by what is listed with it
-pub takes : (at : ℕ) (p : Listing) (r : Record) (rs : List Record) → fault p r ≡ 0 → isEnd r ≡ false → {q : Listing} → added p r ≡ q →
+pub takes : (at : ℕ) (p : StreamListing) (r : Record) (rs : List Record) → fault p r ≡ 0 → isEnd r ≡ false → {q : StreamListing} → added p r ≡ q →
     Goes (inTurn at p (r ∷ rs)) q rs
 takes at p r rs none more e =
-    record { at = at + width r; on = goes-on at p r rs none more ∙ ap (λ (q : Listing). inTurn (at + width r) q rs) e }
+    record { at = at + width r; on = goes-on at p r rs none more ∙ ap (λ (q : StreamListing). inTurn (at + width r) q rs) e }
 
 -- what is told of a whole list of links
 pub record GoodLinks (ids : List ℕ) (ls : List Link) : Type 0 where
@@ -77,7 +77,7 @@ leaving-arcs u number (l ∷ ls) apart =
     go false e false f x y xs h = omega arith
 
 module _ (k : ℕ) (ids : List ℕ) where
-  abbrev pub linked : List Link → List Half → Listing
+  abbrev pub linked : List Link → List Half → StreamListing
   linked ls lone = record { contents = record { ids = ids; links = ls; limit = k }; lone = lone }
 
   module _ (before : List Link) (l : Link) (after : List Link) (s : GoodLinks ids (before ++ (l ∷ after))) where

@@ -20,15 +20,15 @@ use Rattle.stream_rules.specs.declared.Reading.{Reading}
 use Rattle.stream_rules.specs.declared.Record.{Record}
 use Rattle.stream_rules.specs.declared.Record.the-variants as record-of
 use Rattle.stream_rules.specs.Stream.{bodyLength, records}
-use Rattle.stream_rules.specs.Halves.{Listing, halves}
-use Rattle.stream_rules.specs.Reading.{refusal, accepted, routerFault, repeated, crowded, halvesFault, fault, withRouter, withLink, withLimit, arrived, added}
-use Rattle.stream_rules.specs.Reading.{width, isEnd, ended, unless, some?, inTurn, nothingListed, reading}
+use Rattle.stream_rules.specs.Halves.{StreamListing, halves}
+use Rattle.stream_rules.specs.Reading.{refusal, acceptedReading, routerFault, repeated, crowded, halvesFault, fault, withRouter, withLink, withLimit, arrived, added}
+use Rattle.stream_rules.specs.Reading.{width, isEnd, ended, unless, anyRecord?, inTurn, nothingListed, reading}
 use Rattle.stream_rules.specs.Theorems.{success, refused}
 use Rattle.stream_rules.proofs.InTurn.{next-router, next-link, next-half, next-limit, next-unknown, next-end, next-cut, goes-on}
 use Rattle.stream_rules.proofs.Stream.{records-drop, no-bytes}
 use Rattle.topology.specs.Inner.{over}
 use Rattle.topology.specs.OldLimit.{withOldLimit}
-use Rattle.topology.specs.OldStreams.{HelpExact, Cut, sixteen, readBefore, OldStreamsRead}
+use Rattle.topology.specs.Theorems.{HelpExact, Cut, sixteen, readBefore, OldStreamsRead}
 use Rattle.topology.proofs.Over.{over-start, over-over}
 
 pub help-exact : HelpExact
@@ -72,13 +72,13 @@ records-cut = record {
 }
 
 -- what is listed, with K 16
-sixteenIn : Listing → Listing
+sixteenIn : StreamListing → StreamListing
 sixteenIn p = record { contents = withLimit (p .contents) 16; lone = p .lone }
 
 -- what is listed in the two readings: the same once a record 8 was taken, and up to K before that
-data Alike : Bool → Listing → Listing → Type 0 where
-  same : (p : Listing) → Alike true p p
-  but-limit : (p : Listing) → Alike false p (sixteenIn p)
+data Alike : Bool → StreamListing → StreamListing → Type 0 where
+  same : (p : StreamListing) → Alike true p p
+  but-limit : (p : StreamListing) → Alike false p (sixteenIn p)
 
 -- whether a record 8 was taken, by the records after
 taken : Bool → List Record → Bool
@@ -93,10 +93,10 @@ taken b (record-of.Refused number ∷ rs) = taken b rs
 -- what the two readings return
 data Moved : Bool → Reading → Reading → Type 0 where
   on : {b : Bool} (number at : ℕ) → number ≢ 0 → Moved b (refusal number at) (refusal number (at + 2))
-  kept : (c : Contents) → Moved true (accepted c) (accepted c)
-  limited : (c : Contents) → Moved false (accepted c) (accepted (withLimit c 16))
+  kept : (c : Contents) → Moved true (acceptedReading c) (acceptedReading c)
+  limited : (c : Contents) → Moved false (acceptedReading c) (acceptedReading (withLimit c 16))
 
-fault-alike : {b : Bool} {p q : Listing} → Alike b p q → (r : Record) → fault q r ≡ fault p r
+fault-alike : {b : Bool} {p q : StreamListing} → Alike b p q → (r : Record) → fault q r ≡ fault p r
 unfolding sixteenIn withLimit fault routerFault halvesFault repeated crowded halves
 fault-alike (same p) r = refl
 fault-alike (but-limit p) (record-of.Router id) = refl
@@ -113,17 +113,17 @@ end-followed c d at =
     let turned : at + 2 + 1 ≡ at + 1 + 2 = omega arith in
     rw turned (on 11 (at + 1) (λ e. omega arith))
 
-end-alike : {b : Bool} {p q : Listing} → Alike b p q → (at : ℕ) → Moved b (ended false at (p .contents)) (ended false (at + 2) (q .contents))
+end-alike : {b : Bool} {p q : StreamListing} → Alike b p q → (at : ℕ) → Moved b (ended false at (p .contents)) (ended false (at + 2) (q .contents))
 unfolding sixteenIn ended
 end-alike (same p) at = cases (eqb (length (p .contents .ids)) 0)
   where
-    cases : (none : Bool) → Moved true (cond none (refusal 12 at) (accepted (p .contents))) (cond none (refusal 12 (at + 2)) (accepted (p .contents)))
+    cases : (none : Bool) → Moved true (cond none (refusal 12 at) (acceptedReading (p .contents))) (cond none (refusal 12 (at + 2)) (acceptedReading (p .contents)))
     cases true = on 12 at (λ e. omega arith)
     cases false = kept (p .contents)
 end-alike (but-limit p) at = unfold withLimit in cases (eqb (length (p .contents .ids)) 0)
   where
     cases : (none : Bool) →
-        Moved false (cond none (refusal 12 at) (accepted (p .contents))) (cond none (refusal 12 (at + 2)) (accepted (withLimit (p .contents) 16)))
+        Moved false (cond none (refusal 12 at) (acceptedReading (p .contents))) (cond none (refusal 12 (at + 2)) (acceptedReading (withLimit (p .contents) 16)))
     cases true = on 12 at (λ e. omega arith)
     cases false = limited (p .contents)
 
@@ -133,7 +133,7 @@ unless-moved zero at m = m
 unless-moved (suc number) at m = on (suc number) at (λ e. omega arith)
 
 -- a record that is not the end, if the records after it are taken alike
-module _ {b : Bool} {p q : Listing} (a : Alike b p q) (r : Record) (rs : List Record) (at : ℕ) where
+module _ {b : Bool} {p q : StreamListing} (a : Alike b p q) (r : Record) (rs : List Record) (at : ℕ) where
   more : {f : Bool} → isEnd r ≡ false → Moved f (inTurn (at + width r) (added p r) rs) (inTurn (at + width r + 2) (added q r) rs) →
       Moved f (inTurn at p (r ∷ rs)) (inTurn (at + 2) q (r ∷ rs))
   unfolding inTurn
@@ -142,12 +142,12 @@ module _ {b : Bool} {p q : Listing} (a : Alike b p q) (r : Record) (rs : List Re
       rw (fault-alike a r, e, swap) (unless-moved (fault p r) at m)
 
 -- records after what is listed alike
-arrived-alike : (p : Listing) (h : Half) (ks : List Half) → Alike false (arrived p h ks) (arrived (sixteenIn p) h ks)
+arrived-alike : (p : StreamListing) (h : Half) (ks : List Half) → Alike false (arrived p h ks) (arrived (sixteenIn p) h ks)
 unfolding sixteenIn withLimit withLink arrived
 arrived-alike p h [] = but-limit _
 arrived-alike p h (k ∷ ks) = but-limit _
 
-grown : {b : Bool} {p q : Listing} → Alike b p q → (r : Record) → Alike (taken b (r ∷ [])) (added p r) (added q r)
+grown : {b : Bool} {p q : StreamListing} → Alike b p q → (r : Record) → Alike (taken b (r ∷ [])) (added p r) (added q r)
 unfolding taken added withRouter withLink withLimit sixteenIn
 grown (same p) (record-of.Router id) = same _
 grown (same p) (record-of.Link h) = same _
@@ -162,8 +162,8 @@ grown (but-limit p) (record-of.Limit k) = same _
 grown (but-limit p) record-of.End = but-limit _
 grown (but-limit p) (record-of.Refused number) = but-limit _
 
-turns : {b : Bool} {p q : Listing} → Alike b p q → (rs : List Record) (at : ℕ) → Moved (taken b rs) (inTurn at p rs) (inTurn (at + 2) q rs)
-unfolding taken inTurn unless fault isEnd some?
+turns : {b : Bool} {p q : StreamListing} → Alike b p q → (rs : List Record) (at : ℕ) → Moved (taken b rs) (inTurn at p rs) (inTurn (at + 2) q rs)
+unfolding taken inTurn unless fault isEnd anyRecord?
 turns a [] at = on 1 at (λ e. omega arith)
 turns a (record-of.Router id ∷ rs) at = more a _ rs at refl (turns (grown a (record-of.Router id)) rs _)
 turns a (record-of.Link h ∷ rs) at = more a _ rs at refl (turns (grown a (record-of.Link h)) rs _)
@@ -224,25 +224,25 @@ module _ (stream : List ℕ) where
 
 -- what they return
 of-unlimited : {b : Bool} {x y : Reading} → Moved b x y → b ≡ false → (t : Topology) → x ≡ success t → y ≡ success (sixteen t)
-unfolding refusal accepted withLimit held
+unfolding refusal acceptedReading withLimit held
 of-unlimited (on number at some) e t r = absurd (some (ap (λ (r : Reading). r .answer .number) r))
 of-unlimited (kept c) e t r = absurd (true≢false e)
 of-unlimited (limited c) e t r = ap (λ (r : Reading). success (sixteen (r .topology))) r
 
 of-limited : {b : Bool} {x y : Reading} → Moved b x y → b ≡ true → (t : Topology) → x ≡ success t → y ≡ success t
-unfolding refusal accepted
+unfolding refusal acceptedReading
 of-limited (on number at some) e t r = absurd (some (ap (λ (r : Reading). r .answer .number) r))
 of-limited (kept c) e t r = r
 of-limited (limited c) e t r = absurd (true≢false (sym e))
 
 of-same : {b : Bool} {x y : Reading} → Moved b x y → b ≡ true → (y .topology ≡ x .topology) × (y .answer .number ≡ x .answer .number)
-unfolding refusal accepted
+unfolding refusal acceptedReading
 of-same (on number at some) e = (refl, refl)
 of-same (kept c) e = (refl, refl)
 of-same (limited c) e = absurd (true≢false (sym e))
 
 of-refusals : {b : Bool} {x y : Reading} → Moved b x y → (number at : ℕ) → number ≢ 0 → x ≡ refused number at → y ≡ refused number (at + 2)
-unfolding refusal accepted zeros noLink held padded
+unfolding refusal acceptedReading zeros noLink held padded
 of-refusals (on n p s) number at some r =
     rw (ap (λ (r : Reading). r .answer .number) r, ap (λ (r : Reading). r .answer .at) r)
 of-refusals (kept c) number at some r = absurd (some (sym (ap (λ (r : Reading). r .answer .number) r)))

@@ -24,7 +24,7 @@ use Rattle.topology_sound.proofs.Sound.{within-fact, routers-listed, links-list
 use Rattle.stream_rules.specs.declared.Reading.{Reading}
 use Rattle.stream_rules.specs.Stream.{inBytes}
 use Rattle.stream_rules.specs.Halves.{firstHalf, secondHalf}
-use Rattle.stream_rules.specs.Reading.{accepted, reading}
+use Rattle.stream_rules.specs.Reading.{acceptedReading, reading}
 use Rattle.stream_rules.specs.Theorems.{Bytes, success}
 use Rattle.stream_rules.proofs.Digits.{byte-below}
 use Rattle.stream_rules.proofs.Returned.{reads-sound}
@@ -147,7 +147,7 @@ module _ (t : Topology) (s : T (sound t)) where
       )
 
   read-again : reading (written t) ≡ success t
-  unfolding reading accepted
+  unfolding reading acceptedReading
   read-again = rw (written-records t id-fits (λ l m. let (first, second, cost, back) = link-fits l m in (cost, back))) (all-taken (contents t) contents-good ∙ ap success (sym whole-sound))
 
   written-bytes : Bytes (written t)

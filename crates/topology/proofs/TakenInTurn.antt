@@ -17,8 +17,8 @@ use Rattle.topology_types.specs.Topology.{Contents}
 use Rattle.topology_sound.specs.Sound.{within}
 use Rattle.stream_rules.specs.declared.Record.{Record}
 use Rattle.stream_rules.specs.declared.Record.the-variants as record-of
-use Rattle.stream_rules.specs.Halves.{Listing}
-use Rattle.stream_rules.specs.Reading.{accepted, fault, withRouter, withLimit, added, width, isEnd, ended, unless, some?, inTurn, nothingListed}
+use Rattle.stream_rules.specs.Halves.{StreamListing}
+use Rattle.stream_rules.specs.Reading.{acceptedReading, fault, withRouter, withLimit, added, width, isEnd, ended, unless, anyRecord?, inTurn, nothingListed}
 use Rattle.stream_rules.proofs.NoFault.{NewRouter, router-passes}
 use Rattle.stream_rules.proofs.InTurn.{goes-on}
 use Rattle.topology.specs.Written.{joinedOver}
@@ -26,7 +26,7 @@ use Rattle.topology.proofs.LinkTaken.{Goes, first, followed, GoodLinks,
 use Rattle.topology.proofs.Rewritten.{routerRecords, linkRecords, recordsOf}
 
 module _ (k : ℕ) (rest : List Record) where
-  abbrev routed : List ℕ → Listing
+  abbrev routed : List ℕ → StreamListing
   routed ids = record { contents = record { ids = ids; links = []; limit = k }; lone = [] }
 
   new-router : (before : List ℕ) (id : ℕ) (after : List ℕ) → Distinct (before ++ (id ∷ after)) → length (before ++ (id ∷ after)) ≤ 64 →
@@ -46,7 +46,7 @@ module _ (k : ℕ) (rest : List Record) where
       first (goes-on at (routed before) (record-of.Router id) _ (router-passes (routed before .contents) id .1 (new-router before id after differ few)) refl)
       (rw e at (routers-taken after (before ++ (id ∷ [])) (at + width (record-of.Router id)) (rw e differ) (rw e few)))
 
-regrouped : (at : ℕ) (p : Listing) {q : Listing} (xs ys zs rest : List Record) → Goes (inTurn at p (xs ++ (ys ++ zs))) q rest →
+regrouped : (at : ℕ) (p : StreamListing) {q : StreamListing} (xs ys zs rest : List Record) → Goes (inTurn at p (xs ++ (ys ++ zs))) q rest →
     Goes (inTurn at p ((xs ++ ys) ++ zs)) q rest
 regrouped at p xs ys zs rest g = rw append-assoc g
 
@@ -66,8 +66,8 @@ limit-taken : (k : ℕ) (rest : List Record) → T (within 16 k) →
 unfolding nothingListed fault added withLimit isEnd
 limit-taken k rest t = record { at = _; on = goes-on 0 nothingListed (record-of.Limit k) rest (passes (within 16 k) t 0 16) refl }
 
-end-taken : (at : ℕ) (c : Contents) → 0 < length (c .ids) → inTurn at (record { contents = c; lone = [] }) (record-of.End ∷ []) ≡ accepted c
-unfolding inTurn unless fault isEnd some? ended
+end-taken : (at : ℕ) (c : Contents) → 0 < length (c .ids) → inTurn at (record { contents = c; lone = [] }) (record-of.End ∷ []) ≡ acceptedReading c
+unfolding inTurn unless fault isEnd anyRecord? ended
 end-taken at c some = rw (ne-eqb (length (c .ids)) 0 (λ z. omega arith))
 
 pub record GoodContents (c : Contents) : Type 0 where
@@ -76,7 +76,7 @@ pub record GoodContents (c : Contents) : Type 0 where
   pub limit : T (within 16 (c .limit))
   pub links : GoodLinks (c .ids) (c .links)
 
-pub all-taken : (c : Contents) → GoodContents c → inTurn 0 nothingListed (recordsOf c) ≡ accepted c
+pub all-taken : (c : Contents) → GoodContents c → inTurn 0 nothingListed (recordsOf c) ≡ acceptedReading c
 unfolding recordsOf
 all-taken c g =
     let k = c .limit in

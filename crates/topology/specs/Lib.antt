@@ -2,5 +2,4 @@ pub mod Written
 pub mod Inner
 pub mod OldLimit
 pub mod Theorems
-pub mod OldStreams
-pub mod Table
+pub mod Facts

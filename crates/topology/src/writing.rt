@@ -7,7 +7,7 @@ ghost use mathlib.Core.Path.{_≡_};
 ghost use Prim.Native.Nat.{_+_, _*_, _≤_};
 ghost use lib.ListN.{length};
 ghost use Rattle.topology_types.specs.Topology.{contents};
-ghost use Rattle.topology_types.specs.Inner.{Counted};
+ghost use Rattle.topology_types.specs.Inner.{CountsFit};
 ghost use Rattle.topology.specs.Written.{routerBytes, halfBody, linkBytes, limitBytes, joinedOver, written};
 ghost use Rattle.topology.specs.Inner.{over};
 
@@ -70,7 +70,7 @@ pub(crate) fn put_limit(out: &mut [u8], limit: u8)
 }
 
 pub(crate) fn put_routers(t: Topology, out: &mut [u8], at: usize) -> usize
-    requires { ⌜ Counted t × (at + 5 * t .routers ≤ length (now out)) ⌝ }
+    requires { ⌜ CountsFit t × (at + 5 * t .routers ≤ length (now out)) ⌝ }
     ensures { λ r. ⌜ (r ≡ at + 5 * t .routers) × (now (out .exit) ≡ over (now (out .entry)) at (joinedOver routerBytes (contents t .ids))) ⌝ }
 {
     let n = t.routers;
@@ -83,7 +83,7 @@ pub(crate) fn put_routers(t: Topology, out: &mut [u8], at: usize) -> usize
 }
 
 pub(crate) fn put_links(t: Topology, out: &mut [u8], at: usize) -> usize
-    requires { ⌜ Counted t × (at + length (joinedOver linkBytes (contents t .links)) ≤ length (now out)) ⌝ }
+    requires { ⌜ CountsFit t × (at + length (joinedOver linkBytes (contents t .links)) ≤ length (now out)) ⌝ }
     ensures { λ r. ⌜ (r ≡ at + length (joinedOver linkBytes (contents t .links))) × (now (out .exit) ≡ over (now (out .entry)) at (joinedOver linkBytes (contents t .links))) ⌝ }
 {
     let m = t.links;
@@ -118,7 +118,7 @@ fn link_length(l: Link) -> usize
 }
 
 fn links_length(t: Topology) -> usize
-    requires { ⌜ Counted t ⌝ }
+    requires { ⌜ CountsFit t ⌝ }
     ensures { λ r. ⌜ r ≡ length (joinedOver linkBytes (contents t .links)) ⌝ }
 {
     let m = t.links;
@@ -133,7 +133,7 @@ fn links_length(t: Topology) -> usize
 
 // How many bytes writing needs.
 pub(crate) fn length_of(t: Topology) -> usize
-    requires { ⌜ Counted t ⌝ }
+    requires { ⌜ CountsFit t ⌝ }
     ensures { λ r. ⌜ r ≡ length (written t) ⌝ }
 {
     2 + 5 * t.routers + links_length(t) + 1

@@ -17,14 +17,14 @@ use Rattle.network.proofs.Tests.{as-true, both, three}
 use Rattle.network.proofs.Lists.{all-every}
 use Rattle.topology_types.specs.declared.Topology.{Topology}
 use Rattle.topology_types.specs.Topology.{contents}
-use Rattle.topology_types.specs.Inner.{Counted}
+use Rattle.topology_types.specs.Inner.{CountsFit}
 use Rattle.topology_types.proofs.Topology.{the-row}
 use Rattle.topology_types.proofs.Machine.{ids-length, links-length, id-fits}
 use Rattle.topology_sound.specs.Sound.{within, inLimits, wellLinked, uncrowded, isNoLink, unusedZero, slotted, sound}
 use Rattle.topology_sound.proofs.Links.{links-sound, pairs-apart}
 
 -- what is within the limits has counts that fit
-pub limits-counted : (t : Topology) → inLimits t ≡ true → Counted t
+pub limits-counted : (t : Topology) → inLimits t ≡ true → CountsFit t
 unfolding inLimits within
 limits-counted t e =
     let (routers, links, limit) = three (leb 1 (t .routers) && leb (t .routers) 64) (leb (t .links) 256) _ (subst T (sym e) tt) in
@@ -48,7 +48,7 @@ module _ (t : Topology) (vs : List Val) (good : Is the-row t vs) where
       rw (eq-eqb (length (t .id)) 64 (ids-length t vs good), eq-eqb (length (t .link)) 256 (links-length t vs good))
       (as-true _ (all-every _ (t .id) (λ i m. lt→ltb i (2 ^ 32) (id-fits t vs good i m))))
 
-  listed : Counted t → length (contents t .ids) ≡ t .routers
+  listed : CountsFit t → length (contents t .ids) ≡ t .routers
   unfolding contents
   listed counted = length-take-le (t .routers) (t .id) (omega (arith, ids-length t vs good, counted .routers-fit))
 

@@ -15,12 +15,12 @@ use Rattle.topology_types.specs.Topology.{networkOf}
 use Rattle.topology_sound.specs.Sound.{sound}
 
 -- a link with its places as numbers
-abbrev pub plain : Link → network.Link
-plain l = record { first = l .first .0; second = l .second .0; cost = l .cost; back = l .back }
+abbrev pub asLink : Link → network.Link
+asLink l = record { first = l .first .0; second = l .second .0; cost = l .cost; back = l .back }
 
 -- 01, Stations, links and limits: a topology is seen as the network of its IDs by place and its links by number.
 abbrev pub NetworkSeen : Type 0
-NetworkSeen = (t : Topology) → networkOf t ≡ linked (take (t .routers) (t .id)) (map plain (take (t .links) (t .link)))
+NetworkSeen = (t : Topology) → networkOf t ≡ linked (take (t .routers) (t .id)) (map asLink (take (t .links) (t .link)))
 
 -- 01, Refusals, 14: what `sound` tests
 pub record Sound (t : Topology) : Type 0 where
@@ -29,7 +29,7 @@ pub record Sound (t : Topology) : Type 0 where
   pub links-most : t .links ≤ 256
   pub limit-least : 1 ≤ t .limit
   pub limit-most : t .limit ≤ 16
-  pub linked : SoundLinks (take (t .routers) (t .id)) (map plain (take (t .links) (t .link)))
+  pub linked : SoundLinks (take (t .routers) (t .id)) (map asLink (take (t .links) (t .link)))
   pub neighbours : (u : ℕ) → u < t .routers → length (arcsOf (networkOf t) u) ≤ 16
   pub ids-unused : (i : ℕ) → List·Memᴰ i (drop (t .routers) (t .id)) → i ≡ 0
   pub links-unused : (l : Link) → List·Memᴰ l (drop (t .links) (t .link)) →

@@ -14,7 +14,7 @@ ghost use Rattle.network.specs.Lists.{keep, distinct, every};
 ghost use Rattle.network.specs.Network.{pairsDiffer, soundLink};
 ghost use Rattle.topology_types.specs.Limits.{mostRouters, mostLinks, mostNextHops};
 ghost use Rattle.topology_types.specs.Topology.{contents, seen};
-ghost use Rattle.topology_types.specs.Inner.{Counted};
+ghost use Rattle.topology_types.specs.Inner.{CountsFit};
 ghost use Rattle.topology_sound.specs.Sound.{within, uncrowded, isNoLink};
 
 pub(crate) fn in_limits(routers: usize, links: usize, limit: u8) -> bool
@@ -73,7 +73,7 @@ pub(crate) fn ids_differ<'a>(ids: &'a [u32; ROUTERS], n: usize) -> bool
 // Goes once through the links. A table of pairs of places holds the pairs that are linked so far, each in both orders; beside it each place has the
 // number of its neighbours so far.
 pub(crate) fn links_fit(t: Topology) -> bool
-    requires { ⌜ Counted t ⌝ }
+    requires { ⌜ CountsFit t ⌝ }
     ensures { λ r. let ls = map seen (contents t .links) in ⌜ r ≡ (every (soundLink (t .routers)) ls && pairsDiffer ls && uncrowded t) ⌝ }
 {
     let n = t.routers;
@@ -124,7 +124,7 @@ pub(crate) fn ids_end<'a>(ids: &'a [u32; ROUTERS], n: usize) -> bool
 
 // The loop goes to its end, so that many links are taken at a time.
 pub(crate) fn links_end(t: Topology) -> bool
-    requires { ⌜ Counted t ⌝ }
+    requires { ⌜ CountsFit t ⌝ }
     ensures { λ r. ⌜ r ≡ every isNoLink (drop (t .links) (t .link)) ⌝ }
 {
     let mut none = true;

@@ -9,7 +9,7 @@ use borrow.Author.Tests.{lt-ltb, le-ltb}
 use lib.ListN.{length, drop}
 use lib.Seq.{length-front, length-take-le, take-append-seam, drop-append-seam}
 use Rattle.topology_types.specs.Outcome.{answer, turnedAway, given}
-use Rattle.topology_types.specs.Theorems.{Given, GivenExact}
+use Rattle.topology_types.specs.Theorems.{BufferGiven, GivenExact}
 
 module _ (bytes buffer : List ℕ) where
   short : length buffer < length bytes → given bytes buffer ≡ record { answer = answer 24 (length bytes); buffer = buffer }

@@ -2,7 +2,7 @@
 -- Assumes nothing.
 use Prim.Native.Nat.{ℕ}
 use mathlib.Core.Bool.{cond}
-use mathlib.Core.List.{List, _++_}
+use mathlib.Core.List.{List, [], _∷_, _++_}
 use lib.Dec.{ltb}
 use lib.ListN.{length, drop}
 use Rattle.topology_types.specs.declared.Answer.{Answer}
@@ -25,3 +25,8 @@ unfoldable pub given : List ℕ → List ℕ → Outcome
 given bytes buffer =
     cond (ltb (length buffer) (length bytes)) (turnedAway 24 (length bytes) buffer)
     record { answer = answer 0 (length bytes); buffer = bytes ++ drop (length bytes) buffer }
+
+-- the first of a list, or another number where it is empty
+unfoldable pub firstOr : ℕ → List ℕ → ℕ
+firstOr other [] = other
+firstOr other (x ∷ xs) = x

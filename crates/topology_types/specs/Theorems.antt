@@ -8,7 +8,7 @@ use Rattle.topology_types.specs.Outcome.{answer, given}
 
 -- 01, Refusals, 24: a buffer that is too short is refused at the length needed and stays as it was. Otherwise the answer has number 0 and says how
 -- many bytes were written; they stand at the front of the buffer, and the rest of it stays.
-pub record Given (bytes buffer : List ℕ) : Type 0 where
+pub record BufferGiven (bytes buffer : List ℕ) : Type 0 where
   pub short : length buffer < length bytes → given bytes buffer ≡ record { answer = answer 24 (length bytes); buffer = buffer }
   pub answer : length bytes ≤ length buffer → given bytes buffer .answer ≡ answer 0 (length bytes)
   pub stated : length bytes ≤ length buffer → take (length bytes) (given bytes buffer .buffer) ≡ bytes
@@ -16,4 +16,4 @@ pub record Given (bytes buffer : List ℕ) : Type 0 where
   pub long : length (given bytes buffer .buffer) ≡ length buffer
 
 abbrev pub GivenExact : Type 0
-GivenExact = (bytes buffer : List ℕ) → Given bytes buffer
+GivenExact = (bytes buffer : List ℕ) → BufferGiven bytes buffer

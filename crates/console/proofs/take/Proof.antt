@@ -8,7 +8,8 @@ use lib.ListN.{length, take, drop, length-drop}
 use lib.Seq.{length-take-le}
 use Rattle.text.specs.Lines.{newline}
 use Rattle.text.proofs.Scan.{to-end, no-rest, before-length}
-use Rattle.console.specs.Session.{taken, stateOf}
+use Rattle.console.specs.Session.{sessionAfter}
+use Rattle.console.specs.Inner.{stateOf}
 use Rattle.console.proofs.Taken.{next-part}
 use Rattle.console.proofs.take.Statement.{statement}
 use Rattle.console.proofs.take.Tie as tie
@@ -16,7 +17,7 @@ use Rattle.console.proofs.take.Tie as tie
 abbrev Inv-loop : tie.InvT-loop
 Inv-loop table₀ line₀ text next₀ at₀ table line next at =
     (length line ≡ length line₀) × (length table ≡ length table₀) × (next .held .size ≤ length table) ×
-    (taken (length line₀) (drop at text) (stateOf next table line) ≡ taken (length line₀) text (stateOf next₀ table₀ line₀))
+    (sessionAfter (length line₀) (drop at text) (stateOf next table line) ≡ sessionAfter (length line₀) text (stateOf next₀ table₀ line₀))
 
 abbrev μ-loop : tie.MeasureT-loop
 μ-loop table₀ line₀ text next₀ at₀ table line next at = length text - at
@@ -79,7 +80,7 @@ same-length-2 : tie.Need-same-length-2 Inv-loop μ-loop
 same-length-2 c = c .before .loop .inv .0
 
 returns : tie.Need-returns Inv-loop μ-loop
-unfolding taken
+unfolding sessionAfter
 returns c =
     let entry = c .before .before .before .before .before in
     let end = no-rest (entry .args .text .now) (c .before .loop .at) (omega arith) in

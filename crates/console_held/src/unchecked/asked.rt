@@ -10,7 +10,7 @@ ghost use lib.ListN.{length};
 ghost use Rattle.text.specs.Fields.{field};
 ghost use Rattle.text.specs.Numbers.{number};
 ghost use Rattle.console_held.specs.Requests.{mostByte, mostLine, mostTable, aimOf, aimIn};
-ghost use Rattle.console_held.specs.Replies.{Decoded};
+ghost use Rattle.console_held.specs.Inner.{Decoded};
 
 // The limits of specs/Requests.antt. Two digits of a line stand for a byte.
 pub const BYTE: usize = 255;

@@ -10,7 +10,7 @@ ghost use mathlib.Core.Path.{_≡_};
 ghost use Prim.Native.Nat.{ℕ, _≤_};
 ghost use lib.ListN.{length};
 ghost use Rattle.console_held.specs.Requests.{mostLine, takenAnswer, readIn, importIn, loadIn};
-ghost use Rattle.console_held.specs.Replies.{Ready, Stepped, heldIn};
+ghost use Rattle.console_held.specs.Inner.{TableReady, StepServed, heldIn};
 
 // What is held, but for the table's bytes, which stand at the start of a buffer: the topology, how many bytes the table has, and the packet.
 pub struct Holding {
@@ -41,7 +41,7 @@ pub struct Step {
 
 // What a call returned is held beside the table and the packet.
 fn hold(h: Holding, reading: Reading) -> Step
-    ensures { λ r. ⌜ ((table buffer : List ℕ) → h .size ≤ length table → Stepped (takenAnswer (heldIn h table) reading) r table buffer) ⌝ }
+    ensures { λ r. ⌜ ((table buffer : List ℕ) → h .size ≤ length table → StepServed (takenAnswer (heldIn h table) reading) r table buffer) ⌝ }
 {
     let answer = reading.answer;
     let t = reading.topology;
@@ -60,7 +60,7 @@ fn hold(h: Holding, reading: Reading) -> Step
 // `topology STREAM`
 pub fn read(h: Holding, line: &[u8]) -> Step
     requires { ⌜ length (now line) ≤ mostLine ⌝ }
-    ensures { λ r. ⌜ ((table buffer : List ℕ) → h .size ≤ length table → Stepped (readIn (heldIn h table) (now (line .entry))) r table buffer) ⌝ }
+    ensures { λ r. ⌜ ((table buffer : List ℕ) → h .size ≤ length table → StepServed (readIn (heldIn h table) (now (line .entry))) r table buffer) ⌝ }
 {
     let mut bytes = asked::room_for_bytes();
     let Value::Is(n) = asked::bytes_in(line, 1, &mut bytes) else {
@@ -76,7 +76,7 @@ pub fn read(h: Holding, line: &[u8]) -> Step
 // `import FILE`
 pub fn import(h: Holding, line: &[u8]) -> Step
     requires { ⌜ length (now line) ≤ mostLine ⌝ }
-    ensures { λ r. ⌜ ((table buffer : List ℕ) → h .size ≤ length table → Stepped (importIn (heldIn h table) (now (line .entry))) r table buffer) ⌝ }
+    ensures { λ r. ⌜ ((table buffer : List ℕ) → h .size ≤ length table → StepServed (importIn (heldIn h table) (now (line .entry))) r table buffer) ⌝ }
 {
     let mut bytes = asked::room_for_bytes();
     let Value::Is(n) = asked::bytes_in(line, 1, &mut bytes) else {
@@ -91,8 +91,8 @@ pub fn import(h: Holding, line: &[u8]) -> Step
 
 // `load-table TABLE`
 pub fn load_table(h: Holding, table: &mut [u8], line: &[u8]) -> Step
-    requires { ⌜ Ready h (now table) × (length (now line) ≤ mostLine) ⌝ }
-    ensures { λ r. ⌜ ((buffer : List ℕ) → Stepped (loadIn (heldIn h (now (table .entry))) (now (line .entry))) r (now (table .exit)) buffer) ⌝ }
+    requires { ⌜ TableReady h (now table) × (length (now line) ≤ mostLine) ⌝ }
+    ensures { λ r. ⌜ ((buffer : List ℕ) → StepServed (loadIn (heldIn h (now (table .entry))) (now (line .entry))) r (now (table .exit)) buffer) ⌝ }
 {
     let Value::Is(n) = asked::bytes_in(line, 1, table) else {
         return Step {

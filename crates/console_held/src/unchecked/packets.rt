@@ -15,7 +15,7 @@ ghost use mathlib.Core.Path.{_≡_};
 ghost use Prim.Native.Nat.{ℕ, _≤_};
 ghost use lib.ListN.{length};
 ghost use Rattle.console_held.specs.Requests.{mostLine, loadPacketIn, setIn, hopIn};
-ghost use Rattle.console_held.specs.Replies.{Stepped, heldIn};
+ghost use Rattle.console_held.specs.Inner.{StepServed, heldIn};
 
 // The packet is held beside the rest.
 fn carry(h: Holding, packet: Packet, reply: Reply) -> Step
@@ -35,7 +35,7 @@ fn carry(h: Holding, packet: Packet, reply: Reply) -> Step
 
 // `load-packet STATION HOPS`
 pub fn load(h: Holding, line: &[u8]) -> Step
-    ensures { λ r. ⌜ ((table buffer : List ℕ) → h .size ≤ length table → Stepped (loadPacketIn (heldIn h table) (now (line .entry))) r table buffer) ⌝ }
+    ensures { λ r. ⌜ ((table buffer : List ℕ) → h .size ≤ length table → StepServed (loadPacketIn (heldIn h table) (now (line .entry))) r table buffer) ⌝ }
 {
     let Value::Is(u) = asked::number_in(line, 1, BYTE) else {
         return Step {
@@ -58,7 +58,7 @@ pub fn load(h: Holding, line: &[u8]) -> Step
 
 // `set START`
 pub fn set(h: Holding, line: &[u8]) -> Step
-    ensures { λ r. ⌜ ((table buffer : List ℕ) → h .size ≤ length table → Stepped (setIn (heldIn h table) (now (line .entry))) r table buffer) ⌝ }
+    ensures { λ r. ⌜ ((table buffer : List ℕ) → h .size ≤ length table → StepServed (setIn (heldIn h table) (now (line .entry))) r table buffer) ⌝ }
 {
     let Value::Is(u) = asked::number_in(line, 1, BYTE) else {
         return Step {
@@ -80,7 +80,7 @@ pub fn set(h: Holding, line: &[u8]) -> Step
 // `hop STATES`
 pub fn hop(h: Holding, table: &[u8], line: &[u8]) -> Step
     requires { ⌜ (h .size ≤ length (now table)) × (length (now line) ≤ mostLine) ⌝ }
-    ensures { λ r. ⌜ ((buffer : List ℕ) → Stepped (hopIn (heldIn h (now (table .entry))) (now (line .entry))) r (now (table .entry)) buffer) ⌝ }
+    ensures { λ r. ⌜ ((buffer : List ℕ) → StepServed (hopIn (heldIn h (now (table .entry))) (now (line .entry))) r (now (table .entry)) buffer) ⌝ }
 {
     let mut bytes = asked::room_for_bytes();
     let Value::Is(n) = asked::bytes_in(line, 1, &mut bytes) else {

@@ -17,8 +17,8 @@ ghost use mathlib.Core.Path.{_≡_};
 ghost use Prim.Native.Nat.{ℕ, _≤_};
 ghost use lib.ListN.{length};
 ghost use Rattle.console_held.specs.Requests.{mostLine};
-ghost use Rattle.console_replies.specs.Calls.{lent, mostRoom, writeIn, orderIn, checkOrderIn, fillIn, checkTable, countIn, walkIn, listIn, oldStreamIn, coverageOf, pathsIn, teIn};
-ghost use Rattle.console_held.specs.Replies.{Replies, heldIn};
+ghost use Rattle.console_replies.specs.Calls.{lent, mostRoom, writeIn, buildIn, checkOrderIn, fillIn, checkTable, greatestIn, walkIn, listIn, oldStreamIn, coverageOf, pathsIn, teIn};
+ghost use Rattle.console_held.specs.Inner.{Replies, heldIn};
 
 // `write ROOM`
 pub fn write(t: Topology, line: &[u8], buffer: &mut [u8]) -> Reply
@@ -35,7 +35,7 @@ pub fn write(t: Topology, line: &[u8], buffer: &mut [u8]) -> Reply
 // `order D MODE ROOM`
 pub fn build_order(t: Topology, line: &[u8], buffer: &mut [u8]) -> Reply
     requires { ⌜ now buffer ≡ lent mostRoom ⌝ }
-    ensures { λ r. ⌜ Replies (orderIn t (now (line .entry))) r (now (buffer .exit)) ⌝ }
+    ensures { λ r. ⌜ Replies (buildIn t (now (line .entry))) r (now (buffer .exit)) ⌝ }
 {
     let Aim::At(destination, mode) = asked::aim_in(line) else {
         return Reply::Error;
@@ -96,7 +96,7 @@ pub fn check_table(h: Holding, table: &[u8]) -> Reply
 // `greatest ROOM`
 pub fn count_hops(h: Holding, table: &[u8], line: &[u8], buffer: &mut [u8]) -> Reply
     requires { ⌜ (h .size ≤ length (now table)) × (now buffer ≡ lent mostRoom) ⌝ }
-    ensures { λ r. ⌜ Replies (countIn (heldIn h (now (table .entry))) (now (line .entry))) r (now (buffer .exit)) ⌝ }
+    ensures { λ r. ⌜ Replies (greatestIn (heldIn h (now (table .entry))) (now (line .entry))) r (now (buffer .exit)) ⌝ }
 {
     let t = h.topology;
     let size = h.size;

@@ -6,14 +6,14 @@ ghost use mathlib.Core.List.{map};
 ghost use mathlib.Core.Path.{_≡_};
 ghost use Prim.Native.Nat.{_+_, _*_, _≤_};
 ghost use lib.ListN.{length};
-ghost use Rattle.text.specs.Lines.{Put};
+ghost use Rattle.text.specs.Inner.{Put};
 ghost use Rattle.text.specs.Numbers.{numberText};
 ghost use Rattle.listing_rules.specs.Listing.{spaced};
 ghost use Rattle.forwarding_rules.specs.Calls.{packetIn};
 ghost use Rattle.console_held.specs.Requests.{packetLine};
 ghost use Rattle.console_replies.specs.Calls.{mostRoom, mostAnswer};
 ghost use Rattle.console_replies.specs.Calls as said;
-ghost use Rattle.console_held.specs.Replies.{replyText, roomOf};
+ghost use Rattle.console_held.specs.Inner.{replyText, roomOf};
 
 // The limits of specs/Calls.antt.
 pub const ROOM: usize = 65536;

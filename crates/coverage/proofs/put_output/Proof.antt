@@ -13,7 +13,7 @@ use Rattle.coverage_rules.proofs.Right.{figures-right}
 use Rattle.coverage_rules.proofs.Printing.{text-length}
 use Rattle.program_io.specs.Output.{printed, outputBy}
 use Rattle.program_io.proofs.Right.{refused-length, read-sound}
-use Rattle.coverage.specs.Output.{figuresText, output}
+use Rattle.coverage.specs.Output.{figuresText, coverageOutput}
 use borrow.Author.Needs.{needs}
 use Rattle.coverage.proofs.put_output.Statement.{statement}
 use Rattle.coverage.proofs.put_output.Tie as tie
@@ -30,7 +30,7 @@ module _ (c : tie.After-read) where
   few e = let good = its-topology e in omega (arith, figures-right _ good .destinations, sound-exact _ .0 good .routers-most)
 
 returns : tie.Need-returns
-unfolding output outputBy printed
+unfolding coverageOutput outputBy printed
 returns c =
     let r = c .before .before .before .before .before .before .before in
     let put = c .before .before .put-refused .ensures in
@@ -48,7 +48,7 @@ put-coverage-requires c κs =
     (rw (c .before .coverage .ensures) (few r (c .before .before .before .before .if1 .left)), start r .pre)
 
 returns-2 : tie.Need-returns-2
-unfolding output outputBy printed figuresText coverageText
+unfolding coverageOutput outputBy printed figuresText coverageText
 returns-2 c =
     let r = c .before .before .before .before .before .before .before .before .before .before in
     let none = c .before .before .before .before .before .before .before .if1 .left in

@@ -15,7 +15,7 @@ ghost use Rattle.topology_types.specs.Limits.{mostRouters};
 ghost use Rattle.topology_sound.specs.Sound.{sound};
 ghost use Rattle.table.specs.Listed.{placesIn};
 ghost use Rattle.table.specs.Calls.{tableChecking};
-ghost use Rattle.forwarding_steps.specs.Inner.{RowOf, boundOf, Bounded, Figures};
+ghost use Rattle.forwarding_steps.specs.Inner.{RowOf, boundOf, Bounded, FiguresIn};
 
 // The greatest hop count of every place, as far as it is known: a hop bound is a rank, 255 where a place has none (02, #107).
 pub struct Bounds {
@@ -46,7 +46,7 @@ fn greatest_of(table: &[u8], bounds: Bounds, u: usize) -> Rank
 // no place has the rank.
 pub fn bounds_of(t: Topology, table: &[u8]) -> Bounds
     requires { ⌜ T (sound t) × (tableChecking t (now table) ≡ record { number = 0; at = 0 }) ⌝ }
-    ensures { λ r. ⌜ Figures t (now (table .entry)) r ⌝ }
+    ensures { λ r. ⌜ FiguresIn t (now (table .entry)) r ⌝ }
 {
     let order = table::unchecked::order_of(t.routers, table);
     let mut by = [Rank(255); ROUTERS];

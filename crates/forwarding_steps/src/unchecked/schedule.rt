@@ -2,7 +2,7 @@
 ghost use mathlib.Core.Path.{_≡_};
 ghost use Prim.Native.Nat.{ℕ, _≤_, _<_};
 ghost use lib.ListN.{length, getD};
-ghost use Rattle.topology_types.specs.Inner.{firstOr};
+ghost use Rattle.topology_types.specs.Outcome.{firstOr};
 ghost use Rattle.forwarding_rules.specs.Schedule.{soundLength, wrongStates};
 
 // A number that no byte is over: the greatest of them. The loop goes to its end, so that many bytes are taken at a time.

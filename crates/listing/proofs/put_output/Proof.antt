@@ -9,7 +9,7 @@ use Rattle.topology_sound.proofs.Sound.{sound-exact}
 use Rattle.listing_rules.proofs.Tables.{all-length}
 use Rattle.program_io.specs.Output.{printed, outputBy}
 use Rattle.program_io.proofs.Right.{refused-length, read-sound}
-use Rattle.listing.specs.Output.{output}
+use Rattle.listing.specs.Output.{listingOutput}
 use borrow.Author.Needs.{needs}
 use Rattle.listing.proofs.put_output.Statement.{statement}
 use Rattle.listing.proofs.put_output.Tie as tie
@@ -23,7 +23,7 @@ module _ (c : tie.After-read) where
   its-topology = read-sound (start .args .stream .now) (λ i. omega (arith, c .before .before .shared-slice-known .given i)) (c .read .ensures)
 
 returns : tie.Need-returns
-unfolding output outputBy printed
+unfolding listingOutput outputBy printed
 returns c =
     let r = c .before .before .before .before .before .before .before in
     let put = c .before .before .put-refused .ensures in
@@ -39,7 +39,7 @@ put-all-requires c κs =
     (good, c .before .of .ensures, omega (arith, sound-exact _ .0 good .routers-most, start r .pre))
 
 returns-2 : tie.Need-returns-2
-unfolding output outputBy printed
+unfolding listingOutput outputBy printed
 returns-2 c =
     let r = c .before .before .before .before .before .before .before .before .before in
     let none = c .before .before .before .before .before .before .if1 .left in

@@ -15,7 +15,7 @@ use Rattle.topology_types.specs.Topology.{networkOf}
 use Rattle.topology_types.specs.Outcome.{given, turnedAway}
 use Rattle.order.specs.Calls.{orderBytes, building, modeOf}
 use Rattle.distances.proofs.Slots.{laid-out}
-use Rattle.order.specs.Proposed.{Lent}
+use Rattle.order.specs.Inner.{Lent}
 use Rattle.order.proofs.Orders.{order-long}
 use Rattle.order.proofs.build.Statement.{statement}
 use Rattle.order.proofs.build.Tie as tie

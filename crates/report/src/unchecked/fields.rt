@@ -2,13 +2,13 @@
 use text::unchecked::lines;
 ghost use Prim.Native.Nat.{_+_, _*_, _≤_, _<_};
 ghost use lib.ListN.{length};
-ghost use Rattle.text.specs.Lines.{Put};
-ghost use Rattle.listing_rules.specs.Inner.{field, fieldsText, Short};
+ghost use Rattle.text.specs.Inner.{Put};
+ghost use Rattle.listing_rules.specs.Inner.{spacedNumber, fieldsText, Short};
 
 // A space and a number.
 pub(crate) fn put_field(out: &mut [u8], at: usize, n: u8) -> usize
     requires { ⌜ (n < 100) × (at + 3 ≤ length (now out)) ⌝ }
-    ensures { λ r. ⌜ Put (now (out .entry)) at (field n) r (now (out .exit)) ⌝ }
+    ensures { λ r. ⌜ Put (now (out .entry)) at (spacedNumber n) r (now (out .exit)) ⌝ }
 {
     out[at] = b' ';
     lines::put_small(out, at + 1, n)
@@ -17,7 +17,7 @@ pub(crate) fn put_field(out: &mut [u8], at: usize, n: u8) -> usize
 // A space and a byte, of up to three digits.
 pub(crate) fn put_byte_field(out: &mut [u8], at: usize, n: u8) -> usize
     requires { ⌜ at + 4 ≤ length (now out) ⌝ }
-    ensures { λ r. ⌜ Put (now (out .entry)) at (field n) r (now (out .exit)) ⌝ }
+    ensures { λ r. ⌜ Put (now (out .entry)) at (spacedNumber n) r (now (out .exit)) ⌝ }
 {
     if n < 100 {
         return put_field(out, at, n);

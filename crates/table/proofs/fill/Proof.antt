@@ -17,12 +17,12 @@ use Rattle.topology_sound.specs.Sound.{sound}
 use Rattle.topology_sound.proofs.Sound.{sound-exact}
 use Rattle.order_standings.specs.declared.Mode.the-variants as mode
 use Rattle.order.specs.Calls.{reachedCount, judging, checking}
-use Rattle.order.specs.Proposed.{Measured}
+use Rattle.order.specs.Inner.{Measured}
 use Rattle.order.proofs.Turn.{counts-reached}
 use Rattle.order.proofs.Decided.{unsound, outside, judged}
 use Rattle.distances.proofs.Slots.{laid-out}
 use Rattle.table_rows.specs.Bytes.{tableBytes, rowStart}
-use Rattle.table_rows.specs.Keys.{Fillable}
+use Rattle.table_rows.specs.Inner.{Fillable}
 use Rattle.table.specs.Calls.{unlessRefused, filling}
 use Rattle.table.proofs.Bytes.{bytes-exact}
 use Rattle.table.proofs.Calling.{let-through, in-free, free-long, fillable}

@@ -7,16 +7,16 @@ use Rattle.te.proofs.added.Statement.{statement}
 use Rattle.te.proofs.added.Tie as tie
 
 returns : tie.Need-returns
-unfolding said.added
-returns c = sym (ap (said.added _) (c .enum-told .given .1))
+unfolding said.addedSub
+returns c = sym (ap (said.addedSub _) (c .enum-told .given .1))
 
 returns-2 : tie.Need-returns-2
-unfolding said.added
-returns-2 c = sym (ap (said.added _) (c .enum-told2 .given .1))
+unfolding said.addedSub
+returns-2 c = sym (ap (said.addedSub _) (c .enum-told2 .given .1))
 
 returns-3 : tie.Need-returns-3
-unfolding said.added
-returns-3 c = c .gathered .ensures ∙ sym (ap (said.added _) (c .before .before .found .given .1))
+unfolding said.addedSub
+returns-3 c = c .gathered .ensures ∙ sym (ap (said.addedSub _) (c .before .before .found .given .1))
 
 pub added-spec : {M : Type 1} → statement M
 added-spec =

@@ -7,7 +7,7 @@ use Rattle.te.proofs.refused.Statement.{statement}
 use Rattle.te.proofs.refused.Tie as tie
 
 returns : tie.Need-returns
-unfolding said.refusal
+unfolding said.refusedCost
 returns c = rw (c .nothing .ensures) refl
 
 pub refused-spec : {M : Type 1} → statement M

@@ -6,7 +6,8 @@ ghost use lib.Seq.{sets};
 ghost use Rattle.text.specs.Hex.{hexOf, bytesText};
 ghost use Rattle.text.specs.Hex as hex;
 ghost use Rattle.text.specs.Numbers.{numberText};
-ghost use Rattle.text.specs.Lines.{Put, Gathered, errorLine, answerText, answerLine, wordLine, bufferLine};
+ghost use Rattle.text.specs.Inner.{Put, Gathered};
+ghost use Rattle.text.specs.Lines.{errorLine, answerText, answerLine, wordLine, bufferLine};
 
 // Puts a text into a buffer from an offset on, and answers the offset after it.
 pub fn put(out: &mut [u8], at: usize, text: &[u8]) -> usize

@@ -9,7 +9,7 @@ use borrow.Author.Tests.{not-true, not-false, lt-ltb, le-ltb}
 use lib.ListN.{length, set, length-set}
 use Rattle.topology_types.specs.Topology.{contents}
 use Rattle.topology_types.specs.Outcome.{given, turnedAway}
-use Rattle.topology_types.specs.Inner.{Counted}
+use Rattle.topology_types.specs.Inner.{CountsFit}
 use Rattle.topology_sound.specs.Sound.{sound}
 use Rattle.topology_sound.specs.Theorems.{Sound}
 use Rattle.topology_sound.proofs.Sound.{sound-exact}
@@ -31,7 +31,7 @@ is-sound c = sym (c .before .is-sound .ensures) ∙ not-false _ (c .if1 .left)
 facts : (c : tie.Else1) → Sound (c .before .before .before .args .t)
 facts c = sound-exact (c .before .before .before .args .t) .0 (rw (is-sound c) tt)
 
-counted : (c : tie.Else1) → Counted (c .before .before .before .args .t)
+counted : (c : tie.Else1) → CountsFit (c .before .before .before .args .t)
 counted c = record { routers-fit = facts c .routers-most; links-fit = facts c .links-most }
 
 length-of-requires : tie.Need-length-of-requires

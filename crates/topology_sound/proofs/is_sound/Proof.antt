@@ -8,7 +8,7 @@ use borrow.Author.Tests.{not-true, not-false}
 use lib.ListN.{length}
 use Rattle.network.specs.Lists.{distinct}
 use Rattle.topology_types.specs.Topology.{contents}
-use Rattle.topology_types.specs.Inner.{Counted}
+use Rattle.topology_types.specs.Inner.{CountsFit}
 use Rattle.topology_types.proofs.Machine.{ids-length}
 use Rattle.topology_sound.specs.Sound.{inLimits, sound}
 use Rattle.topology_sound.proofs.InTurn.{limits-counted, links-fit, from-ids, from-zeros, past-limits}
@@ -20,7 +20,7 @@ limits : (c : tie.Else1) → inLimits (c .before .before .args .t1) ≡ true
 unfolding inLimits
 limits c = sym (c .before .in-limits .ensures) ∙ not-false _ (c .if1 .left)
 
-counted : (c : tie.Else1) → Counted (c .before .before .args .t1)
+counted : (c : tie.Else1) → CountsFit (c .before .before .args .t1)
 counted c = limits-counted _ (limits c)
 
 ids-asked : (c : tie.Else1) → let t = c .before .before .args .t1 in (t .routers ≤ 64) × (length (t .id) ≡ 64)

@@ -2,7 +2,7 @@
 -- Assumes nothing.
 use mathlib.Core.Path.{refl}
 use borrow.Author.Needs.{needs}
-use Rattle.arcs.specs.Arcs.{withArc}
+use Rattle.arcs.specs.Inner.{withArc}
 use Rattle.arcs.proofs.unchecked.add.Statement.{statement}
 use Rattle.arcs.proofs.unchecked.add.Tie as tie
 

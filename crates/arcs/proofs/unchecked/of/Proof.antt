@@ -11,7 +11,8 @@ use lib.ListN.{getD, getD-replicate}
 use Rattle.topology_types.specs.declared.Link.{Link}
 use Rattle.topology_types.specs.Topology.{seen}
 use Rattle.arcs.specs.declared.Arcs.{Arcs}
-use Rattle.arcs.specs.Arcs.{withArc, inSlots, linkBack, slotsBack}
+use Rattle.arcs.specs.Inner.{withArc, inSlots, slotsBack}
+use Rattle.arcs.specs.Back.{linkBack}
 use Rattle.arcs.proofs.Among.{there, back}
 use Rattle.arcs.proofs.Filled.{Filled, Next, filled-none, room-first, room-second, one-link}
 use Rattle.arcs.proofs.Links.{firstLinks, links-of, next-links, next-fits}

@@ -12,7 +12,7 @@ use Rattle.topology_types.specs.Topology.{padded}
 use Rattle.topology_sound.proofs.Sound.{sound-exact}
 use Rattle.stream_rules.proofs.Held.{padded-length}
 use Rattle.topology.specs.Written.{joinedOver}
-use Rattle.coverage_rules.specs.Coverage.{pairsTo, pairsOf, coveredAmong, listedFor, counted}
+use Rattle.coverage_rules.specs.Coverage.{pairsTo, pairsOf, coveredAmong, listedFor, figuresCounted}
 use Rattle.coverage_rules.proofs.Counting.{covered-few, covered-more, listed-more}
 use Rattle.coverage_rules.proofs.Right.{is-counted}
 use Rattle.coverage_counts.proofs.unchecked.coverage.Statement.{statement}
@@ -93,7 +93,7 @@ mul-t16 c =
     omega (arith, mul-le-mul-left n less)
 
 returns : tie.Need-returns Inv-loop μ-loop
-unfolding counted pairsOf
+unfolding figuresCounted pairsOf
 returns c =
     let at = c .before .loop in
     let s = c .before .before in

@@ -5,8 +5,7 @@ use mathlib.Core.Logic.{inl, inr, ⊎-elim}
 use mathlib.Core.Path.{_≡_}
 use native.Mathlib.Omega.{arith}
 use lib.ListN.{getD}
-use Rattle.distances.specs.Slots.{slotTo}
-use Rattle.distances.specs.Inner.{Relaxed}
+use Rattle.distances.specs.Inner.{slotTo, Relaxed}
 use Rattle.distances.proofs.Relaxed.{relaxed-none, relaxed-more}
 use Rattle.distances.proofs.settling.relax.Statement.{statement}
 use Rattle.distances.proofs.settling.relax.Tie as tie

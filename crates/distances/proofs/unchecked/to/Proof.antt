@@ -4,7 +4,7 @@ use Prim.Native.Nat.{_-_, _<_, _≤_}
 use native.Mathlib.Omega.{arith}
 use borrow.Author.Needs.{needs}
 use lib.ListN.{getD}
-use Rattle.distances.specs.Slots.{Slots}
+use Rattle.distances.specs.Inner.{Slots}
 use Rattle.distances.proofs.Laid.{laid-given, Runs, runs-begun, runs-searched, runs-slots, runs-turned, runs-ended}
 use Rattle.distances.proofs.unchecked.to.Statement.{statement}
 use Rattle.distances.proofs.unchecked.to.Tie as tie

@@ -2,7 +2,7 @@
 -- Assumes nothing.
 use borrow.Author.Needs.{needs}
 use Rattle.forwarding_rules.specs.Calls.{hopSays}
-use Rattle.forwarding_rules.specs.Lent.{afterHop}
+use Rattle.forwarding_rules.specs.Lent.{packetAfterHop}
 use Rattle.forwarding.proofs.lending.packet_after_hop.Statement.{statement}
 use Rattle.forwarding.proofs.lending.packet_after_hop.Tie as tie
 
@@ -19,19 +19,19 @@ enum-told-3 : tie.Need-enum-told-3
 enum-told-3 c = search needs
 
 returns : tie.Need-returns
-unfolding afterHop hopSays
+unfolding packetAfterHop hopSays
 returns c = rw (c .enum-told .given .1)
 
 returns-2 : tie.Need-returns-2
-unfolding afterHop hopSays
+unfolding packetAfterHop hopSays
 returns-2 c = rw (c .before .answer .given .1)
 
 returns-3 : tie.Need-returns-3
-unfolding afterHop hopSays
+unfolding packetAfterHop hopSays
 returns-3 c = rw (c .enum-told2 .given .1)
 
 returns-4 : tie.Need-returns-4
-unfolding afterHop hopSays
+unfolding packetAfterHop hopSays
 returns-4 c = rw (c .enum-told3 .given .1)
 
 pub packet-after-hop-spec : {M : Type 1} → statement M

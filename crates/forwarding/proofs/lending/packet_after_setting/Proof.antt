@@ -2,7 +2,7 @@
 -- Assumes nothing.
 use borrow.Author.Needs.{needs}
 use Rattle.forwarding_rules.specs.Calls.{settingSays}
-use Rattle.forwarding_rules.specs.Lent.{afterSetting}
+use Rattle.forwarding_rules.specs.Lent.{packetAfterSetting}
 use Rattle.forwarding.proofs.lending.packet_after_setting.Statement.{statement}
 use Rattle.forwarding.proofs.lending.packet_after_setting.Tie as tie
 
@@ -13,11 +13,11 @@ enum-told : tie.Need-enum-told
 enum-told c = search needs
 
 returns : tie.Need-returns
-unfolding afterSetting settingSays
+unfolding packetAfterSetting settingSays
 returns c = rw (c .before .answer .given .1)
 
 returns-2 : tie.Need-returns-2
-unfolding afterSetting settingSays
+unfolding packetAfterSetting settingSays
 returns-2 c = rw (c .enum-told .given .1)
 
 pub packet-after-setting-spec : {M : Type 1} → statement M

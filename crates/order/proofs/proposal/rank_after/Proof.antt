@@ -6,7 +6,7 @@ use native.Mathlib.Decide.{ℕ-discrete}
 use native.Mathlib.Omega.{arith}
 use borrow.Author.Needs.{needs}
 use lib.ListN.{length, getD}
-use Rattle.topology_types.specs.Inner.{firstOr}
+use Rattle.topology_types.specs.Outcome.{firstOr}
 use Rattle.order.proofs.After.{all-none, ranked-first}
 use Rattle.order.proofs.proposal.rank_after.Statement.{statement}
 use Rattle.order.proofs.proposal.rank_after.Tie as tie

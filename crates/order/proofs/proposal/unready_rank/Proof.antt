@@ -13,11 +13,10 @@ use lib.Dec.{leb}
 use lib.ListN.{length, getD, set, replicate}
 use Rattle.topology_types.specs.declared.Topology.{Topology}
 use Rattle.arcs.specs.declared.Arcs.{Arcs}
-use Rattle.distances.specs.Slots.{Slots}
+use Rattle.distances.specs.Inner.{Slots}
 use Rattle.order_standings.specs.declared.Mode.{Mode}
-use Rattle.order_standings.specs.Standings.{Standing, Stepped}
-use Rattle.order.specs.Inner.{Begins}
-use Rattle.order.specs.Proposed.{LaidOut}
+use Rattle.order_standings.specs.Inner.{FirstStandings, StandingsAfter}
+use Rattle.order.specs.Inner.{FirstPlaced, LaidOut}
 use Rattle.order.proofs.Turn.{every-slot, slots, zeros-small, first-slots, first-room}
 use Rattle.order.proofs.Checking.{Checking, begins-short, first-turn, place, has-room, unready, again, none-unready}
 use Rattle.order.proofs.proposal.unready_rank.Statement.{statement}
@@ -26,12 +25,12 @@ use Rattle.order.proofs.proposal.unready_rank.Tie as tie
 -- the standings once d is placed
 abbrev FirstOf : Topology → Arcs → ℕ → Mode → List ℕ → List ℕ → Type 0
 FirstOf t a d m ds keys =
-    (start : List ℕ) × Standing (a .count) (a .to) (a .cost) ds (replicate 64 0) m (t .routers) start
-    × Stepped (set start d 0) (a .to) (a .back) ds m d (getD (a .count) d 0) keys
+    (start : List ℕ) × FirstStandings (a .count) (a .to) (a .cost) ds (replicate 64 0) m (t .routers) start
+    × StandingsAfter (set start d 0) (a .to) (a .back) ds m d (getD (a .count) d 0) keys
 
 abbrev Inv-loop : tie.InvT-loop
 Inv-loop d mode order a ds keys₀ count rank₀ keys rank =
-    (t : Topology) → LaidOut t a d mode ds → Begins t d order → FirstOf t a d mode ds keys₀ → Checking t a d mode ds order keys rank
+    (t : Topology) → LaidOut t a d mode ds → FirstPlaced t d order → FirstOf t a d mode ds keys₀ → Checking t a d mode ds order keys rank
 
 abbrev μ-loop : tie.MeasureT-loop
 μ-loop d mode order a ds keys₀ count rank₀ keys rank = length order - rank

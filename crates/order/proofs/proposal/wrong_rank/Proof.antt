@@ -14,7 +14,7 @@ use lib.Dec.{ltb}
 use lib.ListN.{length, getD, take, getD-replicate, length-set}
 use lib.Seq.{take-suc}
 use Rattle.network.specs.Lists.{member, any}
-use Rattle.topology_types.specs.Inner.{firstOr}
+use Rattle.topology_types.specs.Outcome.{firstOr}
 use Rattle.order.specs.Calls.{wrongRanks}
 use Rattle.order.proofs.First.{first-below, none-below}
 use Rattle.order.proofs.Marked.{marked-more}

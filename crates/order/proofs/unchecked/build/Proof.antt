@@ -10,9 +10,9 @@ use borrow.Author.Needs.{needs}
 use borrow.Author.Tests.{leb-true, leb-false, not-true, not-false}
 use lib.ListN.{length, getD, length-set}
 use Rattle.topology_types.specs.declared.Topology.{Topology}
-use Rattle.order.specs.Proposed.{Lent}
-use Rattle.distances.specs.Slots.{Slots}
-use Rattle.order_standings.specs.Standings.{Inverse}
+use Rattle.order.specs.Inner.{Lent}
+use Rattle.distances.specs.Inner.{Slots}
+use Rattle.order_standings.specs.Inner.{Inverse}
 use Rattle.order.proofs.Building.{Building, same-long, cleared-long}
 use Rattle.order.proofs.Lending.{slots-of, all, all-back, d-in, small, apart, room-first, begin, keys-fit, fits, next-in, room-next, go-on, stuck, done}
 use Rattle.order.proofs.unchecked.build.Statement.{statement}

@@ -8,7 +8,7 @@ use native.Mathlib.Omega.{arith}
 use denote.Ref.{now}
 use lib.ListN.{length, take}
 use lib.Seq.{length-take-le}
-use Rattle.topology_types.specs.Inner.{firstOr}
+use Rattle.topology_types.specs.Outcome.{firstOr}
 use Rattle.topology_types.specs.Topology.{networkOf}
 use Rattle.topology_sound.proofs.Sound.{sound-exact}
 use Rattle.order.specs.Calls.{modeOf, reachedCount, wrongRanks, ranksAfter, unreadyRanks}

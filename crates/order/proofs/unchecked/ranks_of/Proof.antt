@@ -17,7 +17,7 @@ use Rattle.network.proofs.Lists.{pairwise-split}
 use Rattle.network.proofs.Pigeon.{at-most}
 use Rattle.network.proofs.Rank.{rank-is-turn}
 use Rattle.topology_types.specs.declared.Rank.{Rank}
-use Rattle.order.specs.Proposed.{Ranked}
+use Rattle.order.specs.Inner.{Ranked}
 use Rattle.distances.proofs.Stored.{stored}
 use Rattle.order.proofs.unchecked.ranks_of.Statement.{statement}
 use Rattle.order.proofs.unchecked.ranks_of.Tie as tie

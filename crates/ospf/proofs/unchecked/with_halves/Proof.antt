@@ -17,7 +17,7 @@ use Rattle.stream_rules.specs.Reading.{refusal, fault, ended}
 use Rattle.stream_rules.specs.Inner.{Indexed}
 use Rattle.ospf_lsas.specs.Lsa.{links, lsas}
 use Rattle.ospf_halves.specs.Neighbours.{allOf, halvesOf}
-use Rattle.ospf.specs.Import.{idOf, halvesAt, atLast}
+use Rattle.ospf.specs.Import.{routerOf, halvesAt, atLast}
 use Rattle.ospf_lsas.proofs.Walk.{Lies, lies}
 use Rattle.ospf.proofs.Routed.{here}
 use Rattle.ospf.proofs.Halving.{same-part, all-whole, idsIn, Halving, Within, halving-first, whole-here, room, within-first, halving-next, halving-end, cost-fits, within-off, within-on}
@@ -182,7 +182,7 @@ places-fit c =
       arith,
       room x (lsa (b c .before)) (b c .be16 .result) (b c .be16 .ensures),
       ap length (x .ids),
-      length-map (lsas (file c)) idOf,
+      length-map (lsas (file c)) routerOf,
       x .filled .good .routers-fit,
     )
 

@@ -8,7 +8,7 @@ use Rattle.network.specs.Lists.{numbersFrom, below}
 use Rattle.arcs.proofs.Slots.{below-more}
 use Rattle.listing_rules.proofs.InTurn.{SoFar, none, more}
 use Rattle.paths_lines.specs.Lines.{pathLine}
-use Rattle.paths_lines.specs.Inner.{mostLine, placesOf, pathIn, pathsText}
+use Rattle.paths_lines.specs.Inner.{mostPathLine, placesOf, pathIn, pathsText}
 use Rattle.paths_lines.proofs.Fields.{path-length}
 use Rattle.paths_lines.proofs.Bytes.{in-long, in-few}
 use Rattle.paths_lines.proofs.printing.put_paths.Statement.{statement}
@@ -16,14 +16,14 @@ use Rattle.paths_lines.proofs.printing.put_paths.Tie as tie
 
 abbrev Inv-loop : tie.InvT-loop
 Inv-loop out₀ destination start paths count end₀ i₀ out end i =
-    (i ≤ count) × SoFar (λ j. pathLine destination start (placesOf (pathIn paths j))) mostLine out₀ 0 (below i) i end out
+    (i ≤ count) × SoFar (λ j. pathLine destination start (placesOf (pathIn paths j))) mostPathLine out₀ 0 (below i) i end out
 
 abbrev μ-loop : tie.MeasureT-loop
 μ-loop out₀ destination start paths count end₀ i₀ out end i = count - i
 
 loop-holds : tie.Need-loop-holds Inv-loop μ-loop
 unfolding below numbersFrom
-loop-holds c = (omega arith, none _ mostLine)
+loop-holds c = (omega arith, none _ mostPathLine)
 
 -- the path of a turn stands in the bytes
 module _ (c : tie.In-loop Inv-loop μ-loop) where
@@ -62,7 +62,7 @@ loop-again c =
     let short = pre .2 .places (at .i) (turn in-loop .0) in
     let few = path-length (a .destination) (a .start) (pre .0) (pre .1) (placesOf (pathIn (a .paths .now) (at .i))) (in-few _ _ (turn in-loop .2)) short in (
       omega (arith, turn in-loop),
-      more _ mostLine (at .inv .1) (at .i) few (rw (part in-loop) at (c .before .before .put-path .ensures)) (below-more (at .i)),
+      more _ mostPathLine (at .inv .1) (at .i) few (rw (part in-loop) at (c .before .before .put-path .ensures)) (below-more (at .i)),
     )
 
 same-length : tie.Need-same-length Inv-loop μ-loop

@@ -9,7 +9,7 @@ use Rattle.arcs.proofs.Slots.{below-more}
 use Rattle.table_rows.specs.Bytes.{rowStart}
 use Rattle.table.specs.Listed.{rankIn, placesIn}
 use Rattle.listing_rules.specs.declared.Front.{Front}
-use Rattle.listing_rules.specs.Inner.{mostLine, lineOf, lineIn, tableText, Small}
+use Rattle.listing_rules.specs.Inner.{mostListingLine, frontLine, lineIn, tableText, Small}
 use Rattle.listing_rules.proofs.InTurn.{SoFar, none, more}
 use Rattle.listing_rules.proofs.Fields.{line-length}
 use Rattle.report.proofs.printing.put_table.Statement.{statement}
@@ -17,14 +17,14 @@ use Rattle.report.proofs.printing.put_table.Tie as tie
 
 abbrev Inv-loop : tie.InvT-loop
 Inv-loop out₀ at table hops n destination end₀ u₀ out end u =
-    (u ≤ n) × SoFar (lineIn table hops destination) mostLine out₀ at (below u) u end out
+    (u ≤ n) × SoFar (lineIn table hops destination) mostListingLine out₀ at (below u) u end out
 
 abbrev μ-loop : tie.MeasureT-loop
 μ-loop out₀ at table hops n destination end₀ u₀ out end u = n - u
 
 loop-holds : tie.Need-loop-holds Inv-loop μ-loop
 unfolding below numbersFrom
-loop-holds c = (omega arith, none (lineIn _ _ _) mostLine)
+loop-holds c = (omega arith, none (lineIn _ _ _) mostListingLine)
 
 -- the row of a turn stands in the table
 module _ (c : tie.In-loop Inv-loop μ-loop) where
@@ -82,14 +82,14 @@ put-line-requires c κs =
     )
 
 loop-again : tie.Need-loop-again Inv-loop μ-loop
-unfolding front rankIn rowStart lineIn lineOf
+unfolding front rankIn rowStart lineIn frontLine
 loop-again c =
     let turn = c .before .before .before .before .before .before .before .before in
     let u = turn .before .loop .u in
     let start = args turn in
     let few = line-length (front turn) (placesIn (start .args .table .now) u) (small turn) (start .pre .0 .row u (turn .loop-test .taken)) in (
       omega (arith, in-table turn),
-      more (lineIn (start .args .table .now) (start .args .hops .now) (start .args .destination)) mostLine (turn .before .loop .inv .1) u few
+      more (lineIn (start .args .table .now) (start .args .hops .now) (start .args .destination)) mostListingLine (turn .before .loop .inv .1) u few
           (rw (entries turn) at (c .before .before .put-line .ensures)) (below-more u),
     )
 

@@ -7,21 +7,21 @@ use Rattle.network.specs.Lists.{numbersFrom, below}
 use Rattle.arcs.proofs.Slots.{below-more}
 use Rattle.topology_sound.proofs.Sound.{sound-exact}
 use Rattle.listing_rules.specs.Listing.{linesFor, allLines}
-use Rattle.listing_rules.specs.Inner.{mostLines}
+use Rattle.listing_rules.specs.Inner.{mostListingLines}
 use Rattle.listing_rules.proofs.InTurn.{SoFar, none, more}
 use Rattle.listing_rules.proofs.Tables.{lines-length}
 use Rattle.report.proofs.unchecked.put_all.Statement.{statement}
 use Rattle.report.proofs.unchecked.put_all.Tie as tie
 
 abbrev Inv-loop : tie.InvT-loop
-Inv-loop t a out₀ end₀ d₀ out end d = (d ≤ t .routers) × SoFar (linesFor t) mostLines out₀ 0 (below d) d end out
+Inv-loop t a out₀ end₀ d₀ out end d = (d ≤ t .routers) × SoFar (linesFor t) mostListingLines out₀ 0 (below d) d end out
 
 abbrev μ-loop : tie.MeasureT-loop
 μ-loop t a out₀ end₀ d₀ out end d = t .routers - d
 
 loop-holds : tie.Need-loop-holds Inv-loop μ-loop
 unfolding below numbersFrom
-loop-holds c = (omega arith, none (linesFor _) mostLines)
+loop-holds c = (omega arith, none (linesFor _) mostListingLines)
 
 cast-t7 : tie.Need-cast-t7 Inv-loop μ-loop
 cast-t7 c = omega (arith, c .if1 .taken, sound-exact _ .0 (c .before .before .before .before .pre .0) .routers-most)
@@ -44,7 +44,7 @@ loop-again c =
     let s = c .before .before .before .before .before .before .before .before in
     let h = c .before .before .before .before .if1 .taken in (
       omega (arith, h),
-      more (linesFor (s .args .t)) mostLines (at .inv .1) (at .d) (lines-length (s .args .t) (s .pre .0) (at .d) h) (c .before .before .put-lines .ensures)
+      more (linesFor (s .args .t)) mostListingLines (at .inv .1) (at .d) (lines-length (s .args .t) (s .pre .0) (at .d) h) (c .before .before .put-lines .ensures)
           (below-more (at .d)),
     )
 

@@ -3,7 +3,7 @@
 use mathlib.Core.Path.{ap}
 use borrow.Author.Needs.{needs}
 use borrow.Author.Tests.{lt-ltb, le-ltb, eq-eqb, ne-eqb}
-use Rattle.stream_rules.specs.Reading.{accepted}
+use Rattle.stream_rules.specs.Reading.{acceptedReading}
 use Rattle.stream_rules.specs.Reading as said
 use Rattle.stream_rules.specs.Theorems.{success}
 use Rattle.stream_rules.proofs.Held.{routers-held}
@@ -22,7 +22,7 @@ returns-2 c =
     rw (le-ltb _ _ (c .before .before .before .if1 .left), ← count, eq-eqb _ 0 (c .before .if2 .taken)) (c .refused2 .ensures)
 
 returns-3 : tie.Need-returns-3
-unfolding said.ended accepted
+unfolding said.ended acceptedReading
 returns-3 c =
     let s = c .before .before .before .before in
     let count = routers-held (s .args .t) (s .pre .0) in

@@ -13,7 +13,7 @@ use lib.ListN.{length, getD}
 use Rattle.network.specs.Lists.{any}
 use Rattle.topology_types.specs.declared.Half.{Half}
 use Rattle.topology_types.specs.Limits.{mostRouters, mostHalves, mostNeighbours}
-use Rattle.stream_rules.specs.Halves.{Listing, opposite}
+use Rattle.stream_rules.specs.Halves.{StreamListing, opposite}
 use Rattle.stream_rules.specs.Reading.{repeated, crowded, halvesFault}
 use Rattle.stream_rules.specs.Inner.{Indexed}
 use Rattle.stream_rules.proofs.Faults.{repeated-by, crowded-by, from-6, from-7, from-8, from-9, from-10}
@@ -49,10 +49,10 @@ module _ (both b : Bool) (number rest : ℕ) where
   not-made e = rw e
 
 -- these tests are left where the ones before have passed
-abbrev Left : tie.Start → (Listing → Half → List Half → ℕ) → Type 0
+abbrev Left : tie.Start → (StreamListing → Half → List Half → ℕ) → Type 0
 Left s rest =
     let new-ones = new (s .args .h) (s .args .both) in
-    (p : Listing) → Indexed p (s .args .n) (s .args .m) (s .args .costs .now) (s .args .leaving .now) →
+    (p : StreamListing) → Indexed p (s .args .n) (s .args .m) (s .args .costs .now) (s .args .leaving .now) →
     halvesFault p (s .args .h) new-ones ≡ rest p (s .args .h) new-ones
 
 returns : tie.Need-returns
@@ -108,7 +108,7 @@ module _ (c : tie.Else4) where
   abbrev to : ℕ
   to = at .index2 .result
 
-  module _ (p : Listing) (i : Indexed p (start .args .n) (start .args .m) (start .args .costs .now) (start .args .leaving .now)) where
+  module _ (p : StreamListing) (i : Indexed p (start .args .n) (start .args .m) (start .args .costs .now) (start .args .leaving .now)) where
     first-repeated : repeated p (start .args .h) ≡ not (eqb (getD (start .args .costs .now) (from * mostRouters + to) 0) 0)
     first-repeated = repeated-by i (start .pre .0) (start .args .h) (at .before .index .ensures) (at .index2 .ensures) (omega arith) (omega arith)
 

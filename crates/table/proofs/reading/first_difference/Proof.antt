@@ -11,7 +11,7 @@ use borrow.Author.Needs.{needs}
 use borrow.Author.Tests.{eq-eqb, ne-eqb}
 use lib.Dec.{eqb}
 use lib.ListN.{length, getD}
-use Rattle.topology_types.specs.Inner.{firstOr}
+use Rattle.topology_types.specs.Outcome.{firstOr}
 use Rattle.order.proofs.First.{first-below, none-below}
 use Rattle.table.specs.Calls.{differing}
 use Rattle.table.proofs.reading.first_difference.Statement.{statement}

@@ -11,9 +11,9 @@ use Rattle.network.specs.Order.{free, build}
 use Rattle.network.specs.Theorems.Order.{Accepted}
 use Rattle.topology_types.specs.Topology.{padded, networkOf}
 use Rattle.topology_sound.proofs.Sound.{sound-exact}
-use Rattle.distances.specs.Settled.{Settled}
+use Rattle.distances.specs.Inner.{Settled}
 use Rattle.distances.proofs.Slots.{laid-out}
-use Rattle.order.specs.Proposed.{Lent, Measured}
+use Rattle.order.specs.Inner.{Lent, Measured}
 use Rattle.order.specs.Calls.{modeOf, reachedCount, orderBytes}
 use Rattle.order.proofs.Turn.{settled-serve, counts-reached}
 use Rattle.order.proofs.Orders.{few-reached}

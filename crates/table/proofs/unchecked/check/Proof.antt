@@ -17,7 +17,7 @@ use Rattle.topology_types.specs.declared.Answer.{Answer}
 use Rattle.order_standings.specs.declared.Mode.the-variants as mode
 use Rattle.distances.proofs.Slots.{laid-out}
 use Rattle.order.specs.Calls.{judging}
-use Rattle.order.specs.Proposed.{Measured}
+use Rattle.order.specs.Inner.{Measured}
 use Rattle.table_rows.specs.Bytes.{rowStart}
 use Rattle.table.specs.Listed.{destinationIn, byRank}
 use Rattle.table.specs.Calls.{soundHeader}

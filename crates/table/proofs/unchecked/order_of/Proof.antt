@@ -13,7 +13,7 @@ use lib.ListN.{length, getD, take, getD-replicate, length-set}
 use lib.Seq.{getD-take, ext-getD, length-take-le}
 use Rattle.network.specs.Lists.{numbersFrom, below, keep}
 use Rattle.network.proofs.Below.{getD-below, length-map-below}
-use Rattle.topology_types.specs.Inner.{firstOr}
+use Rattle.topology_types.specs.Outcome.{firstOr}
 use Rattle.order.proofs.Runs.{down-none, down-more, down-all}
 use Rattle.distances.proofs.Stored.{stored}
 use Rattle.table_rows.specs.Bytes.{rowStart}

@@ -13,11 +13,11 @@ use Rattle.topology_types.specs.Topology.{networkOf}
 use Rattle.topology_sound.proofs.Sound.{sound-networks}
 use Rattle.arcs.specs.declared.Arcs.{Arcs}
 use Rattle.order.specs.declared.unchecked.Ranks.{Ranks}
-use Rattle.order.specs.Proposed.{RanksOf}
+use Rattle.order.specs.Inner.{RanksOf}
 use Rattle.topology.specs.Inner.{over}
 use Rattle.topology.proofs.Over.{over-length}
 use Rattle.table_rows.specs.Bytes.{rowBytes, rowStart, headerBytes}
-use Rattle.table_rows.specs.Keys.{Weights, Fillable, KeySlots, rankOf, sortedKeys, placeOf}
+use Rattle.table_rows.specs.Inner.{Weights, Fillable, KeySlots, rankOf, sortedKeys, placeInKey}
 use Rattle.table_rows.proofs.KeyLaw.{weighable, key-slots}
 use Rattle.table_rows.proofs.Putting.{firstRows, rows-none, rows-length, rows-next, table-put, row-put}
 use Rattle.table_rows.proofs.unchecked.fill.Statement.{statement}
@@ -36,7 +36,7 @@ row-next : {t : Topology} {a : Arcs} {ds : List ℕ} {d limit : ℕ} {order : Li
     out ≡ over buffer 4 (firstRows (networkOf t) (distances (networkOf t) d) limit order u) →
     (keys : List ℕ) (found count : ℕ) → take found keys ≡ sortedKeys (a .to) (a .cost) weights (ranks .by) u (getD (a .count) u 0) →
     ((found < limit) × (count ≡ found)) ⊎ ((limit ≤ found) × (count ≡ limit)) →
-    over out (rowStart u) (rowBytes (rankOf (ranks .by) u) (map placeOf (take count keys)))
+    over out (rowStart u) (rowBytes (rankOf (ranks .by) u) (map placeInKey (take count keys)))
     ≡ over buffer 4 (firstRows (networkOf t) (distances (networkOf t) d) limit order (u + 1))
 row-next g buffer out u turn fits put keys found count e cut =
     let sized = g .sized in

@@ -12,14 +12,14 @@ use Rattle.topology_types.specs.Topology.{padded}
 use Rattle.topology.specs.Inner.{over}
 use Rattle.topology.proofs.Over.{over-none, over-two, over-next, over-over}
 use Rattle.table_rows.specs.Bytes.{rowBytes}
-use Rattle.table_rows.specs.Keys.{placeOf}
+use Rattle.table_rows.specs.Inner.{placeInKey}
 use Rattle.table_rows.proofs.Padding.{named, entries-length, entry-used, entry-unused, begun-length, begun-next}
 use Rattle.table_rows.proofs.writing.put_row.Statement.{statement}
 use Rattle.table_rows.proofs.writing.put_row.Tie as tie
 
 abbrev Inv-loop : tie.InvT-loop
 Inv-loop out₀ at keys count entries i₀ out i =
-    (i ≤ 16) × (out ≡ over out₀ (at + 3) (take i (padded 255 16 (map placeOf (take count keys)))))
+    (i ≤ 16) × (out ≡ over out₀ (at + 3) (take i (padded 255 16 (map placeInKey (take count keys)))))
 
 abbrev μ-loop : tie.MeasureT-loop
 μ-loop out₀ at keys count entries i₀ out i = 16 - i
@@ -30,7 +30,7 @@ module _ (c : tie.At-loop Inv-loop μ-loop) where
   front = let args = c .before .args in set (set (set (args .out .now) (args .at) 17) (args .at + 1) (args .rank .0)) (args .at + 2) (args .count)
 
   abbrev row : List ℕ
-  row = padded 255 16 (map placeOf (take (c .before .args .count) (c .before .args .keys .now)))
+  row = padded 255 16 (map placeInKey (take (c .before .args .count) (c .before .args .keys .now)))
 
   long : length row ≡ 16
   long = entries-length _ _ (c .before .pre .1) (c .before .pre .0)

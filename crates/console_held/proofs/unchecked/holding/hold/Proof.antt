@@ -2,7 +2,7 @@
 -- Assumes nothing.
 use mathlib.Core.Path.{refl}
 use Rattle.console_held.specs.Requests.{takenAnswer}
-use Rattle.console_held.specs.Replies.{heldIn}
+use Rattle.console_held.specs.Inner.{heldIn}
 use Rattle.console_held.proofs.Replying.{answer-reply}
 use Rattle.console_held.proofs.unchecked.holding.hold.Statement.{statement}
 use Rattle.console_held.proofs.unchecked.holding.hold.Tie as tie

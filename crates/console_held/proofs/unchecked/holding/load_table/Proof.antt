@@ -5,7 +5,7 @@ use Rattle.text.specs.declared.unchecked.fields.Value.the-variants.{Is, Wrong}
 use Rattle.text.specs.Fields.{field}
 use Rattle.text.specs.Hex.{byteCount}
 use Rattle.console_held.specs.Requests.{loadIn, loadBy, answerOf}
-use Rattle.console_held.specs.Replies.{heldIn}
+use Rattle.console_held.specs.Inner.{heldIn}
 use Rattle.console_held.proofs.Replying.{answer-reply, error-step}
 use borrow.Author.Needs.{needs}
 use Rattle.console_held.proofs.unchecked.holding.load_table.Statement.{statement}

@@ -11,7 +11,7 @@ use Rattle.forwarding_rules.specs.Calls.{packetIn, hopSays}
 use Rattle.console_held.specs.declared.unchecked.holding.Reply.{Reply}
 use Rattle.console_held.specs.declared.unchecked.holding.Step.{Step}
 use Rattle.console_held.specs.Requests.{hopIn, hopBy, hopAnswer, hopText}
-use Rattle.console_held.specs.Replies.{Stepped, heldIn, replyText, roomOf}
+use Rattle.console_held.specs.Inner.{StepServed, heldIn, replyText, roomOf}
 use Rattle.console_held.proofs.Replying.{error-step, carried-step, plain-reply}
 use borrow.Author.Needs.{needs}
 use Rattle.console_held.proofs.unchecked.packets.hop.Statement.{statement}
@@ -43,7 +43,7 @@ array-share-prefix-bytes c = c .before .before .before .before .before .before .
 answered : (c : tie.After-lend-to-hop) (buffer : List ℕ) {r : Reply} {s : Step} → let a = c .before .before .before .before .before .before .before .before .before .before .before .before .before .before .args in
     s ≡ record { held = record { topology = a .h .topology; size = a .h .size; packet = c .lend-to-hop .result .packet }; reply = r } →
     replyText r buffer ≡ hopText (hopSays (c .lend-to-hop .result .answer)) (packetIn (c .lend-to-hop .result .packet)) → roomOf r ≡ 0 →
-    Stepped (hopIn (heldIn (a .h) (a .table .now)) (a .line .now)) s (a .table .now) buffer
+    StepServed (hopIn (heldIn (a .h) (a .table .now)) (a .line .now)) s (a .table .now) buffer
 unfolding hopAnswer
 answered c buffer e t n =
     let start = c .before .before .before .before .before .before .before .before .before .before .before .before .before .before in

@@ -9,8 +9,8 @@ use Rattle.text.specs.Fields.{field}
 use Rattle.text.specs.Numbers.{number}
 use Rattle.text.proofs.Numbers.{number-bound}
 use Rattle.forwarding_rules.specs.Calls.{packetIn, settingSays}
-use Rattle.console_held.specs.Requests.{mostByte, setIn, setBy, setAnswer, setText}
-use Rattle.console_held.specs.Replies.{heldIn, replyText, roomOf}
+use Rattle.console_held.specs.Requests.{mostByte, setIn, settingBy, setAnswer, setText}
+use Rattle.console_held.specs.Inner.{heldIn, replyText, roomOf}
 use Rattle.console_held.proofs.Replying.{error-step, carried-step, plain-reply}
 use borrow.Author.Needs.{needs}
 use Rattle.console_held.proofs.unchecked.packets.set.Statement.{statement}
@@ -23,11 +23,11 @@ held c = sym (c .before .before .before .number-in .ensures) ∙ c .before .u .g
 -- what the call says and leaves is answered
 said : (c : tie.After-lend-to-set) (table : List ℕ) → let a = c .before .before .before .before .before .before .before .before .args in
     setIn (heldIn (a .h) table) (a .line .now) ≡ setAnswer (heldIn (a .h) table) (record { answer = settingSays (c .lend-to-set .result .answer); packet = packetIn (c .lend-to-set .result .packet) })
-unfolding setIn setBy heldIn
+unfolding setIn settingBy heldIn
 said c table = rw (held (c .before .before .before), ← c .lend-to-set .ensures)
 
 returns : tie.Need-returns
-unfolding setIn setBy
+unfolding setIn settingBy
 returns c table buffer h = rw (← c .before .before .number-in .ensures, c .enum-told .given .1) (error-step h)
 
 cast-t12 : tie.Need-cast-t12

@@ -1,7 +1,7 @@
 -- The start of the buffer is lent, and the reply names as many bytes.
 -- Assumes nothing.
 use Rattle.order.specs.Calls.{building}
-use Rattle.console_replies.specs.Calls.{orderIn, orderBy}
+use Rattle.console_replies.specs.Calls.{buildIn, orderBy}
 use Rattle.console_held.proofs.Replying.{error-reply}
 use Rattle.console_replies.proofs.Room.{Room, room, start-size, start-within, buffer-reply}
 use borrow.Author.Needs.{needs}
@@ -13,17 +13,17 @@ lends : (c : tie.After-known-told2) → Room (c .before .n .given .0 .0) (c .bef
 lends c = room _ (c .before .before .before .number-in .ensures) (c .before .n .given .1) (c .before .before .before .before .before .before .before .before .before .before .pre)
 
 returns : tie.Need-returns
-unfolding orderIn orderBy
+unfolding buildIn orderBy
 returns c = rw (← c .before .before .aim-in .ensures, c .enum-told .given .1) error-reply
 
 returns-2 : tie.Need-returns-2
-unfolding orderIn orderBy
+unfolding buildIn orderBy
 returns-2 c =
     let aimed = c .before .before .before in
     rw (← aimed .before .before .before .aim-in .ensures, aimed .before .destination .given .1, ← c .before .before .number-in .ensures, c .enum-told2 .given .1) error-reply
 
 returns-3 : tie.Need-returns-3
-unfolding orderIn orderBy
+unfolding buildIn orderBy
 returns-3 c =
     let w = c .before .before in
     let known = w .before .before in

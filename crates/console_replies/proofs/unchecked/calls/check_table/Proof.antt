@@ -4,7 +4,7 @@ use mathlib.Core.Path.{sym}
 use native.Mathlib.Omega.{arith}
 use lib.Seq.{length-take-le}
 use Rattle.console_replies.specs.Calls.{checkTable}
-use Rattle.console_held.specs.Replies.{heldIn}
+use Rattle.console_held.specs.Inner.{heldIn}
 use Rattle.console_held.proofs.Replying.{answer-reply}
 use borrow.Author.Needs.{needs}
 use Rattle.console_replies.proofs.unchecked.calls.check_table.Statement.{statement}

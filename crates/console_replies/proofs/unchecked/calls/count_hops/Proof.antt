@@ -4,8 +4,8 @@ use mathlib.Core.Path.{sym}
 use lib.ListN.{take}
 use lib.Seq.{length-take-le}
 use Rattle.forwarding_rules.specs.Calls.{countingHops}
-use Rattle.console_replies.specs.Calls.{countIn, countBy}
-use Rattle.console_held.specs.Replies.{heldIn}
+use Rattle.console_replies.specs.Calls.{greatestIn, countBy}
+use Rattle.console_held.specs.Inner.{heldIn}
 use Rattle.console_held.proofs.Replying.{error-reply}
 use Rattle.console_replies.proofs.Room.{Room, room, start-size, start-within, buffer-reply}
 use borrow.Author.Needs.{needs}
@@ -17,11 +17,11 @@ lends : (c : tie.After-known-told) → Room (c .before .n .given .0 .0) (c .befo
 lends c = room _ (c .before .before .before .number-in .ensures) (c .before .n .given .1) (c .before .before .before .before .before .before .before .before .pre .1)
 
 returns : tie.Need-returns
-unfolding countIn countBy
+unfolding greatestIn countBy
 returns c = rw (← c .before .before .number-in .ensures, c .enum-told .given .1) error-reply
 
 returns-2 : tie.Need-returns-2
-unfolding countIn countBy heldIn
+unfolding greatestIn countBy heldIn
 returns-2 c =
     let w = c .before .before in
     let known = w .before .before .before in

@@ -11,7 +11,7 @@ use Rattle.text.proofs.Numbers.{number-bound}
 use Rattle.forwarding_rules.specs.Calls.{walkSays}
 use Rattle.console_held.specs.Requests.{mostByte}
 use Rattle.console_replies.specs.Calls.{walkIn, walkBy, walkText}
-use Rattle.console_held.specs.Replies.{heldIn, replyText, roomOf}
+use Rattle.console_held.specs.Inner.{heldIn, replyText, roomOf}
 use Rattle.console_held.proofs.Replying.{error-reply, plain-reply}
 use borrow.Author.Needs.{needs}
 use Rattle.console_replies.proofs.unchecked.calls.walk.Statement.{statement}

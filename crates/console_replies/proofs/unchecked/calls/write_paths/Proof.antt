@@ -10,7 +10,7 @@ use Rattle.text.specs.Numbers.{number}
 use Rattle.text.proofs.Numbers.{number-bound}
 use Rattle.paths_rules.specs.Calls.{writingPaths}
 use Rattle.console_held.specs.Requests.{mostByte}
-use Rattle.console_held.specs.Replies.{heldIn}
+use Rattle.console_held.specs.Inner.{heldIn}
 use Rattle.console_held.proofs.Replying.{error-reply}
 use Rattle.console_replies.specs.Calls.{pathsIn, pathsBy}
 use Rattle.console_replies.proofs.Room.{Room, room, start-size, start-within, buffer-reply}

@@ -14,7 +14,7 @@ use Rattle.text.specs.Numbers.{numberText}
 use Rattle.text.proofs.Stores.{behind}
 use Rattle.text.proofs.Texts.{number-length}
 use Rattle.listing_rules.specs.Listing.{spaced}
-use Rattle.listing_rules.specs.Inner.{field, fieldsText}
+use Rattle.listing_rules.specs.Inner.{spacedNumber, fieldsText}
 use Rattle.listing_rules.proofs.Fields.{spaced-first, joined-fields}
 use Rattle.listing_rules.proofs.InTurn.{SoFar, none, more, ended, put-byte, put-length}
 use Rattle.console_replies.proofs.unchecked.putting.put_numbers.Statement.{statement}
@@ -22,13 +22,13 @@ use Rattle.console_replies.proofs.unchecked.putting.put_numbers.Tie as 
 
 abbrev Inv-loop : tie.InvT-loop
 Inv-loop out₀ numbers end₀ i₀ out end i =
-    (1 ≤ i) × (i ≤ length numbers) × SoFar field 21 out₀ end₀ (drop 1 (take i numbers)) (i - 1) end out
+    (1 ≤ i) × (i ≤ length numbers) × SoFar spacedNumber 21 out₀ end₀ (drop 1 (take i numbers)) (i - 1) end out
 
 abbrev μ-loop : tie.MeasureT-loop
 μ-loop out₀ numbers end₀ i₀ out end i = length numbers - i
 
 -- one number or more: the first, and the others behind a space each
-by-others : (ns : List ℕ) → 1 ≤ length ns → spaced (map numberText ns) ≡ numberText (getD ns 0 0) ++ joinedOver field (drop 1 ns)
+by-others : (ns : List ℕ) → 1 ≤ length ns → spaced (map numberText ns) ≡ numberText (getD ns 0 0) ++ joinedOver spacedNumber (drop 1 ns)
 unfolding fieldsText
 by-others [] h = absurd (omega arith)
 by-others (n ∷ ns) h = spaced-first (numberText n) (map numberText ns) ∙ ap (λ s. numberText n ++ s) (joined-fields ns)
@@ -46,7 +46,7 @@ other-more ns i some h =
 loop-holds : tie.Need-loop-holds Inv-loop μ-loop
 loop-holds c =
     let start = c .before .before .before .before .before .before .before in
-    (omega arith, start .pre .0, rw (none-other (start .args .numbers .now)) (none field 21))
+    (omega arith, start .pre .0, rw (none-other (start .args .numbers .now)) (none spacedNumber 21))
 
 -- what was put before the loop, and the room that is left in a turn
 module _ (c : tie.At-loop Inv-loop μ-loop) where
@@ -83,7 +83,7 @@ loop-again c =
       omega arith,
       omega arith,
       rw count
-          (more field 21 (at .loop .inv .2) number (omega (arith, number-length number))
+          (more spacedNumber 21 (at .loop .inv .2) number (omega (arith, number-length number))
           (behind (put-byte _ _ space) (c .before .before .put-number2 .ensures)) (other-more numbers i (at .loop .inv .0) h)),
     )
 

@@ -13,7 +13,7 @@ use Rattle.forwarding_rules.specs.Calls.{packetIn}
 use Rattle.listing_rules.proofs.InTurn.{put-length}
 use Rattle.console_held.specs.Requests.{setWord, deliveredWord, movedWord, droppedWord, answerOf, packetLine}
 use Rattle.console_replies.specs.Calls.{mostAnswer}
-use Rattle.console_held.specs.Replies.{replyText, roomOf}
+use Rattle.console_held.specs.Inner.{replyText, roomOf}
 use borrow.Author.Needs.{needs}
 use Rattle.console_replies.proofs.unchecked.putting.put_reply.Statement.{statement}
 use Rattle.console_replies.proofs.unchecked.putting.put_reply.Tie as tie

@@ -7,7 +7,7 @@ use native.Mathlib.Omega.{arith}
 use borrow.Author.Tests.{eq-eqb, ne-eqb}
 use Rattle.network.specs.Lists.{numbersFrom, any}
 use Rattle.network.specs.Routing.{up}
-use Rattle.distances.specs.Slots.{slotTo}
+use Rattle.distances.specs.Inner.{slotTo}
 use Rattle.order.proofs.Runs.{down-none, down-more, down-all}
 use Rattle.forwarding_steps.specs.Inner.{slotUp}
 use Rattle.forwarding_steps.proofs.Next.{any-at}

@@ -13,7 +13,7 @@ use borrow.Author.Needs.{needs}
 use borrow.Author.Tests.{le-leb, lt-leb}
 use lib.Dec.{leb}
 use lib.ListN.{length, getD}
-use Rattle.topology_types.specs.Inner.{firstOr}
+use Rattle.topology_types.specs.Outcome.{firstOr}
 use Rattle.order.proofs.First.{first-below, none-below}
 use Rattle.forwarding_rules.specs.Schedule.{wrongStates}
 use Rattle.forwarding_steps.proofs.unchecked.schedule.first_over.Statement.{statement}

@@ -6,20 +6,20 @@ use native.Mathlib.Numerals.{add-one}
 use native.Mathlib.Omega.{arith}
 use lib.ListN.{length, getD, take}
 use lib.Seq.{take-suc, take-all}
-use Rattle.listing_rules.specs.Inner.{field, fieldsText}
+use Rattle.listing_rules.specs.Inner.{spacedNumber, fieldsText}
 use Rattle.listing_rules.proofs.InTurn.{SoFar, none, more}
 use Rattle.listing_rules.proofs.Fields.{field-length}
 use Rattle.report.proofs.unchecked.fields.put_fields.Statement.{statement}
 use Rattle.report.proofs.unchecked.fields.put_fields.Tie as tie
 
 abbrev Inv-loop : tie.InvT-loop
-Inv-loop out₀ at numbers end₀ i₀ out end i = (i ≤ length numbers) × SoFar field 3 out₀ at (take i numbers) i end out
+Inv-loop out₀ at numbers end₀ i₀ out end i = (i ≤ length numbers) × SoFar spacedNumber 3 out₀ at (take i numbers) i end out
 
 abbrev μ-loop : tie.MeasureT-loop
 μ-loop out₀ at numbers end₀ i₀ out end i = length numbers - i
 
 loop-holds : tie.Need-loop-holds Inv-loop μ-loop
-loop-holds c = (omega arith, none field 3)
+loop-holds c = (omega arith, none spacedNumber 3)
 
 put-field-requires : tie.Need-put-field-requires Inv-loop μ-loop
 put-field-requires c κs =
@@ -34,7 +34,7 @@ loop-again c =
     let numbers = s .args .numbers .now in
     let h : at .i < length numbers = in-loop .loop-test .taken in (
       omega arith,
-      more field 3 (at .inv .1) (getD numbers (at .i) 0) (field-length _ (s .pre .0 (at .i) h)) (c .before .before .put-field .ensures)
+      more spacedNumber 3 (at .inv .1) (getD numbers (at .i) 0) (field-length _ (s .pre .0 (at .i) h)) (c .before .before .put-field .ensures)
           (rw add-one (take-suc numbers (at .i) 0 h)),
     )
 

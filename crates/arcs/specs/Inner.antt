@@ -5,10 +5,11 @@ use mathlib.Core.List.{List, map}
 use mathlib.Core.Path.{_≡_}
 use lib.ListN.{length, getD, set}
 use Rattle.network.specs.Lists.{below}
-use Rattle.network.specs.Network.{Arc, Network, size, arcsOf, Link, linked}
+use Rattle.network.specs.Network.{Arc, Network, size, arcsOf}
 use Rattle.topology_types.specs.Limits.{mostRouters, mostNeighbours}
-use Rattle.topology_types.specs.Topology.{contents, seen, networkOf}
+use Rattle.topology_types.specs.Topology.{networkOf}
 use Rattle.topology_types.specs.declared.Topology.{Topology}
+use Rattle.arcs.specs.Back.{networkBack}
 use Rattle.arcs.specs.declared.Arcs.{Arcs}
 
 -- the arc in slot j of the router u
@@ -49,17 +50,9 @@ pub record Slotted (a : Arcs) : Type 0 where
   pub links : length (a .link) ≡ mostRouters * mostNeighbours
 
 -- the arcs of every router of the network
-pub record Holds (n : Network) (a : Arcs) : Type 0 where
+pub record ArcsHeld (n : Network) (a : Arcs) : Type 0 where
   pub slots : Slotted a
   pub arcs : (u : ℕ) → u < size n → slotArcs a u ≡ arcsOf n u
-
--- a link with the costs of its two directions exchanged
-unfoldable pub linkBack : Link → Link
-linkBack l = record { first = l .first; second = l .second; cost = l .back; back = l .cost }
-
--- 02, #105: the network of a topology with the costs of every link exchanged: each arc costs what going the other way does
-unfoldable pub networkBack : Topology → Network
-networkBack t = linked (contents t .ids) (map linkBack (map seen (contents t .links)))
 
 -- the slots with costs and ways back exchanged
 abbrev pub slotsBack : Arcs → Arcs
@@ -67,5 +60,5 @@ slotsBack a = inSlots (a .count) (a .to) (a .back) (a .cost) (a .link)
 
 -- a topology's arcs laid out: in every used slot an arc with its cost, and with what going the other way costs
 pub record Laid (t : Topology) (a : Arcs) : Type 0 where
-  pub out : Holds (networkOf t) a
-  pub back : Holds (networkBack t) (slotsBack a)
+  pub out : ArcsHeld (networkOf t) a
+  pub back : ArcsHeld (networkBack t) (slotsBack a)

@@ -10,12 +10,12 @@ use Rattle.network.specs.Network.{Network, Link, WellFormed, linked}
 use Rattle.network.specs.Order.{Mode, shortest-path, free}
 use Rattle.topology_types.specs.Topology.{networkOf}
 use Rattle.stream_rules.specs.Reading.{reading}
-use Rattle.stream_rules.specs.Table.{T-stream}
+use Rattle.stream_rules.specs.Facts.{T-stream}
 use Rattle.topology.specs.Written.{joinedOver}
 use Rattle.order_standings.specs.declared.Mode as call
 use Rattle.order_standings.specs.declared.Mode.the-variants.{ShortestPath, Free}
-use Rattle.facts_starred.specs.Fact.{Fact, Claim, order-is, row-is, greatest-are, paths-are, walk-costs, calls-leave, set, hop, upBut, holds}
-use Rattle.facts_starred.specs.Chain.{Chain, Expected, builds, lists, counts, walks, delivered, dropped, follows}
+use Rattle.facts_starred.specs.Facts.Fact.{Fact, Claim, order-is, row-is, greatest-are, paths-are, walk-costs, calls-leave, set, hop, upBut, holds}
+use Rattle.facts_starred.specs.Facts.Chain.{Chain, Expected, builds, lists, counts, walks, delivered, dropped, follows}
 
 unfoldable pub link : ℕ → ℕ → ℕ → Link
 link u v c = record { first = u; second = v; cost = c; back = c }

@@ -7,7 +7,7 @@ use mathlib.Core.List.{List, [], _∷_, _++_}
 use lib.Dec.{T}
 use Rattle.network.specs.Lists.{every, sameNumbers}
 use Rattle.stream_rules.specs.Reading.{reading}
-use Rattle.stream_rules.specs.Table.{one, two, three, T-stream}
+use Rattle.stream_rules.specs.Facts.{one, two, three, T-stream}
 use Rattle.topology.specs.Written.{written}
 
 pub record Fact : Type 0 where

@@ -11,7 +11,7 @@ use Rattle.network.specs.Lists.{below, keep}
 use Rattle.topology_types.specs.Limits.{mostRouters, mostNeighbours}
 use Rattle.order_standings.specs.declared.Mode.{Mode}
 use Rattle.order_standings.specs.declared.Mode.the-variants as mode
-use Rattle.distances.specs.Slots.{slotTo, slotCost}
+use Rattle.distances.specs.Inner.{slotTo, slotCost}
 
 -- slot j of u leads to a shortest next hop
 unfoldable pub slotShort : List ℕ → List ℕ → List ℕ → ℕ → ℕ → Bool
@@ -39,7 +39,7 @@ pub record Inverse (lower : List ℕ) (n : ℕ) (places : List ℕ) : Type 0 whe
   pub each : (u : ℕ) → u < n → getD places (getD lower u 0) 0 ≡ u
 
 -- the standings before any router is placed
-pub record Standing (counts to cost ds lower : List ℕ) (m : Mode) (n : ℕ) (keys : List ℕ) : Type 0 where
+pub record FirstStandings (counts to cost ds lower : List ℕ) (m : Mode) (n : ℕ) (keys : List ℕ) : Type 0 where
   pub long : length keys ≡ mostRouters
   pub each : (u : ℕ) → u < n →
       getD keys u 0 + waitsFor m (length (keep (slotShort to cost ds u) (below (getD counts u 0)))) * 1088 ≡ 17408 + getD lower u 0
@@ -64,15 +64,15 @@ serving to back ds u count v =
     length (keep (λ j. eqb (slotTo to u j) v && eqb (getD back (u * mostNeighbours + j) 0 + getD ds u 0) (getD ds v 0)) (below count))
 
 -- the standing of v after `count` slots of the router at u, which is placed
-unfoldable pub after : List ℕ → List ℕ → List ℕ → List ℕ → Mode → ℕ → ℕ → ℕ → ℕ
-after keys to back ds m u count v = getD keys v 0 + leading to u count v * 64 + waitsFor m (serving to back ds u count v) * 1088
+unfoldable pub standingAfter : List ℕ → List ℕ → List ℕ → List ℕ → Mode → ℕ → ℕ → ℕ → ℕ
+standingAfter keys to back ds m u count v = getD keys v 0 + leading to u count v * 64 + waitsFor m (serving to back ds u count v) * 1088
 
 -- the standings have room for that
 pub record Room (keys to back ds : List ℕ) (m : Mode) (u count : ℕ) : Type 0 where
   pub long : length keys ≡ mostRouters
-  pub most : (v : ℕ) → v < mostRouters → after keys to back ds m u count v ≤ 65535
+  pub most : (v : ℕ) → v < mostRouters → standingAfter keys to back ds m u count v ≤ 65535
 
 -- and have become that
-pub record Stepped (keys to back ds : List ℕ) (m : Mode) (u count : ℕ) (r : List ℕ) : Type 0 where
+pub record StandingsAfter (keys to back ds : List ℕ) (m : Mode) (u count : ℕ) (r : List ℕ) : Type 0 where
   pub long : length r ≡ mostRouters
-  pub each : (v : ℕ) → v < mostRouters → getD r v 0 ≡ after keys to back ds m u count v
+  pub each : (v : ℕ) → v < mostRouters → getD r v 0 ≡ standingAfter keys to back ds m u count v

@@ -26,7 +26,7 @@ unfoldable pub heldIn : Holding → List ℕ → Held
 heldIn h table = record { topology = h .topology; table = take (h .size) table; packet = packetIn (h .packet) }
 
 -- The table's buffer is as long as a table can be, and holds the table.
-pub record Ready (h : Holding) (table : List ℕ) : Type 0 where
+pub record TableReady (h : Holding) (table : List ℕ) : Type 0 where
   pub size : h .size ≤ length table
   pub room : length table ≡ mostTable
 
@@ -60,7 +60,7 @@ pub record Replies (text : List ℕ) (r : Reply) (buffer : List ℕ) : Type 0 wh
   pub room : roomOf r ≤ length buffer
 
 -- A request was served: what it leaves is held, and the reply stands for its line.
-pub record Stepped (a : Answered) (r : Step) (table buffer : List ℕ) : Type 0 where
+pub record StepServed (a : Answered) (r : Step) (table buffer : List ℕ) : Type 0 where
   pub held : heldIn (r .held) table ≡ a .held
   pub size : r .held .size ≤ length table
   pub replies : Replies (a .text) (r .reply) buffer

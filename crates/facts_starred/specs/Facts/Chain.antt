@@ -13,14 +13,14 @@ use Rattle.stream_rules.specs.declared.Reading.{Reading}
 use Rattle.stream_rules.specs.Reading.{reading}
 use Rattle.order_standings.specs.declared.Mode.{Mode}
 use Rattle.order.specs.Calls.{building}
-use Rattle.order.specs.Table.{answers}
+use Rattle.order.specs.Facts.{answers}
 use Rattle.table_rows.specs.Bytes.{tableLength}
 use Rattle.table.specs.Listed.{placesIn}
 use Rattle.table.specs.Calls.{filling}
 use Rattle.table.specs.Facts.{room}
 use Rattle.forwarding_rules.specs.Calls.{Said, done, refused, countingHops, walking}
-use Rattle.forwarding_rules.specs.Lists.{Call, afterAll}
-use Rattle.facts_starred.specs.Fact.{leftAt}
+use Rattle.forwarding_rules.specs.Lists.{PacketCall, afterAll}
+use Rattle.facts_starred.specs.Facts.Fact.{leftAt}
 
 -- Which end a walk is expected to have, at which station, after how many hops.
 pub data End : Type 0 where
@@ -38,7 +38,7 @@ pub data Expected : Type 0 where
   -- a walk, by the table filled, from a start under the bytes of a schedule
   walks : ℕ → List ℕ → End → Expected
   -- a list of calls, by the table filled, leaves the packet at a station with so many hops made; at first it is at place 0 with 0 hops made
-  leaves : List Call → ℕ → ℕ → Expected
+  leaves : List PacketCall → ℕ → ℕ → Expected
 
 pub record Chain : Type 0 where
   pub stream : List ℕ

@@ -8,8 +8,8 @@ use lib.ListN.{replicate}
 use Rattle.network.specs.Lists.{every}
 use Rattle.order_standings.specs.declared.Mode.the-variants.{ShortestPath, Free}
 use Rattle.forwarding_rules.specs.Lists.{set-at, hop-under}
-use Rattle.facts_starred.specs.Chain.{Chain, builds, lists, counts, walks, leaves, delivered, dropped, follows}
-use Rattle.facts_starred.specs.Starred.{from}
+use Rattle.facts_starred.specs.Facts.Chain.{Chain, builds, lists, counts, walks, leaves, delivered, dropped, follows}
+use Rattle.facts_starred.specs.Facts.Starred.{from}
 
 -- T with a fourth router, of ID 4, that no link joins; the limit K is not among these bytes
 unfoldable pub cutOff : List ℕ

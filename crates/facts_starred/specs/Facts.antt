@@ -1,0 +1,4 @@
+pub mod Fact
+pub mod Chain
+pub mod Starred
+pub mod Apart
