@@ -1,7 +1,7 @@
 #!/usr/bin/env python3
 """Takes the router-LSAs of one area out of a packet capture: `capture.py AREA <file.pcap >file.lsas`, AREA as 0.0.0.0. Of each router it takes the newest LSA
-that an LS Update has, none if that one has MaxAge, and writes them by Router ID. It reads what `tcpdump -w` writes; packets in fragments are passed over.
-Needs Python 3.8."""
+that an LS Update has, none if that one has MaxAge, and writes them by Router ID. To standard error go how many they are, and each router that they list as a
+neighbour and that has none. It reads what `tcpdump -w` writes; packets in fragments are passed over. Needs Python 3.8."""
 
 import ipaddress
 import sys
@@ -68,9 +68,27 @@ def newest(capture, area):
     return [lsa for _, lsa in sorted(found.items()) if not is_flushed(lsa)]
 
 
+def neighbours(lsa):
+    """The Link IDs of its links of type 1 (RFC 2328, A.4.2), up to where one is cut short."""
+    links = lsa[24:]
+    while len(links) >= 12:
+        if links[8] == 1:
+            yield links[:4]
+        links = links[12 + 4 * links[9] :]
+
+
+def missing(lsas):
+    """The routers that these list as neighbours and that have no LSA among them, by Router ID."""
+    return sorted({router for lsa in lsas for router in neighbours(lsa)} - {lsa[8:12] for lsa in lsas})
+
+
 if __name__ == "__main__":
     try:
         (area,) = map(ipaddress.IPv4Address, sys.argv[1:])
     except ValueError:
         sys.exit("usage: capture.py AREA <file.pcap >file.lsas, AREA four octets as 0.0.0.0")
-    sys.stdout.buffer.write(b"".join(newest(sys.stdin.buffer.read(), area.packed)))
+    lsas = newest(sys.stdin.buffer.read(), area.packed)
+    sys.stdout.buffer.write(b"".join(lsas))
+    print("routers: %d" % len(lsas), file=sys.stderr)
+    for router in missing(lsas):
+        print("no LSA of %s, which these list" % ipaddress.IPv4Address(router), file=sys.stderr)
