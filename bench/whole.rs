@@ -1,4 +1,4 @@
-//! The test of a schedule's length, made as often as it is told: by adding up row lengths, as `is_whole` of `hops` does, or by a division; or neither, for
+//! The test of a schedule's length, made as often as it is told: by adding up row lengths, as `is_whole` of `forwarding_steps` does, or by a division; or neither, for
 //! what the loop around it takes. Arguments: added, divided or neither, the rows, the links, how often. Prints the nanoseconds of one test; with a further
 //! argument nothing, so that the instructions of a run repeat.
 
