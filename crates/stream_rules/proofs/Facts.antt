@@ -22,7 +22,7 @@ use Rattle.stream_rules.specs.Reading.{arrived, added, width, isEnd, end
 use Rattle.stream_rules.specs.Reading.{inTurn, nothingListed, reading}
 use Rattle.stream_rules.specs.Facts.{sameLinks, answers, holding, claimHolds, holds, reads, one, two, three, T-stream, inSequence, routers}
 use Rattle.stream_rules.specs.Facts.{hub, sent, received, exchanged, ring, atLimits, facts, FactsHold}
-use Rattle.stream_rules.specs.Theorems.{fourBytes, twoBytes, halfOf, BytesList, refused}
+use Rattle.stream_rules.specs.Theorems.{fourBytes, twoBytes, halfOf, BytesList, refused, RecordBytes}
 use Rattle.stream_rules.proofs.InTurn.{reads-in-turn}
 
 -- records, one after the other, none with a fault: what they add, and that they are listed
@@ -86,17 +86,17 @@ module _ (u v e f number : ℕ) where
   full-refuses-link : fault (added almost (record-of.Link (halfOf 31 39 1))) (record-of.Link (halfOf u v (twoBytes e f))) ≡ suc number →
       reading (routers 64 ++ (take 1280 ring ++ (2 ∷ u ∷ v ∷ e ∷ f ∷ []))) ≡ refused (suc number) 1600
   unfolding numbersFrom below inSequence routers ring
-  full-refuses-link h = reads-in-turn _ _ full-listed .link u v e f number h []
+  full-refuses-link h = reads-in-turn _ _ full-listed .faulty _ _ (RecordBytes.link u v e f) number h []
 
   full-refuses-half : fault (added almost (record-of.Link (halfOf 31 39 1))) (record-of.Half (halfOf u v (twoBytes e f))) ≡ suc number →
       reading (routers 64 ++ (take 1280 ring ++ (4 ∷ u ∷ v ∷ e ∷ f ∷ []))) ≡ refused (suc number) 1600
   unfolding numbersFrom below inSequence routers ring
-  full-refuses-half h = reads-in-turn _ _ full-listed .half u v e f number h []
+  full-refuses-half h = reads-in-turn _ _ full-listed .faulty _ _ (RecordBytes.half u v e f) number h []
 
   half-refuses-link : fault (added almost (record-of.Half (halfOf 31 39 1))) (record-of.Link (halfOf u v (twoBytes e f))) ≡ suc number →
       reading (routers 64 ++ (take 1275 ring ++ (4 ∷ 31 ∷ 39 ∷ 0 ∷ 1 ∷ 2 ∷ u ∷ v ∷ e ∷ f ∷ []))) ≡ refused (suc number) 1600
   unfolding numbersFrom below inSequence routers ring
-  half-refuses-link h = reads-in-turn _ _ half-listed .link u v e f number h []
+  half-refuses-link h = reads-in-turn _ _ half-listed .faulty _ _ (RecordBytes.link u v e f) number h []
 
 other : (cost : ℕ) → List·Memᴰ (halfOf 60 50 cost) (halfOf 31 39 1 ∷ []) → ⊥
 other cost m = let same = ap (λ (h : Half). h .from .0) (List·Memᴰ·eq-of-singleton m) in omega (arith, same)
@@ -111,7 +111,7 @@ halves-listed = BytesList.first-half 50 60 0 1 refl other half-listed
 half-513 : reading (routers 64 ++ (take 1275 ring ++ (4 ∷ 31 ∷ 39 ∷ 0 ∷ 1 ∷ 4 ∷ 50 ∷ 60 ∷ 0 ∷ 1 ∷ 4 ∷ 60 ∷ 50 ∷ 0 ∷ 1 ∷ []))) ≡ refused 9 1605
 unfolding numbersFrom below any keep member linkHalves firstHalf secondHalf halves sameHalf leaves opposite linkOf
     routerFault repeated crowded halvesFault fault withRouter withLink arrived added nothingListed after almost inSequence routers ring
-half-513 = reads-in-turn _ _ halves-listed .half 60 50 0 1 8 refl []
+half-513 = reads-in-turn _ _ halves-listed .faulty _ _ (RecordBytes.half 60 50 0 1) 8 refl []
 
 -- the 257th link of the ring
 ring-cut : reading (routers 64 ++ take 1285 ring) ≡ refused 9 1600

@@ -16,7 +16,7 @@ use Rattle.stream_rules.specs.declared.Record.the-variants as record-of
 use Rattle.stream_rules.specs.Halves.{StreamListing, linkHalves, halves, opposite, linkOf}
 use Rattle.stream_rules.specs.Stream.{bigEndianOn, bigEndian, bodyLength, halfIn, decoded, recordIn, records}
 use Rattle.stream_rules.specs.Reading.{refusal, fault, withRouter, withLink, withLimit, added, width, isEnd, ended, unless, anyRecord?, inTurn, nothingListed, reading}
-use Rattle.stream_rules.specs.Theorems.{fourBytes, twoBytes, halfOf, BytesList, refused, ReadsInTurn}
+use Rattle.stream_rules.specs.Theorems.{fourBytes, twoBytes, halfOf, BytesList, refused, RecordBytes, CutShort, ReadsInTurn}
 use Rattle.stream_rules.proofs.Halves.{total}
 use Rattle.stream_rules.proofs.Opposite.{Once}
 use Rattle.stream_rules.proofs.Lone.{once-added, first-added, second-added}
@@ -48,6 +48,12 @@ next-half u v e f rest =
 pub next-limit : (k : ℕ) (rest : List ℕ) → records 0 (8 ∷ k ∷ rest) ≡ record-of.Limit k ∷ records 0 rest
 unfolding records recordIn decoded bodyLength
 next-limit k rest = rw (le-ltb (length (k ∷ rest)) 1 (omega arith)) refl
+
+next-record : {bytes : List ℕ} {r : Record} → RecordBytes bytes r → (rest : List ℕ) → records 0 (bytes ++ rest) ≡ r ∷ records 0 rest
+next-record (RecordBytes.router a b e f) = next-router a b e f
+next-record (RecordBytes.link u v e f) = next-link u v e f
+next-record (RecordBytes.half u v e f) = next-half u v e f
+next-record (RecordBytes.limit k) = next-limit k
 
 pub next-unknown : (kind : ℕ) → kind ≢ 1 → kind ≢ 2 → kind ≢ 3 → kind ≢ 4 → kind ≢ 8 → (rest : List ℕ) →
     records 0 (kind ∷ rest) ≡ record-of.Refused 2 ∷ records 0 rest
@@ -125,23 +131,20 @@ module _ (s : List ℕ) (p : StreamListing) (l : BytesList s p) where
   end-here : (rest : List ℕ) → reading (s ++ (3 ∷ rest)) ≡ ended (anyRecord? (records 0 rest)) (length s) (p .contents)
   end-here rest = stands l (3 ∷ rest) ∙ rw (next-end rest) (ends (length s) p (records 0 rest))
 
-  no-record : reading s ≡ refused 1 (length s)
-  unfolding inTurn records refusal zeros noLink held padded
-  no-record = ap reading (sym (append-nil s)) ∙ stands l []
+  cut-short : (rest : List ℕ) → CutShort rest → reading (s ++ rest) ≡ refused 1 (length s)
+  unfolding inTurn records refusal zeros noLink held padded fault bodyLength
+  cut-short bytes CutShort.no-record = stands l []
+  cut-short bytes (CutShort.router body h) = refuses _ _ _ 0 (next-cut 1 body h) refl
+  cut-short bytes (CutShort.link body h) = refuses _ _ _ 0 (next-cut 2 body h) refl
+  cut-short bytes (CutShort.half body h) = refuses _ _ _ 0 (next-cut 4 body h) refl
+  cut-short bytes CutShort.limit = refuses _ _ _ 0 (next-cut 8 [] (omega arith)) refl
 
 pub reads-in-turn : ReadsInTurn
-unfolding fault bodyLength anyRecord? records
+unfolding fault anyRecord? records
 reads-in-turn s p l = record {
-  no-record = no-record s p l;
-  unknown = λ kind n1 n2 n3 n4 n8 rest. refuses s p l _ _ _ 1 (next-unknown kind n1 n2 n3 n4 n8 rest) refl;
-  router-cut = λ body h. refuses s p l _ _ _ 0 (next-cut 1 body h) refl;
-  link-cut = λ body h. refuses s p l _ _ _ 0 (next-cut 2 body h) refl;
-  half-cut = λ body h. refuses s p l _ _ _ 0 (next-cut 4 body h) refl;
-  limit-cut = refuses s p l _ _ _ 0 (next-cut 8 [] (omega arith)) refl;
-  router = λ a b e f number k rest. refuses s p l _ _ _ number (next-router a b e f rest) k;
-  link = λ u v e f number k rest. refuses s p l _ _ _ number (next-link u v e f rest) k;
-  half = λ u v e f number k rest. refuses s p l _ _ _ number (next-half u v e f rest) k;
-  limit = λ k number h rest. refuses s p l _ _ _ number (next-limit k rest) h;
+  cut-short = cut-short s p l;
+  unknown = λ kind (n1, n2, n3, n4, n8) rest. refuses s p l _ _ _ 1 (next-unknown kind n1 n2 n3 n4 n8 rest) refl;
+  faulty = λ bytes r b number e rest. refuses s p l _ _ _ number (next-record b rest) e;
   end = end-here s p l [];
   end-followed = λ byte rest. end-here s p l (byte ∷ rest);
 }

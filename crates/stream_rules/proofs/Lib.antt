@@ -17,3 +17,5 @@ pub mod Facts
 pub mod Lone
 pub mod InTurn
 pub mod Numbers
+pub mod Ways
+pub mod Whole

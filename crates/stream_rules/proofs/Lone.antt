@@ -3,14 +3,14 @@
 use Prim.Native.Nat.{ℕ, _≤_}
 use mathlib.Core.Bool.{Bool, true, false, cond, not, _||_, false≢true}
 use mathlib.Core.List.{List, [], _∷_, _++_, List·Memᴰ}
-use mathlib.Core.Logic.{_≢_}
-use mathlib.Core.Path.{_≡_, refl, sym, ap, subst}
+use mathlib.Core.Logic.{_≢_, _⊎_, inl, inr}
+use mathlib.Core.Path.{_≡_, refl, sym, ap, subst, _∙_}
 use native.Mathlib.Omega.{arith}
 use borrow.Author.Tests.{eq-eqb}
 use lib.Dec.{T}
 use Rattle.network.specs.Lists.{any, keep}
-use Rattle.network.proofs.Tests.{as-false}
-use Rattle.network.proofs.Lists.{any-some}
+use Rattle.network.proofs.Tests.{truth, as-false}
+use Rattle.network.proofs.Lists.{split, any-some, some-any}
 use Rattle.topology_types.specs.declared.Half.{Half}
 use Rattle.stream_rules.specs.declared.Record.{Record}
 use Rattle.stream_rules.specs.declared.Record.the-variants as record-of
@@ -91,6 +91,17 @@ module _ (p : StreamListing) (u v cost : ℕ) where
   against-it : (c : ℕ) → against (halfOf v u c) ≡ true
   unfolding sameHalf opposite
   against-it c = rw (eq-eqb v v refl, eq-eqb u u refl)
+
+  -- its opposite is none of the lone halves, or stands among them
+  pub either-way : ((c : ℕ) → List·Memᴰ (halfOf v u c) (p .lone) → ⊥) ⊎
+      ((before : List Half) × (c : ℕ) × (after : List Half) × (p .lone ≡ before ++ (halfOf v u c ∷ after)))
+  either-way = elim (truth (any against (p .lone))) [
+    | inl t ↦
+        let (k, m, same) = any-some against (p .lone) t in
+        let (before, after, stands) = split m in
+        inr (before, k .cost, after, stands ∙ ap (λ (h : Half). before ++ (h ∷ after)) (against-is k same))
+    | inr o ↦ inl (λ c m. o (some-any against (p .lone) m (rw (against-it c) tt)))
+  ]
 
   -- without its opposite a half is lone
   pub first-added : ((c : ℕ) → List·Memᴰ (halfOf v u c) (p .lone) → ⊥) →

@@ -16,6 +16,7 @@ use Rattle.topology_types.specs.Outcome.{answer}
 use Rattle.topology_types.specs.Topology.{Contents}
 use Rattle.topology_sound.specs.Sound.{sound}
 use Rattle.stream_rules.specs.declared.Reading.{Reading}
+use Rattle.stream_rules.specs.declared.Record.{Record}
 use Rattle.stream_rules.specs.declared.Record.the-variants as record-of
 use Rattle.stream_rules.specs.Halves.{StreamListing}
 use Rattle.stream_rules.specs.Reading.{fault, ended, reading}
@@ -228,27 +229,57 @@ pub data BytesList : List ℕ → StreamListing → Type 0 where
 abbrev pub refused : ℕ → ℕ → Reading
 refused number at = record { answer = answer number at; topology = allZeros }
 
+-- 01, Topology stream: the bytes of one record of kind 1, 2, 4 or 8, its whole body among them, and what they say
+pub data RecordBytes : List ℕ → Record → Type 0 where
+  router : (a b e f : ℕ) → RecordBytes (1 ∷ a ∷ b ∷ e ∷ f ∷ []) (record-of.Router (fourBytes a b e f))
+  link : (u v e f : ℕ) → RecordBytes (2 ∷ u ∷ v ∷ e ∷ f ∷ []) (record-of.Link (halfOf u v (twoBytes e f)))
+  half : (u v e f : ℕ) → RecordBytes (4 ∷ u ∷ v ∷ e ∷ f ∷ []) (record-of.Half (halfOf u v (twoBytes e f)))
+  limit : (k : ℕ) → RecordBytes (8 ∷ k ∷ []) (record-of.Limit k)
+
+-- 01, Refusals, 1: how a stream goes on that ends without an end record: not at all, or with a kind and a part of its body
+pub data CutShort : List ℕ → Type 0 where
+  no-record : CutShort []
+  router : (body : List ℕ) → length body < 4 → CutShort (1 ∷ body)
+  link : (body : List ℕ) → length body < 4 → CutShort (2 ∷ body)
+  half : (body : List ℕ) → length body < 4 → CutShort (4 ∷ body)
+  limit : CutShort (8 ∷ [])
+
+-- 01, Refusals, 2: a kind that no record has
+abbrev pub UnknownKind : ℕ → Type 0
+UnknownKind kind = (kind ≢ 1) × (kind ≢ 2) × (kind ≢ 3) × (kind ≢ 4) × (kind ≢ 8)
+
 -- 01, Refusals: records are taken in turn and the first fault ends the reading, at its record. Bytes that list so go on in one of these ways:
--- they end (1), or the next record is of an unknown kind (2), is cut short (1), has a fault, or is the end record.
+-- they end or the next record is cut short (1), or it is of an unknown kind (2), has a fault, or is the end record.
 pub record NextRecord (s : List ℕ) (p : StreamListing) : Type 0 where
-  pub no-record : reading s ≡ refused 1 (length s)
-  pub unknown : (kind : ℕ) → kind ≢ 1 → kind ≢ 2 → kind ≢ 3 → kind ≢ 4 → kind ≢ 8 → (rest : List ℕ) →
-      reading (s ++ (kind ∷ rest)) ≡ refused 2 (length s)
-  pub router-cut : (body : List ℕ) → length body < 4 → reading (s ++ (1 ∷ body)) ≡ refused 1 (length s)
-  pub link-cut : (body : List ℕ) → length body < 4 → reading (s ++ (2 ∷ body)) ≡ refused 1 (length s)
-  pub half-cut : (body : List ℕ) → length body < 4 → reading (s ++ (4 ∷ body)) ≡ refused 1 (length s)
-  pub limit-cut : reading (s ++ (8 ∷ [])) ≡ refused 1 (length s)
-  pub router : (a b e f number : ℕ) → fault p (record-of.Router (fourBytes a b e f)) ≡ suc number → (rest : List ℕ) →
-      reading (s ++ (1 ∷ a ∷ b ∷ e ∷ f ∷ rest)) ≡ refused (suc number) (length s)
-  pub link : (u v e f number : ℕ) → fault p (record-of.Link (halfOf u v (twoBytes e f))) ≡ suc number → (rest : List ℕ) →
-      reading (s ++ (2 ∷ u ∷ v ∷ e ∷ f ∷ rest)) ≡ refused (suc number) (length s)
-  pub half : (u v e f number : ℕ) → fault p (record-of.Half (halfOf u v (twoBytes e f))) ≡ suc number → (rest : List ℕ) →
-      reading (s ++ (4 ∷ u ∷ v ∷ e ∷ f ∷ rest)) ≡ refused (suc number) (length s)
-  pub limit : (k number : ℕ) → fault p (record-of.Limit k) ≡ suc number → (rest : List ℕ) →
-      reading (s ++ (8 ∷ k ∷ rest)) ≡ refused (suc number) (length s)
+  pub cut-short : (rest : List ℕ) → CutShort rest → reading (s ++ rest) ≡ refused 1 (length s)
+  pub unknown : (kind : ℕ) → UnknownKind kind → (rest : List ℕ) → reading (s ++ (kind ∷ rest)) ≡ refused 2 (length s)
+  pub faulty : (bytes : List ℕ) (r : Record) → RecordBytes bytes r → (number : ℕ) → fault p r ≡ suc number → (rest : List ℕ) →
+      reading (s ++ (bytes ++ rest)) ≡ refused (suc number) (length s)
   -- the lone halves are dropped
   pub end : reading (s ++ (3 ∷ [])) ≡ ended false (length s) (p .contents)
   pub end-followed : (byte : ℕ) (rest : List ℕ) → reading (s ++ (3 ∷ byte ∷ rest)) ≡ ended true (length s) (p .contents)
 
 abbrev pub ReadsInTurn : Type 0
 ReadsInTurn = (s : List ℕ) (p : StreamListing) → BytesList s p → NextRecord s p
+
+-- 01, Refusals, the table: what each answer of a reading means and where it points, if and only if. The stream begins with bytes s that list p without a
+-- fault. Behind them it ends, or ends inside a body (1); or the next record has an unknown kind (2), or a fault, whose numbers `FaultsEach` spells out; or the
+-- end record comes: a byte follows it (11), or none does and no router is listed (12), or one is: then the topology of p is returned, without lone halves.
+pub record ReadSays (stream : List ℕ) (at : ℕ) : Type 0 where
+  pub says-0 : (t : Topology) → (reading stream ≡ record { answer = answer 0 at; topology = t }) ↔
+      ((at ≡ 0) × ((s : List ℕ) × (p : StreamListing) ×
+      BytesList s p × (stream ≡ s ++ (3 ∷ [])) × (0 < length (p .contents .ids)) × (t ≡ listedIn (p .contents))))
+  pub says-1 : (reading stream .answer ≡ answer 1 at) ↔
+      ((s : List ℕ) × (p : StreamListing) × (rest : List ℕ) × BytesList s p × (stream ≡ s ++ rest) × (at ≡ length s) × CutShort rest)
+  pub says-2 : (reading stream .answer ≡ answer 2 at) ↔
+      ((s : List ℕ) × (p : StreamListing) × (kind : ℕ) × (rest : List ℕ) × BytesList s p × (stream ≡ s ++ (kind ∷ rest)) × (at ≡ length s) × UnknownKind kind)
+  pub says-fault : (number : ℕ) → List·Memᴰ number (3 ∷ 4 ∷ 5 ∷ 6 ∷ 7 ∷ 8 ∷ 9 ∷ 10 ∷ 16 ∷ []) → (reading stream .answer ≡ answer number at) ↔
+      ((s : List ℕ) × (p : StreamListing) × (bytes : List ℕ) × (r : Record) × (rest : List ℕ) ×
+      BytesList s p × (stream ≡ s ++ (bytes ++ rest)) × (at ≡ length s) × RecordBytes bytes r × (fault p r ≡ number))
+  pub says-11 : (reading stream .answer ≡ answer 11 at) ↔
+      ((s : List ℕ) × (p : StreamListing) × (byte : ℕ) × (rest : List ℕ) × BytesList s p × (stream ≡ s ++ (3 ∷ byte ∷ rest)) × (at ≡ length s + 1))
+  pub says-12 : (reading stream .answer ≡ answer 12 at) ↔
+      ((s : List ℕ) × (p : StreamListing) × BytesList s p × (stream ≡ s ++ (3 ∷ [])) × (at ≡ length s) × (length (p .contents .ids) ≡ 0))
+
+abbrev pub ReadAnswers : Type 0
+ReadAnswers = (stream : List ℕ) (at : ℕ) → ReadSays stream at
