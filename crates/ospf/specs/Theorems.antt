@@ -19,7 +19,7 @@ use Rattle.ospf.specs.Import.{Placed, placedIn, importing}
 use Rattle.ospf_lsas.specs.Theorems.{FirstFault}
 
 -- 02, #106: these routers and halves, taken in turn, list so much, and none has a fault. Before the first nothing is listed, and K is 3. What each adds is the
--- definition `added` of `stream_rules`, which `Lists` there spells out for the records of a stream.
+-- definition `added` of `stream_rules`, which `BytesList` there spells out for the records of a stream.
 pub data Taken : List Placed → StreamListing → Type 0 where
   nothing : Taken [] (record { contents = record { ids = []; links = []; limit = 3 }; lone = [] })
   one-more : {rs : List Placed} {p : StreamListing} (r : Placed) → Taken rs p → fault p (r .found) ≡ 0 → Taken (rs ++ (r ∷ [])) (added p (r .found))

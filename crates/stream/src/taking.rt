@@ -49,7 +49,7 @@ pub(crate) fn fault_of<'a>(
     m: usize,
     record: Record,
 ) -> u8
-    requires { ⌜ (n ≤ mostRouters) × (m ≤ mostHalves) × (length (now ids) ≡ mostRouters) ⌝ }
+    requires { ⌜ ((p : StreamListing) × (p .contents .ids ≡ take n (now ids)) × Indexed p n m (now costs) (now leaving)) × (n ≤ mostRouters) × (m ≤ mostHalves) × (length (now ids) ≡ mostRouters) ⌝ }
     ensures { λ r. ⌜ ((p : StreamListing) → p .contents .ids ≡ take n (now (ids .entry)) → Indexed p n m (now (costs .entry)) (now (leaving .entry)) → r ≡ fault p «record») ⌝ }
 {
     match record {

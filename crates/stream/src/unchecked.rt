@@ -75,8 +75,8 @@ pub fn router_fault(ids: &[u32; ROUTERS], n: usize, id: u32) -> u8
     0
 }
 
-// Refusals 5 to 10: the same of a half or, where both are listed at once, of a link, with n routers and m halves listed so far. A place is looked up only
-// where it is listed.
+// Refusals 5 to 10: the same of a half or, where both are listed at once, of a link, with n routers and m halves listed so far, which the tables are of. A
+// place is looked up only where it is listed.
 pub fn halves_fault<'a>(
     costs: &'a [u16; ROUTERS * ROUTERS],
     leaving: &'a [usize; ROUTERS],
@@ -85,7 +85,7 @@ pub fn halves_fault<'a>(
     h: Half,
     both: bool,
 ) -> u8
-    requires { ⌜ (n ≤ mostRouters) × (m ≤ mostHalves) ⌝ }
+    requires { ⌜ ((p : StreamListing) × Indexed p n m (now costs) (now leaving)) × (n ≤ mostRouters) × (m ≤ mostHalves) ⌝ }
     ensures { λ r. ⌜ ((p : StreamListing) → Indexed p n m (now (costs .entry)) (now (leaving .entry)) → r ≡ halvesFault p h (cond both (h ∷ opposite h ∷ []) (h ∷ []))) ⌝ }
 {
     let from = h.from.index();

@@ -41,7 +41,10 @@ unfolding nothingListed
 loop-holds c = rw (c .blank .ensures) (standing-first _ (each-byte _ (λ i. c .before .shared-slice-known .given i .fits)))
 
 fault-of-requires : tie.Need-fault-of-requires Inv-loop μ-loop
-fault-of-requires c κs = let w = c .before .before .before .before .before .before .loop .inv .filled in (listed w .counted .routers-fit, few w, id-slots w)
+fault-of-requires c κs =
+    let s = c .before .before .before .before .before .before .loop .inv in
+    let w = s .filled in
+    ((s .listing, ids-are w, indexed w), listed w .counted .routers-fit, few w, id-slots w)
 
 -- a turn: the record, and its fault
 module _ (c : tie.After-fault-of Inv-loop μ-loop) where

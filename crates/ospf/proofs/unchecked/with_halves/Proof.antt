@@ -124,10 +124,15 @@ module _ (c : tie.In-loop2 Inv-loop2 μ-loop2 Inv-loop μ-loop) where
   same-routers : b g .before .before .loop .held .routers ≡ c .before .loop2 .held .routers
   same-routers = routers-are (w g .filled) ∙ ap length (w g .ids ∙ sym (v .ids)) ∙ sym (routers-are (v .filled))
 
+  tables : Indexed (v .listing) (b g .before .before .loop .held .routers) (c .before .loop2 .halves) (c .before .loop2 .costs) (c .before .loop2 .leaving)
+  tables =
+      subst (λ (n : ℕ). Indexed (v .listing) n (c .before .loop2 .halves) (c .before .loop2 .costs) (c .before .loop2 .leaving)) (sym same-routers)
+      (indexed (v .filled))
+
 halves-fault-requires : tie.Need-halves-fault-requires Inv-loop2 μ-loop2 Inv-loop μ-loop
 halves-fault-requires c κs =
     let t = c .before .before .before in
-    (listed (w (g t) .filled) .counted .routers-fit, few (v t .filled))
+    ((v t .listing, tables t), listed (w (g t) .filled) .counted .routers-fit, few (v t .filled))
 
 module _ (c : tie.After-halves-fault Inv-loop2 μ-loop2 Inv-loop μ-loop) where
   abbrev turn : tie.In-loop2 Inv-loop2 μ-loop2 Inv-loop μ-loop
@@ -135,10 +140,7 @@ module _ (c : tie.After-halves-fault Inv-loop2 μ-loop2 Inv-loop μ-loop) where
 
   number-is : c .halves-fault .result ≡ fault (v turn .listing) (record-of.Half (h turn))
   unfolding fault
-  number-is =
-      c .halves-fault .ensures (v turn .listing)
-      (subst (λ (n : ℕ). Indexed (v turn .listing) n (turn .before .loop2 .halves) (turn .before .loop2 .costs) (turn .before .loop2 .leaving)) (sym (same-routers turn))
-      (indexed (v turn .filled)))
+  number-is = c .halves-fault .ensures (v turn .listing) (tables turn)
 
 returns : tie.Need-returns Inv-loop2 μ-loop2 Inv-loop μ-loop
 returns c =

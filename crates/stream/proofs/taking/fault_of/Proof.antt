@@ -5,6 +5,12 @@ use Rattle.stream_rules.specs.Reading.{fault}
 use Rattle.stream.proofs.taking.fault_of.Statement.{statement}
 use Rattle.stream.proofs.taking.fault_of.Tie as tie
 
+halves-fault-requires : tie.Need-halves-fault-requires
+halves-fault-requires c κs = let ((p, ids, tables), n, m, slots) = c .before .before .before .pre in ((p, tables), n, m)
+
+halves-fault-requires-2 : tie.Need-halves-fault-requires-2
+halves-fault-requires-2 c κs = let ((p, ids, tables), n, m, slots) = c .before .before .before .pre in ((p, tables), n, m)
+
 returns : tie.Need-returns
 unfolding fault
 returns c = λ k e i. rw (c .before .before .«record» .given .1) (c .router-fault .ensures (k .contents) e)
@@ -36,9 +42,9 @@ fault-of-spec =
     (λ c. search needs)
     (λ c κs. search needs)
     (λ c. search needs)
-    (λ c κs. search needs)
+    halves-fault-requires
     (λ c. search needs)
-    (λ c κs. search needs)
+    halves-fault-requires-2
     (λ c. search needs)
     (λ c κs. search needs)
     (λ c. search needs)

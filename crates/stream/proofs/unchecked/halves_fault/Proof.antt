@@ -110,18 +110,18 @@ module _ (c : tie.Else4) where
 
   module _ (p : StreamListing) (i : Indexed p (start .args .n) (start .args .m) (start .args .costs .now) (start .args .leaving .now)) where
     first-repeated : repeated p (start .args .h) ≡ not (eqb (getD (start .args .costs .now) (from * mostRouters + to) 0) 0)
-    first-repeated = repeated-by i (start .pre .0) (start .args .h) (at .before .index .ensures) (at .index2 .ensures) (omega arith) (omega arith)
+    first-repeated = repeated-by i (start .pre .1) (start .args .h) (at .before .index .ensures) (at .index2 .ensures) (omega arith) (omega arith)
 
     second-repeated : repeated p (opposite (start .args .h)) ≡ not (eqb (getD (start .args .costs .now) (to * mostRouters + from) 0) 0)
     unfolding opposite
     second-repeated =
-        repeated-by i (start .pre .0) (opposite (start .args .h)) (at .index2 .ensures) (at .before .index .ensures) (omega arith) (omega arith)
+        repeated-by i (start .pre .1) (opposite (start .args .h)) (at .index2 .ensures) (at .before .index .ensures) (omega arith) (omega arith)
 
     first-crowded : crowded p (start .args .h .from .0) ≡ leb mostNeighbours (getD (start .args .leaving .now) from 0)
-    first-crowded = crowded-by i (start .pre .0) _ (at .before .index .ensures) (omega arith)
+    first-crowded = crowded-by i (start .pre .1) _ (at .before .index .ensures) (omega arith)
 
     second-crowded : crowded p (start .args .h .to .0) ≡ leb mostNeighbours (getD (start .args .leaving .now) to 0)
-    second-crowded = crowded-by i (start .pre .0) _ (at .index2 .ensures) (omega arith)
+    second-crowded = crowded-by i (start .pre .1) _ (at .index2 .ensures) (omega arith)
 
 returns-5 : tie.Need-returns-5
 returns-5 c = λ p i.
@@ -153,7 +153,7 @@ adds-are : (c : tie.Joined8) → let s = start (c .before .before .before .befor
 adds-are c = ⊎-elim (λ v. v .1 ∙ sym (two _ _ (v .0 .taken))) (λ v. v .1 ∙ sym (single _ _ (v .0 .left))) (c .if8 .came)
 
 few-more : tie.Need-add-if9
-few-more c = ⊎-elim (λ v. omega (arith, v .1, start (c .before .before .before .before .before) .pre .1)) (λ v. omega (arith, v .1, start (c .before .before .before .before .before) .pre .1)) (c .before .if8 .came)
+few-more c = ⊎-elim (λ v. omega (arith, v .1, start (c .before .before .before .before .before) .pre .2)) (λ v. omega (arith, v .1, start (c .before .before .before .before .before) .pre .2)) (c .before .if8 .came)
 
 returns-7 : tie.Need-returns-7
 returns-7 c = λ p i.
