@@ -31,7 +31,7 @@ use Rattle.text.specs.Numbers.{numberText}
 use Rattle.text.proofs.Texts.{one-digit, more-digits}
 use Rattle.listing_rules.specs.declared.Front.{Front}
 use Rattle.listing_rules.specs.Listing.{tableFor, lineFor, linesFor, allLines, listing}
-use Rattle.listing_rules.specs.Inner.{spacedNumber, fieldsText, frontLine, frontText, rowText}
+use Rattle.listing_rules.specs.Inner.{spacedNumber, fieldsText, frontOf, frontLine, frontText, rowText}
 use Rattle.listing_rules.specs.Theorems.{NumbersSpelled, JoinsInTurn, listingLine, LineIs, LineByPath, ListsRight, ListingRefuses, ListingRight}
 use Rattle.listing_rules.proofs.Fields.{row-none, row-some, line-fields}
 use Rattle.listing_rules.proofs.Tables.{given as its-given, accepted, its-path, figure-at, hop-counts, no-rank, no-count}
@@ -50,7 +50,8 @@ joined-entries [] = refl
 joined-entries (a ∷ rest) = ap (λ (l : List ℕ). spacedNumber (a .to) ++ l) (joined-entries rest)
 
 -- a line by its fields
-spread : (f : Front) (row : List ℕ) → frontLine f row ≡ listingLine (f .destination) (f .router) (f .rank) (f .hops) (rowText row ++ (10 ∷ []))
+spread : (f : Front) (row : List ℕ) →
+    frontLine f row ≡ listingLine (f .destination .0) (f .router .0) (f .rank .0) (f .hops .0) (rowText row ++ (10 ∷ []))
 unfolding frontText
 spread f row = line-fields f row ∙ simp append-assoc
 
@@ -73,7 +74,7 @@ module _ (t : Topology) (good : T (sound t)) (d : ℕ) (place : d < t .routers) 
 
     fields : lineFor t d table u ≡ listingLine d u (rankIn table u) (figureByte t table u) (rowText (map (λ a. a .to) entries) ++ (10 ∷ []))
     unfolding lineFor frontLine
-    fields = rw (← places) (spread (record { destination = d; router = u; rank = rankIn table u; hops = figureByte t table u }) (placesIn table u))
+    fields = rw (← places) (spread (frontOf d u (rankIn table u) (figureByte t table u)) (placesIn table u))
 
     empty-row : entries ≡ [] → rowText (map (λ a. a .to) entries) ≡ 32 ∷ 45 ∷ []
     empty-row e = rw e (row-none [] refl)

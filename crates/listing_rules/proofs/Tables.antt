@@ -36,7 +36,7 @@ use Rattle.forwarding_rules.proofs.Places.{places-long}
 use Rattle.forwarding_steps.proofs.Whole.{whole-fits}
 use Rattle.forwarding_steps.proofs.Bounds.{row-of}
 use Rattle.listing_rules.specs.Listing.{tableFor, lineFor, linesFor, allLines}
-use Rattle.listing_rules.specs.Inner.{mostListingLine, mostListingLines, RowFits, Listable, frontLine, lineIn, tableText}
+use Rattle.listing_rules.specs.Inner.{mostListingLine, mostListingLines, RowFits, Listable, frontOf, frontLine, lineIn, tableText}
 use Rattle.listing_rules.proofs.InTurn.{joined-most}
 use Rattle.listing_rules.proofs.Fields.{line-length}
 
@@ -135,7 +135,7 @@ module _ (t : Topology) (good : T (sound t)) (d : ℕ) (place : d < t .routers) 
       let few = joined-most (lineFor t d table) mostListingLine (below (t .routers))
       (λ u m.
       let h = below-lt _ m in
-      line-length (record { destination = d; router = u; rank = rankIn table u; hops = figureByte t table u }) (placesIn table u)
+      line-length (frontOf d u (rankIn table u) (figureByte t table u)) (placesIn table u)
       record {
         destination = omega (arith, few-routers, place);
         router = omega (arith, few-routers, h);

@@ -44,21 +44,25 @@ pub record RowFits (row : List ℕ) : Type 0 where
   pub few : length row ≤ mostNextHops
   pub small : Short row
 
+-- the fields before the row, by their numbers
+abbrev pub frontOf : ℕ → ℕ → ℕ → ℕ → Front
+frontOf d u rank hops = record { destination = record { 0 = d }; router = record { 0 = u }; rank = record { 0 = rank }; hops = record { 0 = hops } }
+
 -- the fields before the row, each but the first behind a space
 unfoldable pub frontText : Front → List ℕ
 frontText f =
-    numberText (f .destination)
-    ++ ((space ∷ numberText (f .router)) ++ ((space ∷ numberText (f .rank)) ++ (space ∷ numberText (f .hops))))
+    numberText (f .destination .0)
+    ++ ((space ∷ numberText (f .router .0)) ++ ((space ∷ numberText (f .rank .0)) ++ (space ∷ numberText (f .hops .0))))
 
 unfoldable pub frontLine : Front → List ℕ → List ℕ
-frontLine f row = lineText (f .destination) (f .router) (f .rank) (f .hops) row
+frontLine f row = lineText (f .destination .0) (f .router .0) (f .rank .0) (f .hops .0) row
 
 -- places of one digit or two; rank and hops are bytes, 255 where there is no path
 pub record Small (f : Front) : Type 0 where
-  pub destination : f .destination < 100
-  pub router : f .router < 100
-  pub rank : f .rank < 256
-  pub hops : f .hops < 256
+  pub destination : f .destination .0 < 100
+  pub router : f .router .0 < 100
+  pub rank : f .rank .0 < 256
+  pub hops : f .hops .0 < 256
 
 -- the bytes of a table for so many routers, and the hop counts by place, as far as lines are made of them
 pub record Listable (table hops : List ℕ) (n d : ℕ) : Type 0 where

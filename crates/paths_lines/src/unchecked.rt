@@ -34,7 +34,7 @@ pub fn put_lines(
     let mut paths = paths::unchecked::room_for_paths();
     let count = paths::unchecked::gather(t, table, start, &mut paths);
     if PATHS < count {
-        return printing::put_too_many(out, destination.0, start.0);
+        return printing::put_too_many(out, destination, start);
     }
-    printing::put_paths(out, destination.0, start.0, &paths, count)
+    printing::put_paths(out, destination, start, &paths, count)
 }

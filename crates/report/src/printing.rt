@@ -1,7 +1,7 @@
 // Putting lines into a lent buffer: each number is put behind the one before, which answers where it ends.
-use super::unchecked::fields::put_byte_field;
-use super::unchecked::fields::put_field;
 use super::unchecked::fields::put_fields;
+use super::unchecked::fields::put_place;
+use super::unchecked::fields::put_rank;
 use listing_rules::Front;
 use table_rows::ENTRIES;
 use table_rows::FRONT;
@@ -9,13 +9,17 @@ use table_rows::HEADER;
 use table_rows::ROW;
 use table_rows::TABLE;
 use text::unchecked::lines;
+use topology_types::Place;
 use topology_types::ROUTERS;
+use topology_types::Rank;
 ghost use mathlib.Core.Path.{_≡_};
 ghost use Prim.Native.Nat.{_+_, _*_, _≤_, _<_};
-ghost use lib.ListN.{length};
+ghost use lib.ListN.{length, getD};
 ghost use Rattle.topology_types.specs.Limits.{mostRouters};
+ghost use Rattle.table_rows.specs.Bytes.{rowStart};
+ghost use Rattle.table.specs.Listed.{rankIn};
 ghost use Rattle.text.specs.Inner.{Put};
-ghost use Rattle.listing_rules.specs.Inner.{mostListingLine, mostListingLines, rowText, frontText, frontLine, RowFits, Small, Listable, tableText};
+ghost use Rattle.listing_rules.specs.Inner.{mostListingLine, mostListingLines, rowText, frontOf, frontText, frontLine, RowFits, Small, Listable, tableText};
 
 // Room for a line, and for the lines of a destination.
 const LINE: usize = 14 + 3 * ENTRIES;
@@ -57,10 +61,10 @@ fn put_front(out: &mut [u8], at: usize, front: Front) -> usize
     requires { ⌜ Small front × (at + 13 ≤ length (now out)) ⌝ }
     ensures { λ r. ⌜ Put (now (out .entry)) at (frontText front) r (now (out .exit)) ⌝ }
 {
-    let first = lines::put_small(out, at, front.destination);
-    let second = put_field(out, first, front.router);
-    let third = put_byte_field(out, second, front.rank);
-    put_byte_field(out, third, front.hops)
+    let first = lines::put_small(out, at, front.destination.0);
+    let second = put_place(out, first, front.router);
+    let third = put_rank(out, second, front.rank);
+    put_rank(out, third, front.hops)
 }
 
 // A line.
@@ -74,6 +78,22 @@ fn put_line(out: &mut [u8], at: usize, front: Front, row: &[u8]) -> usize
     end + 1
 }
 
+// The fields before its row of the line of the router at u, by the table's bytes and the hop counts by place.
+fn front_of<'a>(table: &'a [u8], hops: &'a [u8], destination: Place, u: usize) -> Front
+    requires { ⌜ (u < mostRouters) × (u < length (now hops)) × (rowStart u + 1 < length (now table)) ⌝ }
+    ensures { λ r. ⌜ r ≡ frontOf (destination .0) u (rankIn (now (table .entry)) u) (getD (now (hops .entry)) u 0) ⌝ }
+{
+    let router = Place(u as u8);
+    let rank = Rank(table[HEADER + ROW * u + 1]);
+    let bound = Rank(hops[u]);
+    Front {
+        destination: destination,
+        router: router,
+        rank: rank,
+        hops: bound,
+    }
+}
+
 // The lines of a table for n routers, with their hop counts by place.
 pub(crate) fn put_table<'a, 'b>(
     out: &'a mut [u8],
@@ -81,10 +101,10 @@ pub(crate) fn put_table<'a, 'b>(
     table: &'b [u8],
     hops: &'b [u8],
     n: usize,
-    destination: u8,
+    destination: Place,
 ) -> usize
-    requires { ⌜ Listable (now table) (now hops) n destination × (at + mostListingLine * n ≤ length (now out)) ⌝ }
-    ensures { λ r. ⌜ Put (now (out .entry)) at (tableText (now (table .entry)) (now (hops .entry)) destination n) r (now (out .exit)) ⌝ }
+    requires { ⌜ Listable (now table) (now hops) n (destination .0) × (at + mostListingLine * n ≤ length (now out)) ⌝ }
+    ensures { λ r. ⌜ Put (now (out .entry)) at (tableText (now (table .entry)) (now (hops .entry)) (destination .0) n) r (now (out .exit)) ⌝ }
 {
     let mut end = at;
     let mut u: usize = 0;
@@ -92,12 +112,7 @@ pub(crate) fn put_table<'a, 'b>(
         let start = HEADER + ROW * u;
         let first = start + FRONT;
         let last = first + table[start + 2] as usize;
-        let front = Front {
-            destination: destination,
-            router: u as u8,
-            rank: table[start + 1],
-            hops: hops[u],
-        };
+        let front = front_of(table, hops, destination, u);
         end = put_line(out, end, front, &table[first..last]);
         u += 1;
     }

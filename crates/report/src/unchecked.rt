@@ -28,7 +28,7 @@ pub fn put_lines(t: Topology, a: Arcs, destination: Place, out: &mut [u8], at: u
     table::unchecked::build(t, a, destination, Mode::ShortestPath, &mut table);
     let mut hops = printing::room_for_hops();
     forwarding::unchecked::greatest_hops(t, &table[..length], &mut hops);
-    printing::put_table(out, at, &table[..length], &hops, n, destination.0)
+    printing::put_table(out, at, &table[..length], &hops, n, destination)
 }
 
 // The lines of all destinations, into the first bytes of the slice; answers how many bytes they are.

@@ -2,6 +2,7 @@
 use table_rows::FRONT;
 use table_rows::HEADER;
 use table_rows::ROW;
+use topology_types::Place;
 use topology_types::ROUTERS;
 use topology_types::Rank;
 use topology_types::Topology;
@@ -22,24 +23,26 @@ pub struct Bounds {
     pub by: [Rank; ROUTERS],
 }
 
-// One more than the greatest of the row's entries, 0 if there is none.
-fn greatest_of(table: &[u8], bounds: Bounds, u: usize) -> Rank
-    requires { ⌜ RowOf (now table) u × Bounded (now table) u (bounds .by) ⌝ }
-    ensures { λ r. ⌜ r .0 ≡ greatestBy (λ v. suc (boundOf (bounds .by) v)) (placesIn (now (table .entry)) u) ⌝ }
+// One more than the greatest of the entries of a station's row, 0 if there is none.
+fn greatest_of(table: &[u8], bounds: Bounds, station: Place) -> Rank
+    requires { ⌜ RowOf (now table) (station .0) × Bounded (now table) (station .0) (bounds .by) ⌝ }
+    ensures { λ r. ⌜ r .0 ≡ greatestBy (λ v. suc (boundOf (bounds .by) v)) (placesIn (now (table .entry)) (station .0)) ⌝ }
 {
+    let u = station.0 as usize;
     let row = HEADER + ROW * u;
-    let mut best: u8 = 0;
+    let mut best = Rank(0);
     let mut i = table[row + 2] as usize;
     while 0 < i {
         i -= 1;
-        let v = table[row + FRONT + i] as usize;
+        let entry = Place(table[row + FRONT + i]);
+        let v = entry.0 as usize;
         let bound = bounds.by[v];
-        let longer = bound.0 + 1;
-        if best < longer {
+        let longer = Rank(bound.0 + 1);
+        if best.0 < longer.0 {
             best = longer;
         }
     }
-    Rank(best)
+    best
 }
 
 // The greatest hop count of every place over an accepted table, from the lowest rank up: by then those of the row's entries are known. The order ends where
@@ -52,11 +55,12 @@ pub fn bounds_of(t: Topology, table: &[u8]) -> Bounds
     let mut by = [Rank(255); ROUTERS];
     let mut rank: usize = 0;
     while rank < t.routers {
-        let u = order[rank] as usize;
+        let place = Place(order[rank]);
+        let u = place.0 as usize;
         if u == 255 {
             return Bounds { by: by };
         }
-        by[u] = greatest_of(table, Bounds { by: by }, u);
+        by[u] = greatest_of(table, Bounds { by: by }, place);
         rank += 1;
     }
     Bounds { by: by }

@@ -26,23 +26,23 @@ pub(crate) enum Next {
     Nowhere,
 }
 
-// Whether a link of the router at u that leads to v is up.
+// Whether a link of the router at u that leads to the entry is up.
 fn is_up<'a, 'b>(
     to: &'a [u8; SLOTS],
     link: &'a [u8; SLOTS],
     states: &'b [u8],
     u: usize,
     count: usize,
-    v: u8,
+    entry: Place,
 ) -> bool
     requires { ⌜ LinkSlots (now link) (length (now states)) u count ⌝ }
-    ensures { λ r. ⌜ r ≡ any (slotUp (now (to .entry)) (now (link .entry)) (now (states .entry)) u v) (below count) ⌝ }
+    ensures { λ r. ⌜ r ≡ any (slotUp (now (to .entry)) (now (link .entry)) (now (states .entry)) u (entry .0)) (below count) ⌝ }
 {
     let first = u * NEIGHBOURS;
     let mut j = count;
     while 0 < j {
         j -= 1;
-        if to[first + j] == v {
+        if to[first + j] == entry.0 {
             let number = link[first + j] as usize;
             if states[number] == 1 {
                 return true;
@@ -52,25 +52,26 @@ fn is_up<'a, 'b>(
     false
 }
 
-// The first entry of the row of u whose link is up.
+// The first entry of a station's row whose link is up.
 pub(crate) fn next_of<'a, 'b, 'c>(
     table: &'a [u8],
     to: &'b [u8; SLOTS],
     link: &'b [u8; SLOTS],
     states: &'c [u8],
-    u: usize,
+    station: Place,
     count: usize,
 ) -> Next
-    requires { ⌜ LinkSlots (now link) (length (now states)) u count × RowOf (now table) u ⌝ }
-    ensures { λ r. ⌜ nextPlace r ≡ firstUp (now (to .entry)) (now (link .entry)) (now (states .entry)) u count (placesIn (now (table .entry)) u) ⌝ }
+    requires { ⌜ LinkSlots (now link) (length (now states)) (station .0) count × RowOf (now table) (station .0) ⌝ }
+    ensures { λ r. ⌜ nextPlace r ≡ firstUp (now (to .entry)) (now (link .entry)) (now (states .entry)) (station .0) count (placesIn (now (table .entry)) (station .0)) ⌝ }
 {
+    let u = station.0 as usize;
     let row = HEADER + ROW * u;
     let entries = table[row + 2] as usize;
     let mut i: usize = 0;
     while i < entries {
-        let v = table[row + FRONT + i];
-        if is_up(to, link, states, u, count, v) {
-            return Next::To(Place(v));
+        let entry = Place(table[row + FRONT + i]);
+        if is_up(to, link, states, u, count, entry) {
+            return Next::To(entry);
         }
         i += 1;
     }
@@ -82,13 +83,13 @@ pub fn hop_by(t: Topology, a: Arcs, table: &[u8], states: &[u8], packet: Packet)
     requires { ⌜ Checked t a (now table) × (packet .station .0 < t .routers) × (packet .hops < t .routers) × (length (now states) ≡ t .links) ⌝ }
     ensures { λ r. ⌜ hopSays r ≡ done (network.hop (by t (now (table .entry))) (now (states .entry)) (packetIn packet)) ⌝ }
 {
-    let station = packet.station.0;
-    if station == table[1] {
+    let station = packet.station;
+    if station.0 == table[1] {
         return Hopped::Delivered;
     }
-    let u = station as usize;
+    let u = station.0 as usize;
     let count = a.count[u] as usize;
-    let Next::To(place) = next_of(table, &a.to, &a.link, states, u, count) else {
+    let Next::To(place) = next_of(table, &a.to, &a.link, states, station, count) else {
         return Hopped::Dropped;
     };
     Hopped::Moved(Packet {
@@ -103,26 +104,27 @@ pub fn walk_by(t: Topology, a: Arcs, table: &[u8], start: Place, schedule: &[u8]
     ensures { λ r. ⌜ walkSays r
         ≡ done (network.walk (by t (now (table .entry))) (rowsIn (t .routers) (t .links) (now (schedule .entry))) (network.start (start .0))) ⌝ }
 {
-    let home = table[1];
-    let mut station = start.0;
+    let home = Place(table[1]);
+    let mut station = start;
     let mut hops: u8 = 0;
     let mut at: usize = 0;
-    while station != home {
+    while station.0 != home.0 {
         let end = at + t.links;
-        let u = station as usize;
+        let u = station.0 as usize;
         let count = a.count[u] as usize;
-        let Next::To(place) = next_of(table, &a.to, &a.link, &schedule[at..end], u, count) else {
+        let Next::To(place) = next_of(table, &a.to, &a.link, &schedule[at..end], station, count)
+        else {
             return Walked::Dropped(Packet {
-                station: Place(station),
+                station: station,
                 hops: hops,
             });
         };
-        station = place.0;
+        station = place;
         hops += 1;
         at = end;
     }
     Walked::Delivered(Packet {
-        station: Place(station),
+        station: station,
         hops: hops,
     })
 }

@@ -19,4 +19,12 @@ returns c = let put = c .before .before in behind (put .before .before .before .
 
 pub put-front-spec : {M : Type 1} → statement M
 put-front-spec =
-    tie.close (tie.spec (λ c κs. search needs) (λ c. search needs) put-requires (λ c. search needs) returns)
+    tie.close
+    (tie.spec
+    (λ c. search needs)
+    (λ c. search needs)
+    (λ c κs. search needs)
+    (λ c. search needs)
+    put-requires
+    (λ c. search needs)
+    returns)

@@ -16,7 +16,7 @@ use Rattle.paths_lines.proofs.printing.put_paths.Tie as tie
 
 abbrev Inv-loop : tie.InvT-loop
 Inv-loop out₀ destination start paths count end₀ i₀ out end i =
-    (i ≤ count) × SoFar (λ j. pathLine destination start (placesOf (pathIn paths j))) mostPathLine out₀ 0 (below i) i end out
+    (i ≤ count) × SoFar (λ j. pathLine (destination .0) (start .0) (placesOf (pathIn paths j))) mostPathLine out₀ 0 (below i) i end out
 
 abbrev μ-loop : tie.MeasureT-loop
 μ-loop out₀ destination start paths count end₀ i₀ out end i = count - i
@@ -60,7 +60,7 @@ loop-again c =
     let a = args in-loop .args in
     let pre = args in-loop .pre in
     let short = pre .2 .places (at .i) (turn in-loop .0) in
-    let few = path-length (a .destination) (a .start) (pre .0) (pre .1) (placesOf (pathIn (a .paths .now) (at .i))) (in-few _ _ (turn in-loop .2)) short in (
+    let few = path-length (a .destination .0) (a .start .0) (pre .0) (pre .1) (placesOf (pathIn (a .paths .now) (at .i))) (in-few _ _ (turn in-loop .2)) short in (
       omega (arith, turn in-loop),
       more _ mostPathLine (at .inv .1) (at .i) few (rw (part in-loop) at (c .before .before .put-path .ensures)) (below-more (at .i)),
     )

@@ -9,7 +9,7 @@ use Rattle.arcs.proofs.Slots.{below-more}
 use Rattle.table_rows.specs.Bytes.{rowStart}
 use Rattle.table.specs.Listed.{rankIn, placesIn}
 use Rattle.listing_rules.specs.declared.Front.{Front}
-use Rattle.listing_rules.specs.Inner.{mostListingLine, frontLine, lineIn, tableText, Small}
+use Rattle.listing_rules.specs.Inner.{mostListingLine, frontOf, frontLine, lineIn, tableText, Small}
 use Rattle.listing_rules.proofs.InTurn.{SoFar, none, more}
 use Rattle.listing_rules.proofs.Fields.{line-length}
 use Rattle.report.proofs.printing.put_table.Statement.{statement}
@@ -17,7 +17,7 @@ use Rattle.report.proofs.printing.put_table.Tie as tie
 
 abbrev Inv-loop : tie.InvT-loop
 Inv-loop out₀ at table hops n destination end₀ u₀ out end u =
-    (u ≤ n) × SoFar (lineIn table hops destination) mostListingLine out₀ at (below u) u end out
+    (u ≤ n) × SoFar (lineIn table hops (destination .0)) mostListingLine out₀ at (below u) u end out
 
 abbrev μ-loop : tie.MeasureT-loop
 μ-loop out₀ at table hops n destination end₀ u₀ out end u = n - u
@@ -40,16 +40,12 @@ module _ (c : tie.In-loop Inv-loop μ-loop) where
       (h, l .routers, omega (arith, l .long), l .entries (c .before .loop .u) h)
 
   -- its line's fields, and its entries
-  front : Front
-  front = record {
-    destination = args .args .destination;
-    router = c .before .loop .u;
-    rank = rankIn (args .args .table .now) (c .before .loop .u);
-    hops = getD (args .args .hops .now) (c .before .loop .u) 0;
-  }
+  abbrev front : Front
+  front =
+      frontOf (args .args .destination .0) (c .before .loop .u) (rankIn (args .args .table .now) (c .before .loop .u))
+      (getD (args .args .hops .now) (c .before .loop .u) 0)
 
   small : Small front
-  unfolding front
   small =
       let l = args .pre .0 in
       let h = c .loop-test .taken in
@@ -70,27 +66,32 @@ module _ (c : tie.In-loop Inv-loop μ-loop) where
       let many : first + count - first ≡ count = omega arith in
       rw many
 
+front-of-requires : tie.Need-front-of-requires Inv-loop μ-loop
+unfolding rowStart
+front-of-requires c κs =
+    let turn = c .before in
+    (omega (arith, in-table turn), omega (arith, in-table turn, args turn .pre .0 .counted), omega (arith, in-table turn))
+
 put-line-requires : tie.Need-put-line-requires Inv-loop μ-loop
-unfolding front rankIn rowStart
 put-line-requires c κs =
-    let turn = c .before .before .before .before .before in
+    let turn = c .before .before .before .before in
     let at = turn .before .loop .inv .1 in
     let pre = args turn .pre in (
-      small turn,
+      rw (c .before .before .front-of .ensures) (small turn),
       rw (entries turn) (pre .0 .row _ (turn .loop-test .taken)),
       omega (arith, at .ends, at .long, pre .1, turn .loop-test .taken),
     )
 
 loop-again : tie.Need-loop-again Inv-loop μ-loop
-unfolding front rankIn rowStart lineIn frontLine
+unfolding lineIn frontLine
 loop-again c =
-    let turn = c .before .before .before .before .before .before .before .before in
+    let turn = c .before .before .before .before .before .before .before in
     let u = turn .before .loop .u in
     let start = args turn in
     let few = line-length (front turn) (placesIn (start .args .table .now) u) (small turn) (start .pre .0 .row u (turn .loop-test .taken)) in (
       omega (arith, in-table turn),
-      more (lineIn (start .args .table .now) (start .args .hops .now) (start .args .destination)) mostListingLine (turn .before .loop .inv .1) u few
-          (rw (entries turn) at (c .before .before .put-line .ensures)) (below-more u),
+      more (lineIn (start .args .table .now) (start .args .hops .now) (start .args .destination .0)) mostListingLine (turn .before .loop .inv .1) u few
+          (rw (c .before .before .before .before .before .front-of .ensures, entries turn) at (c .before .before .put-line .ensures)) (below-more u),
     )
 
 returns : tie.Need-returns Inv-loop μ-loop
@@ -113,16 +114,13 @@ put-table-spec =
     (λ c. omega (arith, in-table (c .before)))
     (λ c. omega (arith, in-table (c .before)))
     (λ c. omega (arith, in-table (c .before)))
-    (λ c. omega (arith, in-table (c .before)))
-    (λ c. omega (arith, in-table (c .before)))
-    (λ c. omega (arith, in-table (c .before .before)))
-    (λ c. omega (arith, in-table (c .before .before .before), c .before .before .before .before .before .before .before .before .pre .0 .counted))
-    (λ c. omega (arith, in-table (c .before .before .before .before)))
-    (λ c. omega (arith, in-table (c .before .before .before .before)))
-    (λ c. omega (arith, in-table (c .before .before .before .before)))
+    front-of-requires
+    (λ c. omega (arith, in-table (c .before .before .before)))
+    (λ c. omega (arith, in-table (c .before .before .before)))
+    (λ c. omega (arith, in-table (c .before .before .before)))
     put-line-requires
-    (λ c. omega (arith, in-table (c .before .before .before .before .before .before .before .before)))
-    (λ c. omega (arith, in-table (c .before .before .before .before .before .before .before .before)))
+    (λ c. omega (arith, in-table (c .before .before .before .before .before .before .before)))
+    (λ c. omega (arith, in-table (c .before .before .before .before .before .before .before)))
     loop-again
     (λ c. c .before .loop .inv .1 .long)
     returns)

@@ -38,7 +38,10 @@ accepted c = over (c .args .t) (c .pre .0) (c .args .table .now) (c .pre .1)
 most : (c : tie.Start Inv-loop μ-loop) → c .args .t .routers ≤ 64
 most c = few (c .args .t) (c .pre .0) (c .args .table .now) (accepted c)
 
--- from a turn back to the loop, the order and the start
+-- from a place that was read back to its turn, and from there to the loop, the order and the start
+abbrev turned : tie.Else2 Inv-loop μ-loop → tie.Then1 Inv-loop μ-loop
+turned c = c .before .before
+
 abbrev looped : tie.Then1 Inv-loop μ-loop → tie.At-loop Inv-loop μ-loop
 looped c = c .before .before
 
@@ -54,7 +57,7 @@ loop-holds c = (omega arith, none-known _ _ (most (c .before .before)))
 
 returns : tie.Need-returns Inv-loop μ-loop
 returns c =
-    let turn = c .before in
+    let turn = c .before .before in
     let s = start turn in
     let at = looped turn .loop in
     let o = accepted s in
@@ -67,31 +70,31 @@ returns c =
     }
 
 -- the place of a turn
-place-in : (c : tie.Else2 Inv-loop μ-loop) → getD (looped (c .before) .before .order-of .result) (looped (c .before) .loop .rank) 0 < start (c .before) .args .t .routers
+place-in : (c : tie.Else2 Inv-loop μ-loop) → getD (looped (turned c) .before .order-of .result) (looped (turned c) .loop .rank) 0 < start (turned c) .args .t .routers
 place-in c =
-    let s = start (c .before) in
-    let slots = looped (c .before) .before .order-of in
-    turn-in (s .args .t) (s .pre .0) (s .args .table .now) (accepted s) (slots .result) (slots .ensures) (looped (c .before) .loop .rank) (c .before .if1 .taken)
+    let s = start (turned c) in
+    let slots = looped (turned c) .before .order-of in
+    turn-in (s .args .t) (s .pre .0) (s .args .table .now) (accepted s) (slots .result) (slots .ensures) (looped (turned c) .loop .rank) (turned c .if1 .taken)
     (c .if2 .left)
 
 greatest-of-requires : tie.Need-greatest-of-requires Inv-loop μ-loop
 greatest-of-requires c κs =
-    let s = start (c .before) in
-    let at = looped (c .before) .loop in
-    let slots = looped (c .before) .before .order-of in (
+    let s = start (turned c) in
+    let at = looped (turned c) .loop in
+    let slots = looped (turned c) .before .order-of in (
       row-of (s .args .t) (s .pre .0) (s .args .table .now) (accepted s) _ (place-in c),
-      turn-bounded (s .args .t) (s .pre .0) (s .args .table .now) (accepted s) (slots .result) (slots .ensures) (at .rank) (c .before .if1 .taken)
+      turn-bounded (s .args .t) (s .pre .0) (s .args .table .now) (accepted s) (slots .result) (slots .ensures) (at .rank) (turned c .if1 .taken)
           (c .if2 .left) (at .by) (at .inv .1),
     )
 
 loop-again : tie.Need-loop-again Inv-loop μ-loop
 loop-again c =
     let e = c .before in
-    let s = start (e .before) in
-    let at = looped (e .before) .loop in
-    let slots = looped (e .before) .before .order-of in (
-      omega (arith, e .before .if1 .taken),
-      known-next (s .args .t) (s .pre .0) (s .args .table .now) (accepted s) (slots .result) (slots .ensures) (at .rank) (e .before .if1 .taken) (e .if2 .left)
+    let s = start (turned e) in
+    let at = looped (turned e) .loop in
+    let slots = looped (turned e) .before .order-of in (
+      omega (arith, turned e .if1 .taken),
+      known-next (s .args .t) (s .pre .0) (s .args .table .now) (accepted s) (slots .result) (slots .ensures) (at .rank) (turned e .if1 .taken) (e .if2 .left)
           (at .by) (at .inv .1) (c .greatest-of .result) (c .greatest-of .ensures),
     )
 
@@ -119,8 +122,8 @@ bounds-of-spec =
     (λ c. search needs)
     returns
     greatest-of-requires
-    (λ c. omega (arith, most (start (c .before .before)), place-in (c .before)))
-    (λ c. omega (arith, most (start (c .before .before)), c .before .before .if1 .taken))
-    (λ c. omega (arith, c .before .before .if1 .taken))
+    (λ c. omega (arith, most (start (turned (c .before))), place-in (c .before)))
+    (λ c. omega (arith, most (start (turned (c .before))), turned (c .before) .if1 .taken))
+    (λ c. omega (arith, turned (c .before) .if1 .taken))
     loop-again
     returns-2)

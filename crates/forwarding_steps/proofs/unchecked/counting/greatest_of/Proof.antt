@@ -22,11 +22,11 @@ abbrev over : List Rank → ℕ → ℕ
 over by v = suc (boundOf by v)
 
 abbrev Inv-loop : tie.InvT-loop
-Inv-loop table u bounds row best₀ i₀ best i =
-    (i ≤ length (placesIn table u)) × (best ≡ greatestBy (over (bounds .by)) (drop i (placesIn table u)))
+Inv-loop table bounds u row best₀ i₀ best i =
+    (i ≤ length (placesIn table u)) × (best .0 ≡ greatestBy (over (bounds .by)) (drop i (placesIn table u)))
 
 abbrev μ-loop : tie.MeasureT-loop
-μ-loop table u bounds row best₀ i₀ best i = i
+μ-loop table bounds u row best₀ i₀ best i = i
 
 -- the entries of a row, as the table's bytes have them
 module _ (table : List ℕ) (u : ℕ) (r : RowOf table u) where
@@ -48,84 +48,79 @@ module _ (table : List ℕ) (u : ℕ) (r : RowOf table u) where
 
 -- the entry of a turn stands in the row, and is a place, whose bound is known
 module _ (c : tie.In-loop Inv-loop μ-loop) where
-  abbrev row-of : RowOf (c .before .before .before .args .table .now) (c .before .before .before .args .u)
-  row-of = c .before .before .before .pre .0
+  abbrev start : tie.Start Inv-loop μ-loop
+  start = c .before .before .before .before
 
-  row-ends : (4 + 19 * c .before .before .before .args .u + 3 + (c .before .loop .i - 1) < length (c .before .before .before .args .table .now))
-      × (c .before .loop .i ≤ 16)
+  abbrev row-of : RowOf (start .args .table .now) (start .args .station .0)
+  row-of = start .pre .0
+
+  row-ends : (4 + 19 * start .args .station .0 + 3 + (c .before .loop .i - 1) < length (start .args .table .now)) × (c .before .loop .i ≤ 16)
   unfolding rowStart
   row-ends = omega (arith, places-long (whole-fits row-of), row-of .few, row-of .whole, c .before .loop .inv .0)
 
-  stands : List·Memᴰ (getD (c .before .before .before .args .table .now) (4 + 19 * c .before .before .before .args .u + 3 + (c .before .loop .i - 1)) 0)
-      (placesIn (c .before .before .before .args .table .now) (c .before .before .before .args .u))
+  stands : List·Memᴰ (getD (start .args .table .now) (4 + 19 * start .args .station .0 + 3 + (c .before .loop .i - 1)) 0)
+      (placesIn (start .args .table .now) (start .args .station .0))
   stands = listed-at _ _ row-of (c .before .loop .i - 1) (omega (arith, c .loop-test .taken, c .before .loop .inv .0))
 
-  leads : getD (c .before .before .before .args .table .now) (4 + 19 * c .before .before .before .args .u + 3 + (c .before .loop .i - 1)) 0 < 64
+  leads : getD (start .args .table .now) (4 + 19 * start .args .station .0 + 3 + (c .before .loop .i - 1)) 0 < 64
   leads = row-of .places _ stands
 
-  known : boundOf (c .before .before .before .args .t2 .by)
-      (getD (c .before .before .before .args .table .now) (4 + 19 * c .before .before .before .args .u + 3 + (c .before .loop .i - 1)) 0) < 64
-  known = c .before .before .before .pre .1 .few _ stands
+  known : boundOf (start .args .t2 .by) (getD (start .args .table .now) (4 + 19 * start .args .station .0 + 3 + (c .before .loop .i - 1)) 0) < 64
+  known = start .pre .1 .few _ stands
 
-  best-next : greatestBy (over (c .before .before .before .args .t2 .by))
-      (drop (c .before .loop .i - 1) (placesIn (c .before .before .before .args .table .now) (c .before .before .before .args .u)))
-      ≡ max
-      (suc (boundOf (c .before .before .before .args .t2 .by)
-      (getD (c .before .before .before .args .table .now) (4 + 19 * c .before .before .before .args .u + 3 + (c .before .loop .i - 1)) 0)))
-      (c .before .loop .best)
+  best-next : greatestBy (over (start .args .t2 .by)) (drop (c .before .loop .i - 1) (placesIn (start .args .table .now) (start .args .station .0)))
+      ≡ max (suc (boundOf (start .args .t2 .by) (getD (start .args .table .now) (4 + 19 * start .args .station .0 + 3 + (c .before .loop .i - 1)) 0)))
+      (c .before .loop .best .0)
   best-next =
       let at = c .before .loop in
-      turned _ _ row-of (c .before .before .before .args .t2 .by) (at .i) (at .best) (omega (arith, c .loop-test .taken)) (at .inv .0) (at .inv .1)
+      turned _ _ row-of (start .args .t2 .by) (at .i) (at .best .0) (omega (arith, c .loop-test .taken)) (at .inv .0) (at .inv .1)
 
 mul-row : tie.Need-mul-row Inv-loop μ-loop
-mul-row c = omega (arith, c .pre .0 .place)
+mul-row c = omega (arith, c .before .pre .0 .place)
 
 add-row : tie.Need-add-row Inv-loop μ-loop
-add-row c = omega (arith, c .pre .0 .place)
+add-row c = omega (arith, c .before .pre .0 .place)
 
 add-i : tie.Need-add-i Inv-loop μ-loop
-add-i c = omega (arith, c .pre .0 .place)
+add-i c = omega (arith, c .before .pre .0 .place)
 
 shared-slice-read-i : tie.Need-shared-slice-read-i Inv-loop μ-loop
 unfolding rowStart
-shared-slice-read-i c = omega (arith, c .before .pre .0 .whole)
+shared-slice-read-i c = omega (arith, c .before .before .pre .0 .whole)
 
 cast-i : tie.Need-cast-i Inv-loop μ-loop
 unfolding rowStart
-cast-i c = omega (arith, c .before .pre .0 .few)
+cast-i c = omega (arith, c .before .before .pre .0 .few)
 
 loop-holds : tie.Need-loop-holds Inv-loop μ-loop
 loop-holds c =
-    let args = c .before .args in
-    let row = c .before .pre .0 in
-    (omega (arith, places-long (whole-fits row)), none-left (args .table .now) (args .u) row (args .t2 .by))
+    let args = c .before .before .args in
+    let row = c .before .before .pre .0 in
+    (omega (arith, places-long (whole-fits row)), none-left (args .table .now) (args .station .0) row (args .t2 .by))
 
-add-v : tie.Need-add-v Inv-loop μ-loop
-add-v c = omega (arith, c .before .before .before .pre .0 .place)
+add-t17 : tie.Need-add-t17 Inv-loop μ-loop
+add-t17 c = omega (arith, start c .pre .0 .place)
 
-add-v-2 : tie.Need-add-v-2 Inv-loop μ-loop
-add-v-2 c = omega (arith, c .before .before .before .pre .0 .place, row-ends c)
+add-t18 : tie.Need-add-t18 Inv-loop μ-loop
+add-t18 c = omega (arith, start c .pre .0 .place, row-ends c)
 
-shared-slice-read-v : tie.Need-shared-slice-read-v Inv-loop μ-loop
-shared-slice-read-v c = omega (arith, row-ends (c .before))
-
-cast-v : tie.Need-cast-v Inv-loop μ-loop
-cast-v c = omega (arith, leads (c .before))
+shared-slice-read-t20 : tie.Need-shared-slice-read-t20 Inv-loop μ-loop
+shared-slice-read-t20 c = omega (arith, row-ends (c .before))
 
 element-copy-out-bound : tie.Need-element-copy-out-bound Inv-loop μ-loop
-element-copy-out-bound c = leads (c .before)
+element-copy-out-bound c = leads (c .before .before)
 
-add-longer : tie.Need-add-longer Inv-loop μ-loop
+add-t20 : tie.Need-add-t20 Inv-loop μ-loop
 unfolding boundOf
-add-longer c = omega (arith, known (c .before .before .before))
+add-t20 c = omega (arith, known (c .before .before .before .before))
 
 loop-again : tie.Need-loop-again Inv-loop μ-loop
 unfolding boundOf
-loop-again c = (omega arith, omega (arith, best-next (c .before .before .before .before)))
+loop-again c = (omega arith, omega (arith, best-next (c .before .before .before .before .before .before .before)))
 
 loop-again-2 : tie.Need-loop-again-2 Inv-loop μ-loop
 unfolding boundOf
-loop-again-2 c = (omega arith, omega (arith, best-next (c .before .before .before .before)))
+loop-again-2 c = (omega arith, omega (arith, best-next (c .before .before .before .before .before .before .before)))
 
 returns : tie.Need-returns Inv-loop μ-loop
 returns c =
@@ -139,6 +134,7 @@ greatest-of-spec =
     (tie.spec
     Inv-loop
     μ-loop
+    (λ c. search needs)
     mul-row
     add-row
     add-i
@@ -146,12 +142,12 @@ greatest-of-spec =
     cast-i
     loop-holds
     (λ c. search needs)
-    add-v
-    add-v-2
-    shared-slice-read-v
-    cast-v
+    add-t17
+    add-t18
+    shared-slice-read-t20
+    (λ c. search needs)
     element-copy-out-bound
-    add-longer
+    add-t20
     (λ c. search needs)
     loop-again
     (λ c. search needs)

@@ -1,4 +1,4 @@
--- `forwarding_steps::unchecked::moving::is_up` meets its contract. The loop's invariant: no slot from `j` on leads to v over a link that is up.
+-- `forwarding_steps::unchecked::moving::is_up` meets its contract. The loop's invariant: no slot from `j` on leads to the entry over a link that is up.
 -- Assumes nothing.
 use Prim.Native.Nat.{ℕ, _-_, _≤_, _<_}
 use mathlib.Core.Bool.{Bool, false}
@@ -15,12 +15,12 @@ use Rattle.forwarding_steps.proofs.unchecked.moving.is_up.Statement.{st
 use Rattle.forwarding_steps.proofs.unchecked.moving.is_up.Tie as tie
 
 abbrev Inv-loop : tie.InvT-loop
-Inv-loop to link states u count v first j₀ j = (j ≤ count) × (any (slotUp to link states u v) (numbersFrom j (count - j)) ≡ false)
+Inv-loop to link states u count entry first j₀ j = (j ≤ count) × (any (slotUp to link states u (entry .0)) (numbersFrom j (count - j)) ≡ false)
 
 abbrev μ-loop : tie.MeasureT-loop
-μ-loop to link states u count v first j₀ j = j
+μ-loop to link states u count entry first j₀ j = j
 
--- a slot that does not lead to v over a link that is up changes nothing
+-- a slot that does not lead to the entry over a link that is up changes nothing
 passed : (f : ℕ → Bool) (j count : ℕ) → 0 < j → j ≤ count → f (j - 1) ≡ false → any f (numbersFrom j (count - j)) ≡ false →
     any f (numbersFrom (j - 1) (count - (j - 1))) ≡ false
 unfolding any
@@ -35,26 +35,26 @@ loop-holds c = (omega arith, rw down-none refl)
 
 cast-number : tie.Need-cast-number Inv-loop μ-loop
 cast-number c =
-    let at = c .before .before .before .before in
+    let at = c .before .before .before .before .before in
     omega (arith, at .before .pre .numbered (at .loop .j - 1) (omega arith))
 
 shared-slice-read-if2 : tie.Need-shared-slice-read-if2 Inv-loop μ-loop
 shared-slice-read-if2 c =
-    let at = c .before .before .before .before .before in
+    let at = c .before .before .before .before .before .before in
     at .before .pre .numbered (at .loop .j - 1) (omega arith)
 
 returns : tie.Need-returns Inv-loop μ-loop
 unfolding slotUp slotTo up
 returns c =
     let leads = c .before .before .before in
-    let at = leads .before .before .before in
+    let at = leads .before .before .before .before in
     sym (any-at _ (at .before .args .count) (at .loop .j - 1) (omega arith) (rw (eq-eqb _ _ (leads .if1 .taken), eq-eqb _ _ (c .if2 .taken))))
 
 loop-again : tie.Need-loop-again Inv-loop μ-loop
 unfolding slotUp slotTo up
 loop-again c =
     let leads = c .before .before .before in
-    let at = leads .before .before .before in (
+    let at = leads .before .before .before .before in (
       omega arith,
       passed _ (at .loop .j) (at .before .args .count) (omega arith) (omega arith)
           (rw (eq-eqb _ _ (leads .if1 .taken), ne-eqb _ _ (c .if2 .left))) (at .loop .inv .1),
@@ -63,7 +63,7 @@ loop-again c =
 loop-again-2 : tie.Need-loop-again-2 Inv-loop μ-loop
 unfolding slotUp slotTo up
 loop-again-2 c =
-    let at = c .before .before .before in (
+    let at = c .before .before .before .before in (
       omega arith,
       passed _ (at .loop .j) (at .before .args .count) (omega arith) (omega arith) (rw (ne-eqb _ _ (c .if1 .left))) (at .loop .inv .1),
     )

@@ -1,4 +1,4 @@
--- The loop's invariant: the numbers passed were put, each behind a space.
+-- The loop's invariant: the places passed were put, each behind a space.
 -- Assumes nothing.
 use Prim.Native.Nat.{_-_, _≤_, _<_}
 use mathlib.Core.Path.{_≡_}
@@ -21,8 +21,8 @@ abbrev μ-loop : tie.MeasureT-loop
 loop-holds : tie.Need-loop-holds Inv-loop μ-loop
 loop-holds c = (omega arith, none spacedNumber 3)
 
-put-field-requires : tie.Need-put-field-requires Inv-loop μ-loop
-put-field-requires c κs =
+put-place-requires : tie.Need-put-place-requires Inv-loop μ-loop
+put-place-requires c κs =
     let at = c .before .before .before in
     (at .before .before .before .pre .0 (at .loop .i) (c .before .before .loop-test .taken), omega arith)
 
@@ -34,7 +34,7 @@ loop-again c =
     let numbers = s .args .numbers .now in
     let h : at .i < length numbers = in-loop .loop-test .taken in (
       omega arith,
-      more spacedNumber 3 (at .inv .1) (getD numbers (at .i) 0) (field-length _ (s .pre .0 (at .i) h)) (c .before .before .put-field .ensures)
+      more spacedNumber 3 (at .inv .1) (getD numbers (at .i) 0) (field-length _ (s .pre .0 (at .i) h)) (c .before .before .put-place .ensures)
           (rw add-one (take-suc numbers (at .i) 0 h)),
     )
 
@@ -56,7 +56,7 @@ put-fields-spec =
     μ-loop
     loop-holds
     (λ c. omega arith)
-    put-field-requires
+    put-place-requires
     (λ c. omega arith)
     (λ c. omega arith)
     loop-again

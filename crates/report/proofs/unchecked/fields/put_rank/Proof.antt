@@ -8,8 +8,8 @@ use lib.ListN.{length}
 use Rattle.text.proofs.Stores.{behind}
 use Rattle.listing_rules.proofs.InTurn.{ended, put-byte}
 use Rattle.listing_rules.proofs.Fields.{field-length, byte-digits}
-use Rattle.report.proofs.unchecked.fields.put_byte_field.Statement.{statement}
-use Rattle.report.proofs.unchecked.fields.put_byte_field.Tie as tie
+use Rattle.report.proofs.unchecked.fields.put_rank.Statement.{statement}
+use Rattle.report.proofs.unchecked.fields.put_rank.Tie as tie
 
 -- the front digits end before the room does
 module _ (c : tie.After-slice-known3) where
@@ -18,7 +18,7 @@ module _ (c : tie.After-slice-known3) where
 
   within : (c .before .before .put-field2 .result < length (c .before .before .put-field2 .last .0)) × (length (c .before .before .put-field2 .last .0) ≡ length (start .args .out .now))
   within =
-      let n = start .args .n in
+      let n = start .args .rank .0 in
       let e = ended (c .before .before .put-field2 .ensures) (field-length (n / 10) (omega arith)) in
       (omega (arith, e), e .1)
 
@@ -30,11 +30,11 @@ add-result c = omega (arith, within c)
 
 returns-2 : tie.Need-returns-2
 returns-2 c =
-    let n = start c .args .n in
+    let n = start c .args .rank .0 in
     rw (byte-digits n (omega arith) (omega arith)) (behind (c .before .before .put-field2 .ensures) (put-byte _ _ (48 + n % 10)))
 
-pub put-byte-field-spec : {M : Type 1} → statement M
-put-byte-field-spec =
+pub put-rank-spec : {M : Type 1} → statement M
+put-rank-spec =
     tie.close
     (tie.spec
     (λ c κs. search needs)
