@@ -2,6 +2,7 @@
 use super::Arcs;
 use super::SLOTS;
 use topology_types::NEIGHBOURS;
+use topology_types::Place;
 use topology_types::ROUTERS;
 use topology_types::Topology;
 ghost use mathlib.Core.Path.{_≡_};
@@ -19,19 +20,19 @@ fn add<'a>(
     cost: &'a mut [u16; SLOTS],
     back: &'a mut [u16; SLOTS],
     link: &'a mut [u8; SLOTS],
-    u: u8,
-    v: u8,
+    u: Place,
+    v: Place,
     c: u16,
     b: u16,
     number: u8,
 )
-    requires { ⌜ (u < mostRouters) × (getD (now count) u 0 < mostNeighbours) ⌝ }
-    ensures { λ _. ⌜ inSlots (now (count .exit)) (now (to .exit)) (now (cost .exit)) (now (back .exit)) (now (link .exit)) ≡ withArc (inSlots (now (count .entry)) (now (to .entry)) (now (cost .entry)) (now (back .entry)) (now (link .entry))) u (record { to = v; cost = c; link = number }) b ⌝ }
+    requires { ⌜ (u .0 < mostRouters) × (getD (now count) (u .0) 0 < mostNeighbours) ⌝ }
+    ensures { λ _. ⌜ inSlots (now (count .exit)) (now (to .exit)) (now (cost .exit)) (now (back .exit)) (now (link .exit)) ≡ withArc (inSlots (now (count .entry)) (now (to .entry)) (now (cost .entry)) (now (back .entry)) (now (link .entry))) (u .0) (record { to = v .0; cost = c; link = number }) b ⌝ }
 {
-    let from = u as usize;
+    let from = u.0 as usize;
     let n = count[from];
     let slot = from * NEIGHBOURS + n as usize;
-    to[slot] = v;
+    to[slot] = v.0;
     cost[slot] = c;
     back[slot] = b;
     link[slot] = number;
@@ -54,8 +55,8 @@ pub fn of(t: Topology) -> Arcs
     while i < links {
         let l = t.link[i];
         let number = i as u8;
-        let u = l.first.0;
-        let v = l.second.0;
+        let u = l.first;
+        let v = l.second;
         let c = l.cost;
         let b = l.back;
         // The link seen from its first end, then from its second.

@@ -4,6 +4,7 @@ use stream::unchecked;
 use stream::unchecked::numbers;
 use topology_types::Answer;
 use topology_types::DEFAULT_NEXT_HOPS;
+use topology_types::Place;
 use topology_types::ROUTERS;
 use topology_types::Topology;
 ghost use mathlib.Core.Path.{_≡_};
@@ -50,7 +51,7 @@ pub fn with_halves(file: &[u8], t: Topology) -> Reading
     while at < file.len() {
         let end = at + numbers::be16(file, at + 18) as usize;
         let n = held.routers;
-        let given = ospf_halves::unchecked::given(&file[at..end], place, &held.id, n);
+        let given = ospf_halves::unchecked::given(&file[at..end], Place(place), &held.id, n);
         let mut i: usize = 0;
         while i < given.count {
             let h = given.half[i];

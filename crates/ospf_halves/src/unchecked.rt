@@ -97,9 +97,9 @@ fn new_place<'a>(s: &'a [u8], at: usize, before: u16, ids: &'a [u32; ROUTERS], n
 }
 
 // What so many links of the LSA at a place give, by the first n IDs.
-fn given_by<'a>(s: &'a [u8], number: u16, place: u8, ids: &'a [u32; ROUTERS], n: usize) -> Halves
+fn given_by<'a>(s: &'a [u8], number: u16, place: Place, ids: &'a [u32; ROUTERS], n: usize) -> Halves
     requires { ⌜ T (some? (linksIn number (now s))) × (n ≤ mostRouters) × (length (now ids) ≡ mostRouters) ⌝ }
-    ensures { λ r. ⌜ (r .count ≤ n) × (length (r .half) ≡ mostRouters) × (take (r .count) (r .half) ≡ halvesOf (take n (now (ids .entry))) place (allOf (linksIn number (now (s .entry))))) ⌝ }
+    ensures { λ r. ⌜ (r .count ≤ n) × (length (r .half) ≡ mostRouters) × (take (r .count) (r .half) ≡ halvesOf (take n (now (ids .entry))) (place .0) (allOf (linksIn number (now (s .entry))))) ⌝ }
 {
     let unset = Half {
         from: Place(0),
@@ -116,7 +116,7 @@ fn given_by<'a>(s: &'a [u8], number: u16, place: u8, ids: &'a [u32; ROUTERS], n:
             let id = numbers::be32(s, at);
             let cost = lowest_to(s, number, id) as u16;
             half[count] = Half {
-                from: Place(place),
+                from: place,
                 to: Place(to as u8),
                 cost: cost,
             };
@@ -132,9 +132,9 @@ fn given_by<'a>(s: &'a [u8], number: u16, place: u8, ids: &'a [u32; ROUTERS], n:
 }
 
 // What the LSA at a place gives, by the first n IDs: one half to each neighbour that has an LSA, in the order first listed.
-pub fn given<'a>(lsa: &'a [u8], place: u8, ids: &'a [u32; ROUTERS], n: usize) -> Halves
+pub fn given<'a>(lsa: &'a [u8], place: Place, ids: &'a [u32; ROUTERS], n: usize) -> Halves
     requires { ⌜ (malformed (now lsa) ≡ false) × (n ≤ mostRouters) × (length (now ids) ≡ mostRouters) ⌝ }
-    ensures { λ r. ⌜ (r .count ≤ n) × (length (r .half) ≡ mostRouters) × (take (r .count) (r .half) ≡ halvesOf (take n (now (ids .entry))) place (allOf (links (now (lsa .entry))))) ⌝ }
+    ensures { λ r. ⌜ (r .count ≤ n) × (length (r .half) ≡ mostRouters) × (take (r .count) (r .half) ≡ halvesOf (take n (now (ids .entry))) (place .0) (allOf (links (now (lsa .entry))))) ⌝ }
 {
     let length = numbers::be16(lsa, 18) as usize;
     let number = numbers::be16(lsa, 22);

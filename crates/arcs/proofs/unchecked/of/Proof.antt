@@ -64,7 +64,7 @@ second-in c = omega (arith, next c .second-in, next c .limit)
 
 -- from the first call back to the turn, and from the second
 abbrev turn : tie.After-link Inv-loop μ-loop → tie.In-loop Inv-loop μ-loop
-turn c = c .before .before .before .before .before .before
+turn c = c .before .before .before .before .before .before .before .before
 
 abbrev added : tie.After-link2 Inv-loop μ-loop → tie.After-add Inv-loop μ-loop
 added c = c .before .before .before .before .before

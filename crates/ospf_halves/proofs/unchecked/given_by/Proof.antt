@@ -12,7 +12,7 @@ use Rattle.ospf_halves.proofs.unchecked.given_by.Statement.{statement}
 use Rattle.ospf_halves.proofs.unchecked.given_by.Tie as tie
 
 abbrev Inv-loop : tie.InvT-loop
-Inv-loop s number place ids n half₀ count₀ at₀ before₀ half count at before = Stored (take n ids) place s number half count at before
+Inv-loop s number place ids n half₀ count₀ at₀ before₀ half count at before = Stored (take n ids) (place .0) s number half count at before
 
 abbrev μ-loop : tie.MeasureT-loop
 μ-loop s number place ids n half₀ count₀ at₀ before₀ half count at before = number - before
