@@ -64,7 +64,7 @@ pub record AllTaken (file : List ℕ) (p : StreamListing) : Type 0 where
   pub taken : Taken (placedIn (lsas file)) p
   pub some-router : 0 < length (p .contents .ids)
 
--- 02, #106: what each answer means and where it points, if and only if; the tests before it pass. 26 and 27 are of the first such LSA, as `WellFormed` and
+-- 02, #106: what each answer means and where it points, if and only if; the tests before it pass. 26 and 27 are of the first such LSA, as `LsasFormed` and
 -- `RightSum` of `ospf_lsas` say; the fault of a router or a half is what `FaultsEach` of `stream_rules` says, and points at the LSA's first byte; of the numbers to 10
 -- those that are none of `ImportNumbers` are never met. Nothing is asked of paths: files of routers whose parts are apart are imported (02, #107).
 pub record ImportSays (file : List ℕ) (at : ℕ) : Type 0 where

@@ -3,7 +3,7 @@
 use Prim.Native.Nat.{ℕ, _+_, _≤_, _<_}
 use mathlib.Core.Bool.{Bool, true, false, cond, false≢true}
 use mathlib.Core.List.{List·Memᴰ}
-use mathlib.Core.Logic.{_↔_}
+use mathlib.Core.Logic.{_≢_, _↔_}
 use mathlib.Core.Path.{_≡_, refl, sym, ap}
 use native.Mathlib.Omega.{arith}
 use borrow.Author.Tests.{leb-false, eqb-false}
@@ -13,13 +13,13 @@ use Rattle.network.specs.Lists.{member}
 use Rattle.network.proofs.Tests.{as-false}
 use Rattle.network.proofs.Lists.{member-mem, mem-member}
 use Rattle.topology_types.specs.declared.Answer.{Answer}
-use Rattle.topology_types.specs.Topology.{Contents, padded, noLink, held}
+use Rattle.topology_types.specs.Topology.{Contents, padded, noLink, held, zeros}
 use Rattle.topology_types.specs.Outcome.{answer}
 use Rattle.topology_sound.specs.Sound.{within}
 use Rattle.stream_rules.specs.declared.Reading.{Reading}
 use Rattle.stream_rules.specs.Halves.{StreamListing, halves}
 use Rattle.stream_rules.specs.Reading.{refusal, acceptedReading, routerFault, fault, ended}
-use Rattle.stream_rules.specs.Theorems.{RouterFaults, listedIn, LimitFaults, EndFaults, FaultsEach}
+use Rattle.stream_rules.specs.Theorems.{RouterFaults, allZeros, listedIn, LimitFaults, EndFaults, FaultsEach}
 use Rattle.stream_rules.proofs.Decides.{Decides, holds, fails, decide, both, most, later, neither, found, past, Left, next, says, ends}
 use Rattle.stream_rules.proofs.HalfVerdicts.{half-faults, link-faults}
 
@@ -107,6 +107,17 @@ module _ (c : Contents) (at : ℕ) where
   unfolding ended
   returned follows z = by-cases follows (eqb (length (c .ids)) 0) _ refl z
 
+  zeros-by : (follows none : Bool) (r : Reading) → r ≡ cond follows (refusal 11 (at + 1)) (cond none (refusal 12 at) (acceptedReading c)) →
+      r .answer .number ≢ 0 → r .topology ≡ allZeros
+  unfolding refusal acceptedReading zeros held padded noLink
+  zeros-by true none r e z = ap (λ (x : Reading). x .topology) e
+  zeros-by false true r e z = ap (λ (x : Reading). x .topology) e
+  zeros-by false false r e z = absurd (z (ap (λ (x : Reading). x .answer .number) e))
+
+  all-zeros : (follows : Bool) → ended follows at c .answer .number ≢ 0 → ended follows at c .topology ≡ allZeros
+  unfolding ended
+  all-zeros follows z = zeros-by follows (eqb (length (c .ids)) 0) _ refl z
+
 pub faults-each : FaultsEach
 unfolding fault
 faults-each p =
@@ -119,4 +130,5 @@ faults-each p =
       end = refl;
       at-end = λ follows at place. end-faults (p .contents) place follows at;
       returns = λ follows at. returned (p .contents) at follows;
+      zeros = λ follows at. all-zeros (p .contents) at follows;
     }

@@ -3,7 +3,9 @@
 use Prim.Native.Nat.{ℕ, zero, suc, _+_, _<_}
 use mathlib.Core.Bool.{true, false}
 use mathlib.Core.List.{List, [], _∷_, _++_}
+use mathlib.Core.Logic.{_≢_}
 use mathlib.Core.Path.{_≡_, refl, sym, ap, _∙_}
+use native.Mathlib.Omega.{arith}
 use lib.Dec.{T}
 use lib.ListN.{length}
 use Rattle.network.specs.Lists.{any, every, member}
@@ -14,7 +16,7 @@ use Rattle.stream_rules.specs.declared.Reading.{Reading}
 use Rattle.stream_rules.specs.declared.Record.{Record}
 use Rattle.stream_rules.specs.Halves.{StreamListing}
 use Rattle.stream_rules.specs.Reading.{fault, reading}
-use Rattle.stream_rules.specs.Theorems.{success, listedIn, BytesList, RecordBytes, ReadAnswers, ReadNumbers}
+use Rattle.stream_rules.specs.Theorems.{success, refused, listedIn, BytesList, RecordBytes, ReadAnswers, ReadNumbers}
 use Rattle.stream_rules.proofs.Verdicts.{faults-each}
 use Rattle.stream_rules.proofs.InTurn.{reads-in-turn}
 use Rattle.stream_rules.proofs.Numbers.{faults}
@@ -44,12 +46,36 @@ answered (followed {s} {p} byte rest l is there) =
 answered (no-router {s} {p} l is there none) =
     rw is (answer-of (reads-in-turn s p l .end) ∙ faults-each p .at-end false (length s) _ .says-12 .1 (there, refl, none))
 
+-- and with a number all zeros beside it
+refuses : {stream : List ℕ} {number at : ℕ} → Way stream at number → number ≢ 0 → reading stream ≡ refused number at
+unfolding member any
+refuses (accepted none l is some) other = absurd (other refl)
+refuses (cut {s} {p} {rest} l is there c) other = rw (is, there) (reads-in-turn s p l .cut-short rest c)
+refuses (unknown {s} {p} kind rest l is there u) other = rw (is, there) (reads-in-turn s p l .unknown kind u rest)
+refuses (faulty {number = zero} rest l is there b e m) other = absurd (other refl)
+refuses (faulty {s} {p} {bytes} {r} {number = suc number} rest l is there b e m) other =
+    rw (is, there) (reads-in-turn s p l .faulty bytes r b number e rest)
+refuses (followed {s} {p} byte rest l is there) other =
+    let answers = faults-each p .at-end true (length s) _ .says-11 .1 (there, refl) in
+    let none = faults-each p .zeros true (length s) (λ z. omega (arith, sym (ap (λ (a : Answer). a .number) answers) ∙ z)) in
+    rw is (reads-in-turn s p l .end-followed byte rest ∙ (λ i. record { answer = answers i; topology = none i }))
+refuses (no-router {s} {p} l is there none) other =
+    let answers = faults-each p .at-end false (length s) _ .says-12 .1 (there, refl, none) in
+    let empty = faults-each p .zeros false (length s) (λ z. omega (arith, sym (ap (λ (a : Answer). a .number) answers) ∙ z)) in
+    rw is (reads-in-turn s p l .end ∙ (λ i. record { answer = answers i; topology = empty i }))
+
 -- so an answer has its way
 gone : {stream : List ℕ} {number at : ℕ} → reading stream .answer ≡ answer number at → Way stream at number
 gone {stream} e =
     let (k, there, w) = way stream in
     let same = sym (answered w) ∙ e in
     rw (← ap (λ (a : Answer). a .number) same, ← ap (λ (a : Answer). a .at) same) w
+
+-- no fault has number 0
+not-zero : (number : ℕ) → T (member number faults) → number ≢ 0
+unfolding member any
+not-zero zero m e = absurd m
+not-zero (suc number) m e = omega (arith, e)
 
 by-fault : {stream : List ℕ} {number at : ℕ} → T (member number faults) → Way stream at number →
     (s : List ℕ) × (p : StreamListing) × (bytes : List ℕ) × (r : Record) × (rest : List ℕ) ×
@@ -74,36 +100,36 @@ read-answers stream at =
         λ (none, (s, p, l, is, some, same)). rw (is, none, same) (reads-end l some),
       );
       says-1 = (
-        λ e. elim (gone e) [
+        λ e. elim (gone (answer-of e)) [
           | cut {s} {p} {rest} l is there c ↦ (s, p, rest, l, is, there, c)
           | faulty rest l is there b x m ↦ absurd m
         ],
-        λ (s, p, rest, l, is, there, c). answered (cut l is there c),
+        λ (s, p, rest, l, is, there, c). refuses (cut l is there c) (λ z. omega (arith, z)),
       );
       says-2 = (
-        λ e. elim (gone e) [
+        λ e. elim (gone (answer-of e)) [
           | unknown {s} {p} kind rest l is there u ↦ (s, p, kind, rest, l, is, there, u)
           | faulty rest l is there b x m ↦ absurd m
         ],
-        λ (s, p, kind, rest, l, is, there, u). answered (unknown kind rest l is there u),
+        λ (s, p, kind, rest, l, is, there, u). refuses (unknown kind rest l is there u) (λ z. omega (arith, z)),
       );
       says-fault = λ number m. (
-        λ e. by-fault (mem-member number faults m) (gone e),
-        λ (s, p, bytes, r, rest, l, is, there, b, x). answered (faulty rest l is there b x (mem-member number faults m)),
+        λ e. by-fault (mem-member number faults m) (gone (answer-of e)),
+        λ (s, p, bytes, r, rest, l, is, there, b, x). refuses (faulty rest l is there b x (mem-member number faults m)) (λ z. not-zero number (mem-member number faults m) z),
       );
       says-11 = (
-        λ e. elim (gone e) [
+        λ e. elim (gone (answer-of e)) [
           | followed {s} {p} byte rest l is there ↦ (s, p, byte, rest, l, is, there)
           | faulty rest l is there b x m ↦ absurd m
         ],
-        λ (s, p, byte, rest, l, is, there). answered (followed byte rest l is there),
+        λ (s, p, byte, rest, l, is, there). refuses (followed byte rest l is there) (λ z. omega (arith, z)),
       );
       says-12 = (
-        λ e. elim (gone e) [
+        λ e. elim (gone (answer-of e)) [
           | no-router {s} {p} l is there none ↦ (s, p, l, is, there, none)
           | faulty rest l is there b x m ↦ absurd m
         ],
-        λ (s, p, l, is, there, none). answered (no-router l is there none),
+        λ (s, p, l, is, there, none). refuses (no-router l is there none) (λ z. omega (arith, z)),
       );
     }
 

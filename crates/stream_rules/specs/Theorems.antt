@@ -157,6 +157,8 @@ pub record Faults (p : StreamListing) : Type 0 where
   -- a reading that is not refused returns what is listed without the lone halves, the slots behind it zero
   pub returns : (follows : Bool) (at : ℕ) → ended follows at (p .contents) .answer .number ≡ 0 →
       ended follows at (p .contents) .topology ≡ listedIn (p .contents)
+  -- and one that is refused there the topology of all zeros
+  pub zeros : (follows : Bool) (at : ℕ) → ended follows at (p .contents) .answer .number ≢ 0 → ended follows at (p .contents) .topology ≡ allZeros
 
 abbrev pub FaultsEach : Type 0
 FaultsEach = (p : StreamListing) → Faults p
@@ -269,16 +271,16 @@ pub record ReadSays (stream : List ℕ) (at : ℕ) : Type 0 where
   pub says-0 : (t : Topology) → (reading stream ≡ record { answer = answer 0 at; topology = t }) ↔
       ((at ≡ 0) × ((s : List ℕ) × (p : StreamListing) ×
       BytesList s p × (stream ≡ s ++ (3 ∷ [])) × (0 < length (p .contents .ids)) × (t ≡ listedIn (p .contents))))
-  pub says-1 : (reading stream .answer ≡ answer 1 at) ↔
+  pub says-1 : (reading stream ≡ refused 1 at) ↔
       ((s : List ℕ) × (p : StreamListing) × (rest : List ℕ) × BytesList s p × (stream ≡ s ++ rest) × (at ≡ length s) × CutShort rest)
-  pub says-2 : (reading stream .answer ≡ answer 2 at) ↔
+  pub says-2 : (reading stream ≡ refused 2 at) ↔
       ((s : List ℕ) × (p : StreamListing) × (kind : ℕ) × (rest : List ℕ) × BytesList s p × (stream ≡ s ++ (kind ∷ rest)) × (at ≡ length s) × UnknownKind kind)
-  pub says-fault : (number : ℕ) → List·Memᴰ number (3 ∷ 4 ∷ 5 ∷ 6 ∷ 7 ∷ 8 ∷ 9 ∷ 10 ∷ 16 ∷ []) → (reading stream .answer ≡ answer number at) ↔
+  pub says-fault : (number : ℕ) → List·Memᴰ number (3 ∷ 4 ∷ 5 ∷ 6 ∷ 7 ∷ 8 ∷ 9 ∷ 10 ∷ 16 ∷ []) → (reading stream ≡ refused number at) ↔
       ((s : List ℕ) × (p : StreamListing) × (bytes : List ℕ) × (r : Record) × (rest : List ℕ) ×
       BytesList s p × (stream ≡ s ++ (bytes ++ rest)) × (at ≡ length s) × RecordBytes bytes r × (fault p r ≡ number))
-  pub says-11 : (reading stream .answer ≡ answer 11 at) ↔
+  pub says-11 : (reading stream ≡ refused 11 at) ↔
       ((s : List ℕ) × (p : StreamListing) × (byte : ℕ) × (rest : List ℕ) × BytesList s p × (stream ≡ s ++ (3 ∷ byte ∷ rest)) × (at ≡ length s + 1))
-  pub says-12 : (reading stream .answer ≡ answer 12 at) ↔
+  pub says-12 : (reading stream ≡ refused 12 at) ↔
       ((s : List ℕ) × (p : StreamListing) × BytesList s p × (stream ≡ s ++ (3 ∷ [])) × (at ≡ length s) × (length (p .contents .ids) ≡ 0))
 
 abbrev pub ReadAnswers : Type 0

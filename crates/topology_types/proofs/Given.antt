@@ -2,14 +2,14 @@
 -- Assumes nothing.
 use Prim.Native.Nat.{ℕ, _≤_, _<_}
 use mathlib.Core.List.{List, _++_}
-use mathlib.Core.Path.{_≡_, sym}
+use mathlib.Core.Path.{_≡_, refl, sym}
 use native.Mathlib.Decide.{decLt}
 use native.Mathlib.Omega.{arith}
 use borrow.Author.Tests.{lt-ltb, le-ltb}
 use lib.ListN.{length, drop}
 use lib.Seq.{length-front, length-take-le, take-append-seam, drop-append-seam}
 use Rattle.topology_types.specs.Outcome.{answer, turnedAway, given}
-use Rattle.topology_types.specs.Theorems.{BufferGiven, GivenExact}
+use Rattle.topology_types.specs.Theorems.{BufferGiven, GivenExact, TurnedAwayExact}
 
 module _ (bytes buffer : List ℕ) where
   short : length buffer < length bytes → given bytes buffer ≡ record { answer = answer 24 (length bytes); buffer = buffer }
@@ -33,3 +33,7 @@ given-exact bytes buffer = record {
   rest = λ h. rw (fits bytes buffer h) (drop-append-seam bytes (drop (length bytes) buffer));
   long = long bytes buffer (decLt (length buffer) (length bytes));
 }
+
+pub turned-away-exact : TurnedAwayExact
+unfolding turnedAway
+turned-away-exact number at buffer = refl

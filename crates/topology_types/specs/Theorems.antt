@@ -4,7 +4,7 @@ use Prim.Native.Nat.{ℕ, _≤_, _<_}
 use mathlib.Core.List.{List}
 use mathlib.Core.Path.{_≡_}
 use lib.ListN.{length, take, drop}
-use Rattle.topology_types.specs.Outcome.{answer, given}
+use Rattle.topology_types.specs.Outcome.{answer, turnedAway, given}
 
 -- 01, Refusals, 24: a buffer that is too short is refused at the length needed and stays as it was. Otherwise the answer has number 0 and says how
 -- many bytes were written; they stand at the front of the buffer, and the rest of it stays.
@@ -17,3 +17,7 @@ pub record BufferGiven (bytes buffer : List ℕ) : Type 0 where
 
 abbrev pub GivenExact : Type 0
 GivenExact = (bytes buffer : List ℕ) → BufferGiven bytes buffer
+
+-- 01, Refusals: no refusal writes to a buffer, whatever its number
+abbrev pub TurnedAwayExact : Type 0
+TurnedAwayExact = (number at : ℕ) (buffer : List ℕ) → turnedAway number at buffer ≡ record { answer = answer number at; buffer = buffer }
