@@ -10,7 +10,7 @@ use Rattle.network.specs.Row.{rank, sortsBefore, rankedBefore, fullRow, row}
 use Rattle.network.specs.Forwarding.{hopTo, hop, start, routeOn, route, longest}
 use Rattle.network.specs.Paths.{pathsAt, throughEach, pathsFrom}
 use Rattle.network.specs.Calls.{afterHop, afterCall, afterCalls}
-use Rattle.network.specs.Routing.{up, firstLive, validStates, greatestHop, greatestHops, everyPath, costOf}
+use Rattle.network.specs.Routing.{up, firstLive, validStates, greatestHops, costOf}
 use Rattle.network.proofs.Linked.{linked-well-formed}
 use Rattle.topology_types.specs.Topology.{noLink, padded, contents, held, zeros, seen, networkIn, networkOf}
 use Rattle.topology_sound.specs.Sound.{within}
@@ -31,7 +31,7 @@ unfolding numbersFrom below keep every any leastBy greatestBy ahead foremost ins
     reached shortestNextHops leadsInto ready candidate placedNeighbours preferred select continued placing build
     rank sortsBefore rankedBefore fullRow row
     hopTo hop start routeOn route longest afterHop afterCall afterCalls
-    up firstLive validStates greatestHop greatestHops pathsAt throughEach pathsFrom everyPath costOf
+    up firstLive validStates greatestHops pathsAt throughEach pathsFrom costOf
     upBut leftAt callOf samePaths claimHolds holds
     link twoCosts T-network F-network T-reversed slope about allUp further
 further-hold = tt

@@ -2,7 +2,7 @@
 -- table are network's, since the destinations and the entries are the same.
 -- Assumes nothing.
 use Prim.Native.Nat.{ℕ, zero, suc, _<_}
-use mathlib.Core.List.{List, [], _∷_, List·Memᴰ, List·Memᴰ·cases-cons}
+use mathlib.Core.List.{List, []}
 use mathlib.Core.Logic.{_⊎_, inl, inr, ⊎-elim}
 use mathlib.Core.Path.{_≡_, refl, ap₂, _∙_, fun-ext}
 use native.Mathlib.Omega.{arith}
@@ -10,7 +10,7 @@ use borrow.Author.Tests.{eq-eqb, ne-eqb}
 use lib.Dec.{T}
 use lib.ListN.{getD}
 use Rattle.network.specs.Network.{Arc, size, WellFormed}
-use Rattle.network.specs.Lists.{Distinct, greatestBy}
+use Rattle.network.specs.Lists.{greatestBy}
 use Rattle.network.specs.Distance.{PathTo, distances}
 use Rattle.network.specs.Order.{free, reached, accepted}
 use Rattle.network.specs.Row.{rank, row}
@@ -18,11 +18,9 @@ use Rattle.network.specs.Forwarding.{Forwarding, Packet, hop, walk, longest}
 use Rattle.network.specs.Routing.{routers, greatestHop}
 use Rattle.network.proofs.Below.{getD-below}
 use Rattle.network.proofs.Tests.{truth}
-use Rattle.network.proofs.Distance.{starts-in}
 use Rattle.network.proofs.NextHop.{path-reached, reached-path}
 use Rattle.network.proofs.Order.{acceptance-exact}
-use Rattle.network.proofs.Pigeon.{at-most, member?, distinct-cons}
-use Rattle.network.proofs.Rank.{rank-most, rank-in}
+use Rattle.network.proofs.Falling.{orders-fall}
 use Rattle.topology_types.specs.declared.Topology.{Topology}
 use Rattle.topology_types.specs.Topology.{networkOf}
 use Rattle.topology_types.specs.Outcome.{answer}
@@ -65,26 +63,14 @@ pub record Over (t : Topology) (table : List ℕ) : Type 1 where
 forwarding : ℕ → (ℕ → List Arc) → Forwarding
 forwarding d rows = forwardingBy (record { destination = d; rank = λ u. 0; entries = rows })
 
--- a place below N ranks below N: if it is held, below those that are, and if not, behind them, and then they are not all
-ranked-below : (count : ℕ) (order : List ℕ) → Distinct order → ((v : ℕ) → List·Memᴰ v order → v < count) → (u : ℕ) → u < count → rank order u < count
-ranked-below count order once places u h = step (member? u order)
-  where
-    step : Dec (List·Memᴰ u order) → rank order u < count
-    step (yes m) = omega (arith, rank-in order u m, at-most count order once places)
-    step (no out) =
-        omega (
-          arith,
-          rank-most order u,
-          at-most count (u ∷ order) (distinct-cons out once) (λ v m. ⊎-elim (λ e. rw e h) (places v) (List·Memᴰ·cases-cons m)),
-        )
-
 given-over : (t : Topology) → T (sound t) → (table : List ℕ) → SomeGive t table → Over t table
-unfolding listed forwarding figure greatestHop
+unfolding listed forwarding figure
 given-over t good table (d, limit, order, g) =
     let n = networkOf t in
     let s = sound-networks t good in
     let l = tables-list t good table d limit order g in
     let inside : d < size n = omega (arith, s .routers, g .place) in
+    let in-free = acceptance-exact n (s .well-formed) d inside free order .1 (g .in-free) in
     let rows = fun-ext (l .entries) in
     let to = l .destination in
     record {
@@ -97,9 +83,8 @@ given-over t good table (d, limit, order, g) =
       routers-are = s .routers;
       links-are = s .links;
       inside = inside;
-      in-free = acceptance-exact n (s .well-formed) d inside free order .1 (g .in-free);
-      rank-below = λ u h. ranked-below (t .routers) order (g .in-free .once)
-          (λ v m. omega (arith, s .routers, starts-in n (s .well-formed) d inside (g .in-free .only v m))) u h;
+      in-free = in-free;
+      rank-below = rw (← s .routers) (orders-fall n (s .well-formed) d inside limit order in-free .ranks-below);
       destination-is = g .bytes .destination;
       rank-is = λ u h. g .bytes .rows u (omega (arith, s .routers)) .rank-is;
       entries-are = l .entries;
@@ -151,7 +136,6 @@ module _ {t : Topology} {table : List ℕ} (good : T (sound t)) (o : Over t tabl
     row-unreached = no-path-row (networkOf t) (o .well-formed) (o .d) (o .inside) (o .given .in-free) (o .limit) u no-path
 
     pub hops-unreached : greatestHop (networkOf t) (o .d) (o .limit) (o .order) u ≡ 0
-    unfolding greatestHop
     hops-unreached = step (size (networkOf t))
       where
         step : (left : ℕ) → longest (routers (networkOf t) (o .d) (o .limit) (o .order)) left u ≡ 0

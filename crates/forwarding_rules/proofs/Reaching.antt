@@ -9,7 +9,7 @@ use lib.ListN.{length, getD}
 use Rattle.network.specs.Network.{size}
 use Rattle.network.specs.Row.{rank}
 use Rattle.network.specs.Forwarding.{Forwarding, Packet}
-use Rattle.network.specs.Routing.{validStates, routers, greatestHop}
+use Rattle.network.specs.Routing.{validStates, routers}
 use Rattle.network.specs.Theorems.Forwarding.{Lawful}
 use Rattle.network.proofs.Forwarding.{Way, stop, down, longest-way, way-falls, hop-down}
 use Rattle.network.proofs.Routing.{routers-lawful, entry-arc}
@@ -70,7 +70,7 @@ module _ (t : Topology) (good : T (sound t)) (table : List ℕ) (right : tableCh
   pub reaching : (p : Packet ℕ) (s : ℕ) → s < t .routers → Reached t table s → (cs : List PacketCall) × (lastSetIn t table cs s ≡ s)
       × (afterAll t table (set-at s ∷ cs) p .hops ≡ getD (figures t table) s 0)
       × ((c : PacketCall) → List·Memᴰ c cs → (states : List ℕ) × (c ≡ hop-under states) × SoundStates t states)
-  unfolding afterAll greatestHop
+  unfolding afterAll
   reaching p s place path =
       let below = o .rank-below s place in
       let (xs, way, long) =

@@ -17,7 +17,7 @@ use Rattle.network.specs.Distance.{distances}
 use Rattle.network.specs.Order.{free}
 use Rattle.network.specs.Row.{rank, row}
 use Rattle.network.specs.Forwarding.{longest}
-use Rattle.network.specs.Routing.{routers, greatestHop}
+use Rattle.network.specs.Routing.{routers}
 use Rattle.network.proofs.Distance.{starts-in}
 use Rattle.network.proofs.Forwarding.{settled}
 use Rattle.network.proofs.Order.{order-fits}
@@ -100,11 +100,9 @@ module _ (t : Topology) (good : T (sound t)) (table : List ℕ) (o : Over t tabl
 
   -- the figure is network's
   hop-count : (u : ℕ) → u < t .routers → figure t table u ≡ longest (routers n (o .d) (o .limit) (o .order)) (size n) u
-  unfolding greatestHop
   hop-count u h = o .hops-are u
 
   figure-few : (u : ℕ) → u < t .routers → figure t table u < 64
-  unfolding greatestHop
   figure-few u h =
       omega (
         arith,

@@ -19,6 +19,7 @@ pub mod Build
 pub mod Rank
 pub mod Row
 pub mod Filled
+pub mod Falling
 pub mod Hops
 pub mod Forwarding
 pub mod Calls

@@ -4,12 +4,13 @@ use Prim.Native.Nat.{ℕ, suc, _≤_, _<_}
 use mathlib.Core.Bool.{Bool, true, false, cond, false≢true}
 use mathlib.Core.List.{List, [], _∷_, _++_, List·Memᴰ, List·Memᴰ·head, List·Memᴰ·tail, List·Memᴰ·cases-cons, List·Memᴰ·not-nil}
 use mathlib.Core.List.{append-nil, head-eq-of-cons-eq}
-use mathlib.Core.Logic.{_≢_, _⊎_, inl, inr}
+use mathlib.Core.Logic.{_≢_, _⊎_, inl, inr, ⊎-elim}
 use mathlib.Core.Path.{_≡_, refl, sym, _∙_, ap}
 use native.Mathlib.Omega.{arith}
 use borrow.Author.Tests.{eqb-true, eq-eqb, ne-eqb}
 use lib.Dec.{eqb}
 use lib.ListN.{length}
+use Rattle.network.specs.Lists.{Distinct}
 use Rattle.network.specs.Network.{Network}
 use Rattle.network.specs.Distance.{PathTo}
 use Rattle.network.specs.Order.{Mode}
@@ -17,6 +18,7 @@ use Rattle.network.specs.Row.{rank}
 use Rattle.network.specs.Theorems.Order.{Candidate, Accepted}
 use Rattle.network.specs.Theorems.Row.{RankIsTurn}
 use Rattle.network.proofs.Lists.{split}
+use Rattle.network.proofs.Pigeon.{at-most, member?, distinct-cons}
 
 -- a router ranks at most behind all
 pub rank-most : (order : List ℕ) (u : ℕ) → rank order u ≤ length order
@@ -56,6 +58,20 @@ rank-past (w ∷ order) u out =
 
 pub rank-is-turn : RankIsTurn
 rank-is-turn u = (λ before after. rank-at before u after, λ order. rank-past order u)
+
+-- a place below N ranks below N: if it is held, below those that are, and if not, behind them, and then they are not all
+pub ranked-below : (count : ℕ) (order : List ℕ) → Distinct order → ((v : ℕ) → List·Memᴰ v order → v < count) → (u : ℕ) → u < count →
+    rank order u < count
+ranked-below count order once places u h = step (member? u order)
+  where
+    step : Dec (List·Memᴰ u order) → rank order u < count
+    step (yes m) = omega (arith, rank-in order u m, at-most count order once places)
+    step (no out) =
+        omega (
+          arith,
+          rank-most order u,
+          at-most count (u ∷ order) (distinct-cons out once) (λ v m. ⊎-elim (λ e. rw e h) (places v) (List·Memᴰ·cases-cons m)),
+        )
 
 -- d has rank 0, and nothing else has
 pub rank-of-d : {n : Network} {d : ℕ} {mode : Mode} {order : List ℕ} → Accepted n d mode order → rank order d ≡ 0

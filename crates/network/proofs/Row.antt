@@ -20,7 +20,7 @@ use Rattle.network.proofs.Sort.{pairwise-map, one-rising, mem-sort, Dec
 use Rattle.network.proofs.Selection.{ids-apart}
 
 -- of the elements of a list on which f differs, f names one
-same-by : {A B : Type 0} (f : A → B) {xs : List A} → Pairwise (λ a b. f a ≢ f b) xs → {a b : A} → List·Memᴰ a xs → List·Memᴰ b xs → f a ≡ f b → a ≡ b
+pub same-by : {A B : Type 0} (f : A → B) {xs : List A} → Pairwise (λ a b. f a ≢ f b) xs → {a b : A} → List·Memᴰ a xs → List·Memᴰ b xs → f a ≡ f b → a ≡ b
 same-by f nothing m k e = absurd (List·Memᴰ·not-nil m)
 same-by {A} f (then {x} {xs} h p) {a} {b} m k e = step (List·Memᴰ·cases-cons m) (List·Memᴰ·cases-cons k) (same-by f p)
   where

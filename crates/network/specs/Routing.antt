@@ -1,4 +1,5 @@
--- Routers that forward by their rows, to the first entry whose link is up (01, Packet, hop and schedule): the first instance of Forwarding.
+-- Routers that forward by their rows, to the first entry whose link is up (01, Packet, hop and schedule): the first instance of Forwarding. Each
+-- definition is over any rows first, and then over those of an order.
 -- Assumes nothing.
 use Prim.Native.Nat.{ℕ, _+_}
 use mathlib.Core.Bool.{Bool, cond, _&&_}
@@ -27,36 +28,49 @@ unfoldable pub firstLive : List ℕ → List Arc → Option Arc
 firstLive states [] = none
 firstLive states (a ∷ rest) = cond (up states (a .link)) (some a) (firstLive states rest)
 
--- 01, Packet, hop and schedule: the routers of a network under an order for d, with rows of at most `limit` entries
-abbrev pub routers : Network → ℕ → ℕ → List ℕ → Forwarding
-routers n d limit order =
+-- 01, Packet, hop and schedule: routers that forward to d by any rows
+abbrev pub routersBy : ℕ → (ℕ → List Arc) → Forwarding
+routersBy d rows =
     record {
       State = ℕ;
       Entry = Arc;
       States = List ℕ;
       home = λ u. eqb u d;
-      row = λ u. row n (distances n d) limit order u;
+      row = rows;
       next = λ a. a .to;
-      choose = λ states u. firstLive states (row n (distances n d) limit order u);
+      choose = λ states u. firstLive states (rows u);
     }
 
+-- 01, Packet, hop and schedule: the routers of a network under an order for d, with rows of at most `limit` entries
+abbrev pub routers : Network → ℕ → ℕ → List ℕ → Forwarding
+routers n d limit order = routersBy d (row n (distances n d) limit order)
+
 -- 01, Packet, hop and schedule: the greatest hop count of u, as it is computed, 0 where u has no path to d
-unfoldable pub greatestHop : Network → ℕ → ℕ → List ℕ → ℕ → ℕ
-greatestHop n d limit order u = longest (routers n d limit order) (size n) u
+abbrev pub greatestHopBy : Network → ℕ → (ℕ → List Arc) → ℕ → ℕ
+greatestHopBy n d rows u = longest (routersBy d rows) (size n) u
+
+abbrev pub greatestHop : Network → ℕ → ℕ → List ℕ → ℕ → ℕ
+greatestHop n d limit order u = greatestHopBy n d (row n (distances n d) limit order) u
 
 -- 01, Packet, hop and schedule: for all places; these are the figures reported, except that 255 is reported where there is no path (02, #107)
 unfoldable pub greatestHops : Network → ℕ → ℕ → List ℕ → List ℕ
 greatestHops n d limit order = map (greatestHop n d limit order) (below (size n))
 
 -- 02, 103: every path from u to d, each as the places that it goes by
-unfoldable pub everyPath : Network → ℕ → ℕ → List ℕ → ℕ → List (List ℕ)
-everyPath n d limit order u = pathsFrom (routers n d limit order) (size n) u
+abbrev pub everyPathBy : Network → ℕ → (ℕ → List Arc) → ℕ → List (List ℕ)
+everyPathBy n d rows u = pathsFrom (routersBy d rows) (size n) u
+
+abbrev pub everyPath : Network → ℕ → ℕ → List ℕ → ℕ → List (List ℕ)
+everyPath n d limit order u = everyPathBy n d (row n (distances n d) limit order) u
 
 -- 01, Refusals, 15, 22 and 23, for what is not refused: a start, a packet's station and its hops made are below N; link states are one byte per
 -- link, none over 1
-abbrev pub callTests : (n : Network) (d limit : ℕ) (order : List ℕ) → Tests (routers n d limit order)
-callTests n d limit order =
+abbrev pub callTestsBy : (n : Network) (d : ℕ) (rows : ℕ → List Arc) → Tests (routersBy d rows)
+callTestsBy n d rows =
     record { start-ok = λ u. ltb u (size n); hop-ok = λ states p. ltb (p .station) (size n) && ltb (p .hops) (size n) && validStates n states }
+
+abbrev pub callTests : (n : Network) (d limit : ℕ) (order : List ℕ) → Tests (routers n d limit order)
+callTests n d limit order = callTestsBy n d (row n (distances n d) limit order)
 
 -- 01, Order: the sum of the arcs' costs
 unfoldable pub costOf : List Arc → ℕ

@@ -73,7 +73,7 @@ module _ (t : Topology) (good : T (sound t)) (table : List ℕ) (right : tableCh
   module _ (u : ℕ) where
     -- the list is network's
     same : pathsOf t table u ≡ everyPath n (x .d) (x .limit) (x .order) u
-    unfolding pathsOf everyPath listed destinationIn
+    unfolding pathsOf listed destinationIn
     same =
         rw (x .routers-are)
         (carried t good table right

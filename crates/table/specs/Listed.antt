@@ -9,7 +9,7 @@ use Rattle.network.specs.Lists.{below, keep}
 use Rattle.network.specs.Network.{Arc, Network, size, arcsOf}
 use Rattle.network.specs.Order.{shortest-path, accepted}
 use Rattle.network.specs.Forwarding.{Forwarding}
-use Rattle.network.specs.Routing.{firstLive}
+use Rattle.network.specs.Routing.{routersBy}
 use Rattle.topology_types.specs.Outcome.{firstOr}
 use Rattle.topology.specs.Written.{joinedOver}
 use Rattle.table_rows.specs.Bytes.{rowStart}
@@ -53,16 +53,7 @@ listed n table = record { destination = destinationIn table; rank = rankIn table
 
 -- 01, Packet, hop and schedule: routers that forward by what a table lists, to the first entry whose link is up
 abbrev pub forwardingBy : TableListing → Forwarding
-forwardingBy l =
-    record {
-      State = ℕ;
-      Entry = Arc;
-      States = List ℕ;
-      home = λ u. eqb u (l .destination);
-      row = λ u. l .entries u;
-      next = λ a. a .to;
-      choose = λ states u. firstLive states (l .entries u);
-    }
+forwardingBy l = routersBy (l .destination) (l .entries)
 
 -- 01, Rows and tables: the order that the ranks of a table for so many routers form. At each rank stands the lowest place whose row has it; where none
 -- has, 255 (02, #107).

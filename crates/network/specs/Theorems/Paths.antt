@@ -1,5 +1,5 @@
 -- What is proved of the paths down the rows, over any rows and any rule of choice that obeys the laws; then of routers, over every well-formed network,
--- every destination in it, every limit K and every order accepted for it.
+-- every destination in it and all rows along whose entries ranks fall, and so of every limit K and every order accepted for it.
 -- Assumes nothing.
 use Prim.Native.Nat.{ℕ, suc, _≤_, _<_}
 use mathlib.Core.List.{List, [], _∷_, _++_, List·Memᴰ, map}
@@ -13,9 +13,9 @@ use Rattle.network.specs.Distance.{PathTo, distances}
 use Rattle.network.specs.Row.{rank, row}
 use Rattle.network.specs.Forwarding.{Forwarding, Packet, delivered-at, walk, start, route, longest}
 use Rattle.network.specs.Paths.{pathsFrom, pathsThrough}
-use Rattle.network.specs.Routing.{validStates, routers, greatestHop, everyPath}
+use Rattle.network.specs.Routing.{validStates, routersBy, greatestHopBy, greatestHop, everyPathBy, everyPath}
 use Rattle.network.specs.Theorems.Forwarding.{Lawful}
-use Rattle.network.specs.Theorems.Routing.{OfTables}
+use Rattle.network.specs.Theorems.Routing.{SomeEntry, OfRows, OfTables}
 
 -- a claim of every station, over rows and a rule of choice that obey the laws, where at least as many moves are allowed as its rank
 abbrev pub OfPaths : ((f : Forwarding) (rank : f .State → ℕ) (valid : f .States → Type 0) → ℕ → f .State → Type 0) → Type 1
@@ -121,28 +121,37 @@ abbrev pub CountsExact : Type 1
 CountsExact = (A : Type 0) (most : ℕ) (xs : List A) → Counted most xs
 
 -- 02, 103, of routers: a path starts at u, each next place is an entry of the row of the place before it, and it ends at d.
-pub record RouterPath (n : Network) (d limit : ℕ) (order : List ℕ) (u : ℕ) (p : List ℕ) : Type 0 where
+pub record RowPath (d : ℕ) (rows : ℕ → List Arc) (u : ℕ) (p : List ℕ) : Type 0 where
   pub starts : (rest : List ℕ) × (p ≡ u ∷ rest)
-  pub steps : (before : List ℕ) (v w : ℕ) (after : List ℕ) → p ≡ before ++ (v ∷ w ∷ after) →
-      (a : Arc) × List·Memᴰ a (row n (distances n d) limit order v) × (a .to ≡ w)
+  pub steps : (before : List ℕ) (v w : ℕ) (after : List ℕ) → p ≡ before ++ (v ∷ w ∷ after) → (a : Arc) × List·Memᴰ a (rows v) × (a .to ≡ w)
   pub ends : (before : List ℕ) × (p ≡ before ++ (d ∷ []))
 
-pub record EveryPath (n : Network) (d limit : ℕ) (order : List ℕ) (u : ℕ) : Type 0 where
+-- What is listed for u, and its greatest hop count; `filled` is what gives every router with a path but d an entry.
+pub record RowPaths (n : Network) (d : ℕ) (rows : ℕ → List Arc) (ranks : ℕ → ℕ) (filled : Type 0) (u : ℕ) (listed : List (List ℕ)) (most : ℕ) : Type 0 where
   -- the list holds exactly these, each once, in the order of the rows
-  pub holds : (p : List ℕ) → List·Memᴰ p (everyPath n d limit order u) ↔ RouterPath n d limit order u p
-  pub each-once : Distinct (everyPath n d limit order u)
-  pub in-order : Pairwise (Earlier (routers n d limit order)) (everyPath n d limit order u)
+  pub holds : (p : List ℕ) → List·Memᴰ p listed ↔ RowPath d rows u p
+  pub each-once : Distinct listed
+  pub in-order : Pairwise (Earlier (routersBy d rows)) listed
   -- none has a repeated router, so each fits N places
-  pub no-repeat : (p : List ℕ) → List·Memᴰ p (everyPath n d limit order u) → Distinct p
-  pub in-network : u < size n → (p : List ℕ) → List·Memᴰ p (everyPath n d limit order u) →
-      (length p ≤ size n) × ((v : ℕ) → List·Memᴰ v p → v < size n)
+  pub no-repeat : (p : List ℕ) → List·Memᴰ p listed → Distinct p
+  pub in-network : u < size n → (p : List ℕ) → List·Memᴰ p listed → (length p ≤ size n) × ((v : ℕ) → List·Memᴰ v p → v < size n)
   -- the longest has as many moves as the greatest hop count
-  pub never-passed : (p : List ℕ) → List·Memᴰ p (everyPath n d limit order u) → length p ≤ suc (greatestHop n d limit order u)
-  pub longest-one : 1 ≤ limit → PathTo n d u →
-      (p : List ℕ) × List·Memᴰ p (everyPath n d limit order u) × (length p ≡ suc (greatestHop n d limit order u))
+  pub never-passed : (p : List ℕ) → List·Memᴰ p listed → length p ≤ suc most
+  pub longest-one : filled → PathTo n d u → (p : List ℕ) × List·Memᴰ p listed × (length p ≡ suc most)
   -- where there is no way to d over the links there is none in the list
-  pub only-reached : (PathTo n d u → ⊥) → everyPath n d limit order u ≡ []
-  pub walks : Walked (routers n d limit order) (rank order) (λ states. T (validStates n states)) u (everyPath n d limit order u)
+  pub only-reached : (PathTo n d u → ⊥) → listed ≡ []
+  pub walks : Walked (routersBy d rows) ranks (λ states. T (validStates n states)) u listed
+
+abbrev pub PathsByRowsExact : Type 0
+PathsByRowsExact =
+    OfRows (λ n d rows ranks. (u : ℕ) → RowPaths n d rows ranks (SomeEntry n d rows) u (everyPathBy n d rows u) (greatestHopBy n d rows u))
+
+abbrev pub RouterPath : Network → ℕ → ℕ → List ℕ → ℕ → List ℕ → Type 0
+RouterPath n d limit order u p = RowPath d (row n (distances n d) limit order) u p
+
+abbrev pub EveryPath : Network → ℕ → ℕ → List ℕ → ℕ → Type 0
+EveryPath n d limit order u =
+    RowPaths n d (row n (distances n d) limit order) (rank order) (1 ≤ limit) u (everyPath n d limit order u) (greatestHop n d limit order u)
 
 abbrev pub EveryPathExact : Type 0
 EveryPathExact = OfTables (λ n d limit order. (u : ℕ) → EveryPath n d limit order u)
