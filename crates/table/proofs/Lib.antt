@@ -4,5 +4,6 @@ pub mod Ordered
 pub mod Accepting
 pub mod Verdicts
 pub mod Lists
+pub mod Falls
 pub mod Fills
 pub mod Calling

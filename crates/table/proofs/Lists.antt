@@ -13,16 +13,17 @@ use lib.ListN.{length, getD, take, drop, length-map, length-drop, List·getD-eq-
 use lib.Seq.{length-take-le, getD-take, getD-drop, ext-getD, take-nil}
 use Rattle.network.specs.Lists.{Pairwise, nothing, then, keep, sort}
 use Rattle.network.specs.Network.{Arc, Network, size, arcsOf, WellFormed}
-use Rattle.network.specs.Distance.{PathTo, along, distances}
-use Rattle.network.specs.Order.{Mode, free}
+use Rattle.network.specs.Distance.{PathTo, distances}
+use Rattle.network.specs.Order.{free}
 use Rattle.network.specs.Theorems.Order.{Accepted}
 use Rattle.network.specs.Row.{rank, rankedBefore, fullRow, row}
 use Rattle.network.specs.Forwarding.{Forwarding}
-use Rattle.network.proofs.Lists.{empty, mem-take}
+use Rattle.network.proofs.Lists.{mem-take}
 use Rattle.network.proofs.Order.{acceptance-exact}
 use Rattle.network.proofs.Pigeon.{member?}
-use Rattle.network.proofs.Rank.{rank-most, rank-in, rank-is-turn}
+use Rattle.network.proofs.Rank.{rank-in, rank-is-turn}
 use Rattle.network.proofs.Row.{full-row-exact}
+use Rattle.network.proofs.Falling.{orders-fall, rows-unreached}
 use Rattle.topology_types.specs.Topology.{networkOf}
 use Rattle.topology_sound.proofs.Sound.{sound-networks}
 use Rattle.topology.specs.Written.{joinedOver}
@@ -135,15 +136,11 @@ held-before order v h = step (member? v order)
     step (yes m) = m
     step (no out) = absurd (omega (arith, rank-is-turn v .1 order out))
 
--- A router with no path has no row: an entry would be ranked, and so have a path, and the router one along it.
-pub no-path-row : (n : Network) → WellFormed n → (d : ℕ) → d < size n → {mode : Mode} {order : List ℕ} → Accepted n d mode order → (limit u : ℕ) →
+-- a router with no path has no row
+pub no-path-row : (n : Network) → WellFormed n → (d : ℕ) → d < size n → {order : List ℕ} → Accepted n d free order → (limit u : ℕ) →
     (PathTo n d u → ⊥) → row n (distances n d) limit order u ≡ []
-unfolding row
-no-path-row n wf d inside {order = order} a limit u out =
-    empty _
-    (λ b m.
-    let (arc, lower) = full-row-exact n wf d inside order u .holds b .0 (mem-take limit (fullRow n (distances n d) order u) m) in
-    out (along b arc (a .only (b .to) (held-before order (b .to) (omega (arith, lower, rank-most order u))))))
+no-path-row n wf d inside {order} a limit u =
+    rows-unreached n wf d inside _ _ (orders-fall n wf d inside limit order (acceptance-exact n wf d inside free order .1 a)) u
 
 pub rows-by-path : RowsByPath
 rows-by-path t good table d limit order g u h =

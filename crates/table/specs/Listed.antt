@@ -1,7 +1,7 @@
 -- What a table lists, read from its bytes (01, Rows and tables): destination, and by place the rank and the entries, each with its arc.
 -- Assumes nothing.
-use Prim.Native.Nat.{ℕ, _+_}
-use mathlib.Core.Bool.{Bool}
+use Prim.Native.Nat.{ℕ, pred, min, _+_}
+use mathlib.Core.Bool.{Bool, cond}
 use mathlib.Core.List.{List, map}
 use lib.Dec.{eqb, ltb}
 use lib.ListN.{getD, take, drop}
@@ -33,6 +33,11 @@ rankIn table u = getD table (rowStart u + 1) 0
 
 unfoldable pub placesIn : List ℕ → ℕ → List ℕ
 placesIn table u = take (getD table (rowStart u + 2) 0) (drop (rowStart u + 3) table)
+
+-- 02, #107: the rank of u by which ranks fall along the rows, for every u. 255, no rank, counts as N - 1, which no router with a path has as its rank
+-- where another has none; past the places it is N.
+unfoldable pub fallingRank : ℕ → List ℕ → ℕ → ℕ
+fallingRank count table u = cond (ltb u count) (min (rankIn table u) (pred count)) count
 
 -- 01, Stations, links and limits: the arc of u that leads to the neighbour at v; none if v is no neighbour
 unfoldable pub arcsTo : Network → ℕ → ℕ → List Arc

@@ -12,7 +12,7 @@ use Rattle.network.specs.Order.{shortest-path, free}
 use Rattle.network.specs.Row.{rank, row}
 use Rattle.network.specs.Routing.{routers}
 use Rattle.network.specs.Theorems.Order.{Accepted}
-use Rattle.network.specs.Theorems.Routing.{OfTables}
+use Rattle.network.specs.Theorems.Routing.{FallingRows, SomeEntry, ShortestEntry, OfTables}
 use Rattle.topology_types.specs.declared.Topology.{Topology}
 use Rattle.topology_types.specs.Outcome.{answer, turnedAway}
 use Rattle.topology_types.specs.Topology.{networkOf}
@@ -21,7 +21,7 @@ use Rattle.order_standings.specs.declared.Mode.the-variants as mode
 use Rattle.order.specs.Calls.{checking}
 use Rattle.order.specs.Theorems.{upToN}
 use Rattle.table_rows.specs.Bytes.{tableBytes}
-use Rattle.table.specs.Listed.{listed, forwardingBy, byRank, orderIn, inShortestPathMode}
+use Rattle.table.specs.Listed.{destinationIn, fallingRank, entriesIn, listed, forwardingBy, byRank, orderIn, inShortestPathMode}
 use Rattle.table.specs.Calls.{filling, tableChecking}
 
 -- 02, #107: the rank byte of the place u: its rank in the order, which holds the reached routers, and 255 where the order does not hold it
@@ -199,3 +199,15 @@ TablesCarry =
     (claim : Network → ℕ → ℕ → List ℕ → Type 0) → OfTables claim →
     (t : Topology) → T (sound t) → (table : List ℕ) → tableChecking t table ≡ answer 0 0 →
     claim (networkOf t) (getD table 1 0) (getD table 3 0) (orderIn (t .routers) table)
+
+-- What an accepted table lists are rows along whose entries ranks fall, so that every theorem of `network` on such rows holds of it, whatever its kind.
+-- Every router with a path but the destination has an entry, in shortest-path mode a shortest next hop first. The rank of a router with a path is its
+-- row's.
+pub record TableFalls (t : Topology) (table : List ℕ) : Type 0 where
+  pub falling : FallingRows (networkOf t) (destinationIn table) (entriesIn (networkOf t) table) (fallingRank (t .routers) table)
+  pub some-entry : SomeEntry (networkOf t) (destinationIn table) (entriesIn (networkOf t) table)
+  pub shortest : T (inShortestPathMode (networkOf t) table) → ShortestEntry (networkOf t) (destinationIn table) (entriesIn (networkOf t) table)
+  pub rank-is : (u : ℕ) → PathTo (networkOf t) (destinationIn table) u → fallingRank (t .routers) table u ≡ getD table (4 + 19 * u + 1) 0
+
+abbrev pub AcceptedFall : Type 0
+AcceptedFall = (t : Topology) → T (sound t) → (table : List ℕ) → tableChecking t table ≡ answer 0 0 → TableFalls t table
