@@ -13,11 +13,11 @@ use lib.Dec.{T}
 use lib.ListN.{length, drop, replicate, length-append, length-replicate}
 use lib.Seq.{drop-drop}
 use Rattle.network.specs.Lists.{greatestBy, Pairwise, nothing, then}
-use Rattle.network.specs.Forwarding.{Forwarding, Packet, Hop, moved, Walk, delivered-at, packetOf, hop, walkOn}
-use Rattle.network.specs.Forwarding.{walkEnd, walk, start, routeOn, route, longest}
-use Rattle.network.specs.Theorems.Forwarding.{Lawful, Ended, at-home, nothing-live, Exact, WalksExact, WalksFinish, NeverLoops}
+use Rattle.network.specs.Forwarding.{Forwarding, Packet, Hop, moved, Walk, packetOf, hop, walkOn, walk, start, routeOn, route, longest}
+use Rattle.network.specs.Theorems.Forwarding.{Lawful, Ended, at-home, nothing-live, no-entry, Exact, WalksExact, WalksFinish, NeverLoops}
+use Rattle.network.proofs.Tests.{truth}
 use Rattle.network.proofs.Lists.{empty}
-use Rattle.network.proofs.Hops.{Hopped, stays-home, stuck, went, hopped}
+use Rattle.network.proofs.Hops.{Hopped, stays-home, stuck, went, hopped, stays, walks-by-hops}
 use Rattle.network.proofs.Greatest.{at-most-greatest, greatest-attained, greatest-same}
 
 -- Under the rows of states xs, all of them valid, each hop from s goes down one entry.
@@ -81,12 +81,8 @@ module _ (f : Forwarding) (rank : f .State → ℕ) (valid : f .States → Type 
       go (went o y d) = cc
 
   within : (left : ℕ) (xs : List (f .States)) (p : Packet (f .State)) → rank (p .station) ≤ left → Within f left p (walk f xs p)
-  unfolding walk walkOn walkEnd packetOf
-  within left [] p r = go (f .home (p .station))
-    where
-      go : (b : Bool) → Within f left p (walkEnd p b)
-      go true = omega arith
-      go false = omega arith
+  unfolding walk walkOn packetOf
+  within left [] p r = rw (stays p (f .home (p .station)) (f .row (p .station))) (omega arith)
   within left (x ∷ xs) p r = go (hopped f x p) (λ q. within left xs q)
     where
       go : {o : Hop (f .State)} → Hopped f x p o →
@@ -105,29 +101,27 @@ module _ (f : Forwarding) (rank : f .State → ℕ) (valid : f .States → Type 
   over-way {s} stop ys h = omega (arith, within (rank s) ys (record { station = s; hops = h }) (omega arith))
   over-way {s} (down e v c w) ys h = rw (hop-down _ (record { station = s; hops = h }) e c) (omega (arith, over-way w ys (suc h)))
 
-  module _ (only-home : (s : f .State) → rank s ≡ 0 → T (f .home s)) where
-    -- A walk over zs from s that has come to the packet p, with xs left of zs, ends if xs has at least as many rows as the rank.
-    ending : (zs : List (f .States)) (s : f .State) (xs : List (f .States)) (p : Packet (f .State)) →
-        walk f zs (start s) ≡ walk f xs p → drop (p .hops) zs ≡ xs → rank (p .station) ≤ length xs → Ended f zs s
-    unfolding walk walkOn walkEnd
-    ending zs s [] p same left r = at-home p (same ∙ go (f .home (p .station)) home) home
-      where
-        home : T (f .home (p .station))
-        home = only-home (p .station) (omega arith)
-
-        go : (b : Bool) → T b → walkEnd p b ≡ delivered-at p
-        go true h = refl
-        go false h = absurd h
-    ending zs s (x ∷ xs) p same left r = go (hopped f x p) same (λ q. ending zs s xs q)
-      where
-        go : {o : Hop (f .State)} → Hopped f x p o → walk f zs (start s) ≡ walkOn p o (walk f xs) →
-            ((q : Packet (f .State)) → walk f zs (start s) ≡ walk f xs q → drop (q .hops) zs ≡ xs → rank (q .station) ≤ length xs → Ended f zs s) →
-            Ended f zs s
-        go (stays-home h) e rest = at-home p e h
-        go (stuck h d) e rest = nothing-live p e h x xs left d
-        go (went o y c) e rest =
-            rest _ e (subst (λ (n : ℕ). drop n zs ≡ xs) (add-one (p .hops)) (sym (drop-drop 1 (p .hops) zs) ∙ ap (drop 1) left))
-            (omega (arith, law .falls _ y (law .chosen _ _ y c)))
+  -- A walk over zs from s that has come to the packet p, with xs left of zs, ends if xs has at least as many rows as the rank.
+  ending : (zs : List (f .States)) (s : f .State) (xs : List (f .States)) (p : Packet (f .State)) →
+      walk f zs (start s) ≡ walk f xs p → drop (p .hops) zs ≡ xs → rank (p .station) ≤ length xs → Ended f rank zs s
+  unfolding walk walkOn
+  ending zs s [] p same left r =
+      ⊎-elim (λ home. at-home p (same ∙ walks-by-hops f (law .some-valid .0) [] p .arrives home) home)
+      (λ off. no-entry p (same ∙ walks-by-hops f (law .some-valid .0) [] p .drops-out off none-there) off left none-there (omega arith))
+      (truth (f .home (p .station)))
+    where
+      none-there : f .row (p .station) ≡ []
+      none-there = empty (f .row (p .station)) (λ e m. omega (arith, law .falls (p .station) e m))
+  ending zs s (x ∷ xs) p same left r = go (hopped f x p) same (λ q. ending zs s xs q)
+    where
+      go : {o : Hop (f .State)} → Hopped f x p o → walk f zs (start s) ≡ walkOn p o (walk f xs) →
+          ((q : Packet (f .State)) → walk f zs (start s) ≡ walk f xs q → drop (q .hops) zs ≡ xs → rank (q .station) ≤ length xs → Ended f rank zs s) →
+          Ended f rank zs s
+      go (stays-home h) e rest = at-home p e h
+      go (stuck h d) e rest = nothing-live p e h x xs left d
+      go (went o y c) e rest =
+          rest _ e (subst (λ (n : ℕ). drop n zs ≡ xs) (add-one (p .hops)) (sym (drop-drop 1 (p .hops) zs) ∙ ap (drop 1) left))
+          (omega (arith, law .falls _ y (law .chosen _ _ y c)))
 
   exact : (left : ℕ) (s : f .State) → rank s ≤ left → Exact f rank valid s (longest f left s)
   unfolding start
@@ -153,7 +147,7 @@ walks-exact = exact
 
 pub walks-finish : WalksFinish
 unfolding start
-walks-finish f rank valid law only-home xs s = ending f rank valid law only-home xs s xs (start s) refl refl
+walks-finish f rank valid law xs s = ending f rank valid law xs s xs (start s) refl refl
 
 -- ranks fall down an entry, and on from there
 pub never-loops : NeverLoops

@@ -2,15 +2,15 @@
 -- Assumes nothing.
 use Prim.Native.Nat.{ℕ, suc, _+_}
 use mathlib.Core.Bool.{Bool, true, false}
-use mathlib.Core.List.{[], _∷_}
-use mathlib.Core.Logic.{_↔_, ⊎-elim}
+use mathlib.Core.List.{List, [], _∷_}
+use mathlib.Core.Logic.{_↔_, _≢_, ⊎-elim}
 use mathlib.Core.Option.{Option, none, some}
 use mathlib.Core.Path.{_≡_, refl, sym, _∙_, ap}
 use native.Mathlib.Nat.{add-zero}
 use native.Mathlib.Omega.{arith}
 use lib.Dec.{T}
 use lib.ListN.{length}
-use Rattle.network.specs.Forwarding.{Forwarding, Packet, Hop, delivered, moved, dropped, packetOf, hopTo, hop, walkOn}
+use Rattle.network.specs.Forwarding.{Forwarding, Packet, Hop, delivered, moved, dropped, unfinished-at, packetOf, hopTo, hop, walkOn}
 use Rattle.network.specs.Forwarding.{walkEnd, walk, routeOn, route, endOf}
 use Rattle.network.specs.Theorems.Forwarding.{HopChosen, HopsChosen, WalksByHops, RoutesByHops, RoutesWalked}
 use Rattle.network.proofs.Tests.{as-true, as-false}
@@ -57,6 +57,13 @@ hops-chosen f x p = go (hopped f x p)
     go : Hopped f x p (hop f x p) → HopChosen f x p
     go h = let (a, b, c) = says h in record { delivers = a; drops = b; moves = c }
 
+-- where no row of states is left the packet stays as it is
+pub stays : {S E : Type 0} (p : Packet S) (b : Bool) (es : List E) → packetOf (walkEnd p b es) ≡ p
+unfolding walkEnd packetOf
+stays p true es = refl
+stays p false [] = refl
+stays p false (e ∷ es) = refl
+
 pub walks-by-hops : WalksByHops
 unfolding walk walkOn walkEnd
 walks-by-hops f x xs p =
@@ -64,9 +71,14 @@ walks-by-hops f x xs p =
       delivers = ap (λ (o : Hop (f .State)). walkOn p o (walk f xs));
       drops = ap (λ (o : Hop (f .State)). walkOn p o (walk f xs));
       goes-on = λ q. ap (λ (o : Hop (f .State)). walkOn p o (walk f xs));
-      arrives = λ t. ap (walkEnd p) (as-true (f .home (p .station)) t);
-      runs-out = λ o. ap (walkEnd p) (as-false (f .home (p .station)) o);
+      arrives = λ t. rw (as-true (f .home (p .station)) t);
+      drops-out = λ o none-there. rw (as-false (f .home (p .station)) o, none-there);
+      runs-out = λ o some-there. rw (as-false (f .home (p .station)) o) (unfinished (f .row (p .station)) some-there);
     }
+  where
+    unfinished : (es : List (f .Entry)) → es ≢ [] → walkEnd p false es ≡ unfinished-at p
+    unfinished [] some-there = absurd (some-there refl)
+    unfinished (e ∷ es) some-there = refl
 
 pub routes-by-hops : RoutesByHops
 unfolding route routeOn
@@ -90,11 +102,7 @@ routes-by-hops f x xs p =
 
 pub routes-walked : RoutesWalked
 unfolding walk walkEnd walkOn hop hopTo packetOf route routeOn endOf
-routes-walked f [] p = go (f .home (p .station))
-  where
-    go : (b : Bool) → packetOf (walkEnd p b) ≡ record { station = p .station; hops = p .hops + 0 }
-    go true = rw add-zero
-    go false = rw add-zero
+routes-walked f [] p = rw (stays p (f .home (p .station)) (f .row (p .station)), add-zero)
 routes-walked f (x ∷ xs) p = go (f .home (p .station)) (f .choose x (p .station)) (routes-walked f xs)
   where
     go : (b : Bool) (c : Option (f .Entry)) →

@@ -27,11 +27,12 @@ home-walk f (x ∷ xs) p h = (rw (as-true (f .home (p .station)) h), rw (as-true
 module _ (f : Forwarding) (rank : f .State → ℕ) (valid : f .States → Type 0) (law : Lawful f rank valid) where
   walked : (xs : List (f .States)) (p q : Packet (f .State)) → walk f xs p ≡ delivered-at q → Down f (p .station) (visited f xs (p .station))
   unfolding walk walkEnd walkOn hop hopTo route routeOn
-  walked [] p q w = ended (go (f .home (p .station)) w)
+  walked [] p q w = ended (go (f .home (p .station)) (f .row (p .station)) w)
     where
-      go : (b : Bool) → walkEnd p b ≡ delivered-at q → T b
-      go true e = tt
-      go false e = clash (cc)
+      go : (b : Bool) (es : List (f .Entry)) → walkEnd p b es ≡ delivered-at q → T b
+      go true es e = tt
+      go false [] e = clash (cc)
+      go false (y ∷ es) e = clash (cc)
   walked (x ∷ xs) p q w = go (f .home (p .station)) refl (f .choose x (p .station)) refl w (λ r. walked xs r q)
     where
       go : (b : Bool) → f .home (p .station) ≡ b → (c : Option (f .Entry)) → f .choose x (p .station) ≡ c →

@@ -13,7 +13,7 @@ use Rattle.network.specs.Distance.{distances}
 use Rattle.network.specs.Row.{row}
 use Rattle.network.specs.Forwarding.{Forwarding}
 use Rattle.network.specs.Routing.{validStates, routersBy, greatestHopBy, greatestHops, callTestsBy}
-use Rattle.network.specs.Theorems.Forwarding.{Lawful, Ended, at-home, nothing-live}
+use Rattle.network.specs.Theorems.Forwarding.{Lawful, Ended, at-home, nothing-live, no-entry}
 use Rattle.network.specs.Theorems.Calls.{CallsBounded}
 use Rattle.network.specs.Theorems.Routing.{FallingRows, RowsLawful, RowsExact, RowWalkEnd, delivers, drops, RowsEnd, RowHopsByRule, RowsCalls, RowsNeverLoop}
 use Rattle.network.specs.Theorems.Routing.{OfTables, RoutersLawful, RoutersExact, WalksEnd, HopsByRule, RoutersCalls, RoutersNeverLoop, FiguresByPlace, TestsRight}
@@ -63,10 +63,11 @@ module _ (n : Network) (wf : WellFormed n) (d : ℕ) (in-network : d < size n) (
       }
 
   walk-end : (xs : List (List ℕ)) (u : ℕ) → ranks u ≤ length xs → RowWalkEnd d rows xs u
-  walk-end xs u h = step (walks-finish f ranks _ lawful (λ v e. eq-test (fall .only-home v e)) xs u h)
+  walk-end xs u h = step (walks-finish f ranks _ lawful xs u h)
     where
-      step : Ended f xs u → RowWalkEnd d rows xs u
+      step : Ended f ranks xs u → RowWalkEnd d rows xs u
       step (at-home p e home) = delivers p e (eqb→eq _ _ home)
+      step (no-entry p e off left none-there zero) = absurd (off (eq-test (fall .only-home (p .station) zero)))
       step (nothing-live p e off states rest row-of-states c) =
           drops p e (λ same. off (eq-test same)) states rest row-of-states (none-live states _ c)
 

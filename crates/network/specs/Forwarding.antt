@@ -28,7 +28,8 @@ pub data Hop (S : Type 0) : Type 0 where
   moved : Packet S → Hop S
   dropped : Hop S
 
--- 01, Packet, hop and schedule: a walk answers delivered or dropped, the station and the hops made. Too short a list of rows leaves it unfinished.
+-- 01, Packet, hop and schedule: a walk answers delivered or dropped, the station and the hops made. Too short a list of rows of states leaves it
+-- unfinished.
 pub data Walk (S : Type 0) : Type 0 where
   delivered-at : Packet S → Walk S
   dropped-at : Packet S → Walk S
@@ -50,10 +51,12 @@ walkOn p delivered rest = delivered-at p
 walkOn p dropped rest = dropped-at p
 walkOn p (moved q) rest = rest q
 
--- 01, Packet, hop and schedule: where no row of states is left the packet is at d, or the walk is not finished
-unfoldable pub walkEnd : {S : Type 0} → Packet S → Bool → Walk S
-walkEnd p true = delivered-at p
-walkEnd p false = unfinished-at p
+-- 01, Packet, hop and schedule: where no row of states is left the packet is at d, or it is dropped, since the row of its station is empty and no states
+-- could leave anything to choose; else the walk is not finished
+unfoldable pub walkEnd : {S E : Type 0} → Packet S → Bool → List E → Walk S
+walkEnd p true entries = delivered-at p
+walkEnd p false [] = dropped-at p
+walkEnd p false (e ∷ es) = unfinished-at p
 
 module _ (f : Forwarding) where
   -- 01, Packet, hop and schedule: by whether the packet is at d, and the entry chosen if not; only moved changes the packet, to that entry and one
@@ -69,7 +72,7 @@ module _ (f : Forwarding) where
 
   -- 01, Packet, hop and schedule: a walk makes hops, each with the schedule's row for it
   unfoldable pub walk : List (f .States) → Packet (f .State) → Walk (f .State)
-  walk [] p = walkEnd p (f .home (p .station))
+  walk [] p = walkEnd p (f .home (p .station)) (f .row (p .station))
   walk (x ∷ xs) p = walkOn p (hop x p) (walk xs)
 
   -- 01, Packet, hop and schedule: by whether the packet is at d, and the entry chosen if not, what the walk goes to from there

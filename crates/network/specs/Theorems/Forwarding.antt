@@ -2,7 +2,7 @@
 -- Assumes nothing.
 use Prim.Native.Nat.{ℕ, suc, _+_, _≤_, _<_}
 use mathlib.Core.List.{List, [], _∷_, List·Memᴰ, map}
-use mathlib.Core.Logic.{_↔_, _⊎_}
+use mathlib.Core.Logic.{_↔_, _≢_, _⊎_}
 use mathlib.Core.Option.{none, some}
 use mathlib.Core.Path.{_≡_}
 use lib.Dec.{T}
@@ -45,25 +45,31 @@ WalksExact =
     (f : Forwarding) (rank : f .State → ℕ) (valid : f .States → Type 0) → Lawful f rank valid → (left : ℕ) (s : f .State) → rank s ≤ left →
     Exact f rank valid s (longest f left s)
 
--- how a walk ended: at home, or off home where the row of states for that hop left nothing to choose
-pub data Ended (f : Forwarding) (xs : List (f .States)) (s : f .State) : Type 0 where
-  at-home : (p : Packet (f .State)) → walk f xs (start s) ≡ delivered-at p → T (f .home (p .station)) → Ended f xs s
+-- how a walk ended: at home; off home where the row of states for that hop left nothing to choose; or off home at a station of rank 0, which has an
+-- empty row, where no row of states was left
+pub data Ended (f : Forwarding) (rank : f .State → ℕ) (xs : List (f .States)) (s : f .State) : Type 0 where
+  at-home : (p : Packet (f .State)) → walk f xs (start s) ≡ delivered-at p → T (f .home (p .station)) → Ended f rank xs s
   nothing-live : (p : Packet (f .State)) → walk f xs (start s) ≡ dropped-at p → (T (f .home (p .station)) → ⊥) →
-      (x : f .States) (rest : List (f .States)) → drop (p .hops) xs ≡ x ∷ rest → f .choose x (p .station) ≡ none → Ended f xs s
+      (x : f .States) (rest : List (f .States)) → drop (p .hops) xs ≡ x ∷ rest → f .choose x (p .station) ≡ none → Ended f rank xs s
+  no-entry : (p : Packet (f .State)) → walk f xs (start s) ≡ dropped-at p → (T (f .home (p .station)) → ⊥) →
+      drop (p .hops) xs ≡ [] → f .row (p .station) ≡ [] → rank (p .station) ≡ 0 → Ended f rank xs s
 
--- Where only home has rank 0, a walk with at least rank many rows ends delivered or dropped, and never merely runs out of rows.
+-- A walk with at least rank many rows ends delivered or dropped, and never merely runs out of rows. Where only home has rank 0 the last way to end does
+-- not occur.
 abbrev pub WalksFinish : Type 1
 WalksFinish =
-    (f : Forwarding) (rank : f .State → ℕ) (valid : f .States → Type 0) → Lawful f rank valid → ((s : f .State) → rank s ≡ 0 → T (f .home s)) →
-    (xs : List (f .States)) (s : f .State) → rank s ≤ length xs → Ended f xs s
+    (f : Forwarding) (rank : f .State → ℕ) (valid : f .States → Type 0) → Lawful f rank valid →
+    (xs : List (f .States)) (s : f .State) → rank s ≤ length xs → Ended f rank xs s
 
--- A walk goes hop by hop, each by the rule for a single hop under the schedule's row for it.
+-- A walk goes hop by hop, each by the rule for a single hop under the schedule's row for it. With no row of states left it is delivered at home, dropped
+-- at an empty row, and else unfinished.
 pub record WalkRule (f : Forwarding) (x : f .States) (xs : List (f .States)) (p : Packet (f .State)) : Type 0 where
   pub delivers : hop f x p ≡ delivered → walk f (x ∷ xs) p ≡ delivered-at p
   pub drops : hop f x p ≡ dropped → walk f (x ∷ xs) p ≡ dropped-at p
   pub goes-on : (q : Packet (f .State)) → hop f x p ≡ moved q → walk f (x ∷ xs) p ≡ walk f xs q
   pub arrives : T (f .home (p .station)) → walk f [] p ≡ delivered-at p
-  pub runs-out : (T (f .home (p .station)) → ⊥) → walk f [] p ≡ unfinished-at p
+  pub drops-out : (T (f .home (p .station)) → ⊥) → f .row (p .station) ≡ [] → walk f [] p ≡ dropped-at p
+  pub runs-out : (T (f .home (p .station)) → ⊥) → f .row (p .station) ≢ [] → walk f [] p ≡ unfinished-at p
 
 abbrev pub WalksByHops : Type 1
 WalksByHops = (f : Forwarding) (x : f .States) (xs : List (f .States)) (p : Packet (f .State)) → WalkRule f x xs p
