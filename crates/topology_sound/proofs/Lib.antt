@@ -6,3 +6,4 @@ pub mod Pairs
 pub mod Crowds
 pub mod InTurn
 pub mod Sound
+pub mod Place

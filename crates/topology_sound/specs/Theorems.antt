@@ -13,6 +13,7 @@ use Rattle.topology_types.specs.declared.Link.{Link}
 use Rattle.topology_types.specs.declared.Topology.{Topology}
 use Rattle.topology_types.specs.Topology.{networkOf}
 use Rattle.topology_sound.specs.Sound.{sound}
+use Rattle.topology_sound.specs.Place.{onPlace}
 
 -- a link with its places as numbers
 abbrev pub asLink : Link → network.Link
@@ -50,3 +51,12 @@ pub record SoundNetwork (t : Topology) : Type 0 where
 
 abbrev pub SoundNetworks : Type 0
 SoundNetworks = (t : Topology) → T (sound t) → SoundNetwork t
+
+-- 01, Refusals, 14 and 15: what a call that is given a place answers first, whatever it makes of a number and an at
+pub record PlaceTested {A : Type 0} (refuse : ℕ → ℕ → A) (t : Topology) (u : ℕ) (next : A) : Type 0 where
+  pub not-sound : (T (sound t) → ⊥) → onPlace refuse t u next ≡ refuse 14 0
+  pub no-place : T (sound t) → t .routers ≤ u → onPlace refuse t u next ≡ refuse 15 u
+  pub passes : T (sound t) → u < t .routers → onPlace refuse t u next ≡ next
+
+abbrev pub PlacesTested : Type 1
+PlacesTested = (A : Type 0) (refuse : ℕ → ℕ → A) (t : Topology) (u : ℕ) (next : A) → PlaceTested refuse t u next
