@@ -8,7 +8,7 @@ use mathlib.Core.Logic.{_↔_}
 use mathlib.Core.Path.{_≡_, refl, sym, ap, _∙_, subst}
 use native.Mathlib.Decide.{decLt, ℕ-discrete}
 use native.Mathlib.Omega.{arith}
-use borrow.Author.Tests.{lt-ltb, ne-eqb}
+use borrow.Author.Tests.{ne-eqb}
 use lib.Dec.{T, eqb}
 use lib.ListN.{length, getD, take}
 use lib.Seq.{length-take-le, take-all}
@@ -18,7 +18,6 @@ use Rattle.network.specs.Distance.{PathTo, arrived, along}
 use Rattle.network.specs.Order as network
 use Rattle.network.specs.Order.{free}
 use Rattle.network.specs.Theorems.Order.{Accepted, ByRule}
-use Rattle.network.proofs.Tests.{as-true}
 use Rattle.network.proofs.Below.{below-lt}
 use Rattle.network.proofs.Distance.{starts-in}
 use Rattle.network.proofs.Build.{built-by-rule}
@@ -31,6 +30,7 @@ use Rattle.topology_types.proofs.Given.{given-exact}
 use Rattle.topology_sound.specs.Sound.{sound}
 use Rattle.topology_sound.specs.Theorems.{asLink}
 use Rattle.topology_sound.proofs.Sound.{sound-exact, sound-networks}
+use Rattle.topology_sound.proofs.Place.{on-place-next}
 use Rattle.order_standings.specs.declared.Mode.{Mode}
 use Rattle.order_standings.specs.declared.Mode.the-variants as mode
 use Rattle.order.specs.Calls.{modeOf, reachedCount, orderBytes, wrongRanks, ranksAfter, unreadyRanks, refusedAtFirst, building, judging, checking}
@@ -108,7 +108,7 @@ module _ (t : Topology) (good : T (sound t)) (one : InOnePiece t) where
     -- all ranks are reached, so 17 to 20 go over the whole order, and after it there is no rank
     checked : (m : Mode) (bytes : List ℕ) → checking t d m bytes ≡ judgedWhole t d m bytes
     unfolding judgedWhole
-    checked m bytes = sym (judged t d m bytes (as-true (sound t) good) place) ∙ cases (ℕ-discrete (length bytes) (t .routers))
+    checked m bytes = sym (judged t d m bytes good place) ∙ cases (ℕ-discrete (length bytes) (t .routers))
       where
         cases : Dec (length bytes ≡ t .routers) → judging t d m bytes
             ≡ cond (not (eqb (length bytes) (t .routers))) (answer 17 (length bytes))
@@ -126,7 +126,7 @@ module _ (t : Topology) (good : T (sound t)) (one : InOnePiece t) where
       built : (buffer : List ℕ) → building t d m buffer ≡ given (network.build (networkOf t) d meant) buffer
       unfolding building orderBytes padded
       built buffer =
-          rw (as-true (sound t) good, lt-ltb d (t .routers) place, same)
+          rw (on-place-next, same)
           (ap (λ (bytes : List ℕ). given bytes buffer) order-is)
 
       by-rule : (buffer : List ℕ) → t .routers ≤ length buffer → ByRule (networkOf t) d meant (take (t .routers) (building t d m buffer .buffer))

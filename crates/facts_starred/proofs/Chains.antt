@@ -13,6 +13,7 @@ use Rattle.network.specs.Routing.{up, firstLive}
 use Rattle.topology_types.specs.Outcome.{firstOr, turnedAway, given}
 use Rattle.topology_types.specs.Topology.{noLink, padded, contents, held, zeros, seen, networkIn, networkOf}
 use Rattle.topology_sound.specs.Sound.{within, inLimits, wellLinked, uncrowded, isNoLink, unusedZero, slotted, sound}
+use Rattle.topology_sound.specs.Place.{onPlace}
 use Rattle.stream_rules.specs.Stream.{bigEndianOn, bigEndian, bodyLength, halfIn, decoded, recordIn, records}
 use Rattle.stream_rules.specs.Halves.{firstHalf, secondHalf, linkHalves, halves, sameHalf, leaves, opposite, linkOf}
 use Rattle.stream_rules.specs.Reading.{refusal, acceptedReading, routerFault, repeated, crowded, halvesFault, fault, withRouter, withLink, withLimit, arrived, added}
@@ -43,7 +44,7 @@ unfolding numbersFrom below keep every any leastBy greatestBy ahead foremost ins
     rank sortsBefore rankedBefore fullRow row
     hopTo hop walkOn walkEnd walk start longest up firstLive
     firstOr turnedAway given noLink padded contents held zeros seen networkIn networkOf
-    within inLimits wellLinked uncrowded isNoLink unusedZero slotted sound
+    within inLimits wellLinked uncrowded isNoLink unusedZero slotted sound onPlace
     bigEndianOn bigEndian bodyLength halfIn decoded recordIn records
     linkHalves firstHalf secondHalf halves sameHalf leaves opposite linkOf
     refusal acceptedReading routerFault repeated crowded halvesFault fault withRouter withLink withLimit arrived added

@@ -2,12 +2,13 @@
 -- was found.
 -- Assumes nothing.
 use Prim.Native.Nat.{ℕ, _≤_, _<_}
-use mathlib.Core.Bool.{true}
 use mathlib.Core.List.{List, [], _∷_, List·Memᴰ}
 use mathlib.Core.Path.{_≡_, ap, _∙_}
 use native.Mathlib.Omega.{arith}
+use lib.Dec.{T}
 use lib.ListN.{length}
 use Rattle.network.specs.Lists.{below}
+use Rattle.network.proofs.Tests.{as-true}
 use Rattle.topology_types.specs.Outcome.{firstOr, answer}
 use Rattle.topology_types.specs.declared.Topology.{Topology}
 use Rattle.topology_sound.specs.Sound.{sound}
@@ -17,9 +18,9 @@ use Rattle.table.proofs.Verdicts.{tables-each}
 use Rattle.forwarding_rules.specs.Schedule.{wrongStates}
 use Rattle.forwarding_rules.specs.Calls.{Said, refused, testedOver}
 
-pub judged-checked : (t : Topology) (table : List ℕ) → sound t ≡ true → tableJudging t table ≡ tableChecking t table
+pub judged-checked : (t : Topology) (table : List ℕ) → T (sound t) → tableJudging t table ≡ tableChecking t table
 unfolding tableChecking
-judged-checked t table good = rw good
+judged-checked t table good = rw (as-true (sound t) good)
 
 -- number 0 is the answer that accepts
 pub passed-table : (t : Topology) (table : List ℕ) → tableChecking t table .number ≡ 0 → tableChecking t table ≡ answer 0 0

@@ -41,12 +41,9 @@ pub fn greatest_hops(t: Topology, table: &[u8], out: &mut [u8]) -> Answer
 pub fn set(t: Topology, start: Place) -> Setting
     ensures { λ r. ⌜ settingSays r ≡ settingAt t (start .0) ⌝ }
 {
-    if !topology_sound::is_sound(t) {
-        return Setting::Refused(Answer { number: 14, at: 0 });
-    }
-    let u = start.index();
-    if t.routers <= u {
-        return Setting::Refused(Answer { number: 15, at: u });
+    let refused = topology_sound::refused_at(t, start);
+    if refused.number != 0 {
+        return Setting::Refused(refused);
     }
     Setting::Set(Packet {
         station: start,
@@ -58,19 +55,13 @@ pub fn set(t: Topology, start: Place) -> Setting
 pub fn hop(t: Topology, table: &[u8], states: &[u8], packet: Packet) -> Hopped
     ensures { λ r. ⌜ hopSays r ≡ hopping t (now (table .entry)) (now (states .entry)) (packetIn packet) ⌝ }
 {
-    if !topology_sound::is_sound(t) {
-        return Hopped::Refused(Answer { number: 14, at: 0 });
-    }
-    let n = t.routers;
-    let station = packet.station.0 as usize;
-    if n <= station {
-        return Hopped::Refused(Answer {
-            number: 15,
-            at: station,
-        });
+    let station = packet.station;
+    let refused = topology_sound::refused_at(t, station);
+    if refused.number != 0 {
+        return Hopped::Refused(refused);
     }
     let hops = packet.hops as usize;
-    if n <= hops {
+    if t.routers <= hops {
         return Hopped::Refused(Answer {
             number: 15,
             at: hops,
@@ -102,13 +93,9 @@ pub fn hop(t: Topology, table: &[u8], states: &[u8], packet: Packet) -> Hopped
 pub fn walk(t: Topology, table: &[u8], start: Place, schedule: &[u8]) -> Walked
     ensures { λ r. ⌜ walkSays r ≡ walking t (now (table .entry)) (start .0) (now (schedule .entry)) ⌝ }
 {
-    if !topology_sound::is_sound(t) {
-        return Walked::Refused(Answer { number: 14, at: 0 });
-    }
-    let n = t.routers;
-    let u = start.index();
-    if n <= u {
-        return Walked::Refused(Answer { number: 15, at: u });
+    let refused = topology_sound::refused_at(t, start);
+    if refused.number != 0 {
+        return Walked::Refused(refused);
     }
     let a = arcs::unchecked::of(t);
     let checked = table::unchecked::check(t, a, table);
@@ -116,7 +103,7 @@ pub fn walk(t: Topology, table: &[u8], start: Place, schedule: &[u8]) -> Walked
         return Walked::Refused(checked);
     }
     let length = schedule.len();
-    if !schedule::is_whole(n, t.links, length) {
+    if !schedule::is_whole(t.routers, t.links, length) {
         return Walked::Refused(Answer {
             number: 22,
             at: length,

@@ -14,6 +14,7 @@ use Rattle.network.proofs.Tests.{eq-test}
 use Rattle.topology_types.specs.declared.Topology.{Topology}
 use Rattle.topology_types.specs.Outcome.{answer}
 use Rattle.topology_sound.specs.Sound.{sound}
+use Rattle.topology_sound.specs.Place.{onPlace}
 use Rattle.table.specs.Calls.{tableChecking}
 use Rattle.forwarding_rules.specs.Schedule.{rowsIn, soundLength}
 use Rattle.forwarding_rules.specs.Calls.{Said, done, refused, by, tested, hopping, walking}
@@ -50,7 +51,7 @@ module _ (t : Topology) (table states : List ℕ) (p : Packet ℕ) where
   -- what neither 14 nor 15 is, is said where the topology is sound, the packet stands, and the tests of the table and the states end so
   standing : {r : Said (network.Hop ℕ)} {Y : Type 0} → (refused 14 0 ≡ r → ⊥) → ((at : ℕ) → refused 15 at ≡ r → ⊥) →
       (T (sound t) → (hopEnding ≡ r) ↔ Y) → (hopping t table states p ≡ r) ↔ (PacketStands t p × Y)
-  unfolding hopping
+  unfolding hopping onPlace tested
   standing not-14 not-15 on =
       Iff·trans
       (pass 14 0 packetTested (sound-tested t) (λ out. not-14)
@@ -64,7 +65,7 @@ module _ (t : Topology) (table states : List ℕ) (p : Packet ℕ) where
   hops-done h = standing (λ s. clash (cc)) (λ a s. clash (cc)) (λ good. hop-ends good .ends-done h)
 
   hop-answers : (at : ℕ) → HopAnswers t table states p at
-  unfolding hopping
+  unfolding hopping onPlace tested
   hop-answers at =
       record {
         says-14 =
@@ -110,7 +111,7 @@ module _ (t : Topology) (table : List ℕ) (u : ℕ) (schedule : List ℕ) where
   -- the same of a walk and its start
   starting : {r : Said (network.Walk ℕ)} {Y : Type 0} → (refused 14 0 ≡ r → ⊥) → ((at : ℕ) → refused 15 at ≡ r → ⊥) →
       (T (sound t) → (walkEnding ≡ r) ↔ Y) → (walking t table u schedule ≡ r) ↔ (T (sound t) × ((u < t .routers) × Y))
-  unfolding walking
+  unfolding walking onPlace tested
   starting not-14 not-15 on =
       pass 14 0 startTested (sound-tested t) (λ out. not-14)
       (λ good. pass 15 u walkEnding (decides-below u (t .routers)) (λ out. not-15 _) (λ s. on good))
@@ -121,7 +122,7 @@ module _ (t : Topology) (table : List ℕ) (u : ℕ) (schedule : List ℕ) where
   walks-done w = starting (λ s. clash (cc)) (λ a s. clash (cc)) (λ good. walk-ends good .ends-done w)
 
   walk-answers : (at : ℕ) → WalkAnswers t table u schedule at
-  unfolding walking
+  unfolding walking onPlace tested
   walk-answers at =
       record {
         says-14 =

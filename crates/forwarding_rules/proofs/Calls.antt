@@ -1,29 +1,30 @@
--- What a setting answers, by its two tests in turn, and what one call leaves of the packet, read off what it answers.
+-- What a setting answers, by the law on its two tests, and what one call leaves of the packet, read off what it answers.
 -- Assumes nothing.
 use Prim.Native.Nat.{ℕ, _<_}
 use mathlib.Core.Logic.{_≢_, _⊎_, inl, inr, ⊎-elim}
 use mathlib.Core.Path.{_≡_, refl, ap, _∙_}
 use native.Mathlib.Decide.{decLt}
 use native.Mathlib.Omega.{arith}
-use lib.Dec.{T, ltb, ltb→lt, lt→ltb}
+use lib.Dec.{T}
 use Rattle.network.specs.Forwarding as network
 use Rattle.network.specs.Forwarding.{Packet, start}
-use Rattle.network.proofs.Tests.{truth, as-true, as-false}
+use Rattle.network.proofs.Tests.{truth}
 use Rattle.topology_types.specs.declared.Topology.{Topology}
 use Rattle.topology_sound.specs.Sound.{sound}
-use Rattle.forwarding_rules.specs.Calls.{Said, done, refused, tested, settingAt, hopping}
+use Rattle.topology_sound.proofs.Place.{on-place-unsound, on-place-outside, on-place-next}
+use Rattle.forwarding_rules.specs.Calls.{Said, done, refused, settingAt, hopping}
 use Rattle.forwarding_rules.specs.Lent.{Left, packetAfterSetting, packetAfterHop, settingPacket, hoppingPacket}
 use Rattle.forwarding_rules.specs.Lists.{lastAfter, afterOne, setAfter}
 use Rattle.forwarding_rules.specs.Theorems.{left, SettingsAnswer, SettingsLeave, HopsLeave, CallsByRule}
 use Rattle.forwarding_rules.proofs.Tested.{clash}
 
 pub settings-answer : SettingsAnswer
-unfolding settingAt tested start
+unfolding settingAt start
 settings-answer t u =
     record {
-      sets = λ s h. rw (as-true (sound t) s, as-true (ltb u (t .routers)) (lt→ltb u (t .routers) h));
-      not-sound = λ out. rw (as-false (sound t) out);
-      no-place = λ s h. rw (as-true (sound t) s, as-false (ltb u (t .routers)) (λ l. omega (arith, ltb→lt u (t .routers) l)));
+      sets = on-place-next refused t u _;
+      not-sound = on-place-unsound refused t u _;
+      no-place = on-place-outside refused t u _;
     }
 
 -- a setting that is not refused sets the packet at its start

@@ -12,7 +12,7 @@ use Rattle.topology_types.specs.declared.Answer.{Answer}
 use Rattle.topology_types.specs.declared.Topology.{Topology}
 use Rattle.topology_types.specs.Outcome.{answer, Outcome, given}
 use Rattle.topology_types.specs.Topology.{networkOf}
-use Rattle.topology_sound.specs.Sound.{sound}
+use Rattle.topology_sound.specs.Place.{onPlace}
 use Rattle.table.specs.Listed.{rankIn, listed, forwardingBy}
 use Rattle.table.specs.Calls.{unlessRefused, tableChecking}
 use Rattle.forwarding_rules.specs.declared.Packet.{Packet}
@@ -91,25 +91,23 @@ countingHops t table buffer = unlessRefused (tableChecking t table) buffer (give
 
 -- 14, then 15 for the start; else the packet at the start with 0 hops made
 unfoldable pub settingAt : Topology → ℕ → Said (network.Packet ℕ)
-settingAt t u = tested (sound t) 14 0 (tested (ltb u (t .routers)) 15 u (done (start u)))
+settingAt t u = onPlace refused t u (done (start u))
 
 -- 14; 15 for the packet's station, then its hops made; 21; 22; 23; else the hop
 unfoldable pub hopping : Topology → List ℕ → List ℕ → network.Packet ℕ → Said (network.Hop ℕ)
 hopping t table states p =
-    tested (sound t) 14 0
-    (tested (ltb (p .station) (t .routers)) 15 (p .station)
+    onPlace refused t (p .station)
     (tested (ltb (p .hops) (t .routers)) 15 (p .hops)
     (testedBy (tableChecking t table)
     (tested (eqb (length states) (t .links)) 22 (length states)
     (testedOver (wrongStates states) 23
-    (done (hop (by t table) states p)))))))
+    (done (hop (by t table) states p))))))
 
 -- 14; 15 for the start; 21; 22; 23; else the walk from the start with 0 hops made
 unfoldable pub walking : Topology → List ℕ → ℕ → List ℕ → Said (network.Walk ℕ)
 walking t table u schedule =
-    tested (sound t) 14 0
-    (tested (ltb u (t .routers)) 15 u
+    onPlace refused t u
     (testedBy (tableChecking t table)
     (tested (soundLength (t .routers) (t .links) (length schedule)) 22 (length schedule)
     (testedOver (wrongStates schedule) 23
-    (done (walk (by t table) (rowsIn (t .routers) (t .links) schedule) (start u)))))))
+    (done (walk (by t table) (rowsIn (t .routers) (t .links) schedule) (start u))))))

@@ -9,6 +9,7 @@ use Rattle.network.specs.Forwarding.{longest}
 use Rattle.topology_types.specs.Outcome.{turnedAway, given}
 use Rattle.topology_types.specs.Topology.{noLink, padded, contents, held, zeros, seen, networkIn, networkOf}
 use Rattle.topology_sound.specs.Sound.{within, inLimits, wellLinked, uncrowded, isNoLink, unusedZero, slotted, sound}
+use Rattle.topology_sound.specs.Place.{onPlace}
 use Rattle.topology.specs.Written.{joinedOver}
 use Rattle.order.specs.Facts.{answers, link, T-topology, cutOff, twoParts, pair}
 use Rattle.table_rows.specs.Bytes.{rankOrNone, rowBytes, headerBytes, rowOf, rowsBytes, tableBytes, rowStart}
@@ -28,7 +29,7 @@ unfolding numbersFrom below keep every any leastBy greatestBy ahead foremost ins
     reached shortestNextHops leadsInto ready candidate placedNeighbours preferred select continued placing build
     rank sortsBefore rankedBefore fullRow row longest
     turnedAway given noLink padded contents held zeros seen networkIn networkOf
-    within inLimits wellLinked uncrowded isNoLink unusedZero slotted sound
+    within inLimits wellLinked uncrowded isNoLink unusedZero slotted sound onPlace
     joinedOver answers link T-topology cutOff twoParts pair rankOrNone rowBytes headerBytes rowOf rowsBytes tableBytes rowStart
     destinationIn rankIn placesIn arcsTo entriesIn listed lone F-links F-topology figure figureByte
     none lastDigits numberText spaced rowFields lineText tableFor lineFor linesFor allLines listing

@@ -14,12 +14,12 @@ use Rattle.network.specs.Order.{shortest-path, build}
 use Rattle.network.specs.Row.{rank, row}
 use Rattle.network.proofs.Build.{built-by-rule}
 use Rattle.network.proofs.Rank.{rank-in}
-use Rattle.network.proofs.Tests.{as-true, as-false}
 use Rattle.topology_types.specs.declared.Topology.{Topology}
 use Rattle.topology_types.specs.Outcome.{answer, given, turnedAway}
 use Rattle.topology_types.specs.Topology.{networkOf}
 use Rattle.topology_sound.specs.Sound.{sound}
 use Rattle.topology_sound.proofs.Sound.{sound-networks}
+use Rattle.topology_sound.proofs.Place.{on-place-unsound, on-place-outside, on-place-next}
 use Rattle.topology.specs.Written.{joinedOver}
 use Rattle.table_rows.specs.Bytes.{rowStart}
 use Rattle.table.specs.Listed.{rankIn, placesIn}
@@ -124,7 +124,7 @@ module _ (t : Topology) (good : T (sound t)) (d : ℕ) (place : d < t .routers) 
 fits : (t : Topology) → T (sound t) → (d : ℕ) → d < t .routers → (buffer : List ℕ) → length (linesFor t d) ≤ length buffer →
     listing t d buffer ≡ record { answer = answer 0 (length (linesFor t d)); buffer = linesFor t d ++ drop (length (linesFor t d)) buffer }
 unfolding listing given
-fits t good d place buffer h = rw (as-true (sound t) good, lt-ltb d (t .routers) place, le-ltb (length buffer) (length (linesFor t d)) h)
+fits t good d place buffer h = rw (on-place-next, le-ltb (length buffer) (length (linesFor t d)) h)
 
 pub lists-right : ListsRight
 unfolding listing given turnedAway linesFor
@@ -141,15 +141,15 @@ lists-right t good d place buffer =
       text = linesFor t d;
       text-is = refl;
       success = fits t good d place buffer;
-      no-room = λ h. rw (as-true (sound t) good, lt-ltb d (t .routers) place, lt-ltb (length buffer) (length (linesFor t d)) h);
+      no-room = λ h. rw (on-place-next, lt-ltb (length buffer) (length (linesFor t d)) h);
     }
 
 pub listing-refuses : ListingRefuses
 unfolding listing turnedAway
 listing-refuses t d buffer =
     record {
-      not-sound = λ out. rw (as-false (sound t) out);
-      no-place = λ good past. rw (as-true (sound t) good, le-ltb d (t .routers) past);
+      not-sound = on-place-unsound _ t d _;
+      no-place = on-place-outside _ t d _;
     }
 
 pub all-right : ListingRight

@@ -1,15 +1,13 @@
 -- The listing's text (01, Two networks by hand, first paragraph), and what writing its lines of one destination into a lent buffer leaves.
 -- Assumes nothing.
 use Prim.Native.Nat.{ℕ}
-use mathlib.Core.Bool.{cond}
 use mathlib.Core.List.{List, [], _∷_, _++_, map}
-use lib.Dec.{ltb}
 use Rattle.network.specs.Lists.{below}
 use Rattle.network.specs.Order.{shortest-path, build}
 use Rattle.topology_types.specs.declared.Topology.{Topology}
 use Rattle.topology_types.specs.Outcome.{Outcome, turnedAway, given}
 use Rattle.topology_types.specs.Topology.{networkOf}
-use Rattle.topology_sound.specs.Sound.{sound}
+use Rattle.topology_sound.specs.Place.{onPlace}
 use Rattle.topology.specs.Written.{joinedOver}
 use Rattle.table_rows.specs.Bytes.{tableBytes}
 use Rattle.table.specs.Listed.{rankIn, placesIn}
@@ -53,5 +51,4 @@ allLines t = joinedOver (linesFor t) (below (t .routers))
 
 -- 14, 15, then 24 at the length needed; else the lines of the destination, the rest of a longer buffer staying
 unfoldable pub listing : Topology → ℕ → List ℕ → Outcome
-listing t d buffer =
-    cond (sound t) (cond (ltb d (t .routers)) (given (linesFor t d) buffer) (turnedAway 15 d buffer)) (turnedAway 14 0 buffer)
+listing t d buffer = onPlace (λ number at. turnedAway number at buffer) t d (given (linesFor t d) buffer)

@@ -4,7 +4,7 @@ use Prim.Native.Nat.{ℕ, _≤_, _<_}
 use mathlib.Core.Bool.{Bool, true, false, cond, not}
 use mathlib.Core.List.{List, [], _∷_}
 use mathlib.Core.Logic.{_≢_, _⊎_, inl, inr}
-use mathlib.Core.Path.{_≡_, refl, ap, sym}
+use mathlib.Core.Path.{_≡_, refl, ap, sym, _∙_}
 use native.Mathlib.Omega.{arith}
 use lib.Dec.{T, eqb, ltb, eqb→eq, ltb→lt}
 use lib.ListN.{length, getD, take}
@@ -13,6 +13,7 @@ use Rattle.topology_types.specs.declared.Topology.{Topology}
 use Rattle.topology_types.specs.Topology.{networkOf}
 use Rattle.topology_types.specs.Outcome.{answer}
 use Rattle.topology_sound.specs.Sound.{sound}
+use Rattle.topology_sound.specs.Place.{onPlace}
 use Rattle.order_standings.specs.declared.Mode.{Mode}
 use Rattle.order.specs.Calls.{modeOf, reachedCount, wrongRanks, ranksAfter, unreadyRanks, refusedAtFirst, judging, checking}
 use Rattle.order.proofs.Decided.{Proposed}
@@ -20,6 +21,12 @@ use Rattle.order.proofs.Decided.{Proposed}
 -- the answer's number is another
 abbrev Apart : ℕ → Answer → Type 0
 Apart k x = x .number ≡ k → ⊥
+
+-- 14 and 15 in the form of the tests after them
+both-tests : (a b : Bool) (next x y : Answer) → cond a (cond b next x) y ≡ cond (not a) y (cond (not b) x next)
+both-tests true true next x y = refl
+both-tests true false next x y = refl
+both-tests false b next x y = refl
 
 -- an answer with another number comes from a later test
 later : (b : Bool) (number other at at′ : ℕ) (next : Answer) → number ≢ other → cond (not b) (answer number at) next ≡ answer other at′ →
@@ -103,15 +110,17 @@ module _ (t : Topology) (d : ℕ) (m : Mode) (order : List ℕ) where
     apart-15 : k < 15 → Apart k from-15
     apart-15 h = apart-test (ltb d (t .routers)) 15 d k from-17 (λ e. omega arith) (apart-17 (omega arith))
 
+  from-14 : cond (not (sound t)) (answer 14 0) from-15 ≡ checking t d m order
+  unfolding checking judging onPlace
+  from-14 = sym (both-tests (sound t) (ltb d (t .routers)) from-17 (answer 15 d) (answer 14 0))
+
   module _ (at : ℕ) where
     pub is-14 : checking t d m order ≡ answer 14 at → (at ≡ 0) × (T (sound t) → ⊥)
-    unfolding checking judging
-    is-14 e = fails-here (sound t) 14 0 at from-15 (apart-15 14 (omega arith) (omega arith)) e
+    is-14 e = fails-here (sound t) 14 0 at from-15 (apart-15 14 (omega arith) (omega arith)) (from-14 ∙ e)
 
     module _ (number : ℕ) where
       past-14 : 14 ≢ number → checking t d m order ≡ answer number at → T (sound t) × (from-15 ≡ answer number at)
-      unfolding checking judging
-      past-14 a e = later (sound t) 14 number 0 at from-15 a e
+      past-14 a e = later (sound t) 14 number 0 at from-15 a (from-14 ∙ e)
 
       past-15 : 14 ≢ number → 15 ≢ number → checking t d m order ≡ answer number at → T (sound t) × (d < t .routers) × (from-17 ≡ answer number at)
       past-15 a b e =

@@ -1,11 +1,11 @@
 -- What checking an order answers, test by test: each test that fails decides, and each that passes leaves the tests after it.
 -- Assumes nothing.
 use Prim.Native.Nat.{ℕ, zero, suc, pred, _+_, _-_, _≤_, _<_}
-use mathlib.Core.Bool.{Bool, true, false}
+use mathlib.Core.Bool.{Bool}
 use mathlib.Core.List.{List, [], _∷_, List·Memᴰ, List·Memᴰ·head}
-use mathlib.Core.Path.{_≡_, refl, ap}
+use mathlib.Core.Path.{_≡_, refl, sym, ap}
 use native.Mathlib.Omega.{arith}
-use borrow.Author.Tests.{lt-ltb, le-ltb, eq-eqb, ne-eqb}
+use borrow.Author.Tests.{eq-eqb, ne-eqb}
 use lib.Dec.{T}
 use lib.ListN.{length, getD, take}
 use lib.Seq.{length-take-le}
@@ -15,6 +15,7 @@ use Rattle.network.proofs.Lists.{mem-keep}
 use Rattle.topology_types.specs.declared.Answer.{Answer}
 use Rattle.topology_types.specs.declared.Topology.{Topology}
 use Rattle.topology_sound.specs.Sound.{sound}
+use Rattle.topology_sound.proofs.Place.{on-place-unsound, on-place-outside, on-place-next}
 use Rattle.topology_types.specs.Topology.{networkOf}
 use Rattle.topology_types.specs.Outcome.{firstOr, answer}
 use Rattle.order_standings.specs.declared.Mode.{Mode}
@@ -54,18 +55,18 @@ module _ (t : Topology) (d : ℕ) (m : Mode) (order : List ℕ) where
   abbrev pub reach : ℕ
   reach = reachedCount (networkOf t) d
 
-  pub unsound : sound t ≡ false → answer 14 0 ≡ checking t d m order
+  pub unsound : (T (sound t) → ⊥) → checking t d m order ≡ answer 14 0
   unfolding checking
-  unsound e = rw e
+  unsound = on-place-unsound answer t d _
 
-  module _ (good : sound t ≡ true) where
-    pub outside : t .routers ≤ d → answer 15 d ≡ checking t d m order
+  module _ (good : T (sound t)) where
+    pub outside : t .routers ≤ d → checking t d m order ≡ answer 15 d
     unfolding checking
-    outside h = rw (good, le-ltb _ _ h)
+    outside = on-place-outside answer t d _ good
 
     pub judged : d < t .routers → judging t d m order ≡ checking t d m order
     unfolding checking
-    judged place = rw (good, lt-ltb _ _ place)
+    judged place = sym (on-place-next answer t d _ good place)
 
   pub other-length : (length order ≡ t .routers → ⊥) → answer 17 (length order) ≡ judging t d m order
   unfolding judging

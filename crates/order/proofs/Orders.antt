@@ -2,7 +2,7 @@
 -- placed has one, all are placed. What is built is the order by the rule.
 -- Assumes nothing.
 use Prim.Native.Nat.{ℕ, zero, suc, pred, _+_, _-_, _≤_, _<_}
-use mathlib.Core.Bool.{Bool, true, false, not}
+use mathlib.Core.Bool.{Bool, false, not}
 use mathlib.Core.List.{List, [], _∷_, _++_, List·Memᴰ, List·Memᴰ·cases-cons}
 use mathlib.Core.Logic.{_↔_, ⊎-elim}
 use mathlib.Core.Path.{_≡_, refl, sym, ap, _∙_, subst}
@@ -35,6 +35,7 @@ use Rattle.order.specs.Calls.{modeOf, reachedCount, orderBytes, unreadyR
 use Rattle.order.specs.Inner.{FirstPlaced}
 use Rattle.order.specs.Theorems.{ReachedRight, OrderHeld, ChecksExact, BuiltWell, BuildsByRule, BuildRefuses}
 use Rattle.topology_sound.proofs.Sound.{sound-networks}
+use Rattle.topology_sound.proofs.Place.{on-place-unsound, on-place-outside, on-place-next}
 use Rattle.order.proofs.Reached.{counted, no-more, reached-most, reached-some, accepted-long, built-long, bytes-long}
 use Rattle.order.proofs.Ranges.{getD-mem, mem-getD, differ, keep-none, none-passes, keep-first, first-passes}
 use Rattle.order.proofs.Entries.{entry-right, none-wrong}
@@ -45,9 +46,6 @@ use Rattle.order.proofs.Decided.{Proposed, passes, judged}
 module _ (t : Topology) (is-sound : T (sound t)) (d : ℕ) (place : d < t .routers) where
   facts : SoundNetwork t
   facts = sound-networks t is-sound
-
-  good : sound t ≡ true
-  good = as-true (sound t) is-sound
 
   inside : d < size (networkOf t)
   inside = omega (arith, facts .routers)
@@ -220,7 +218,7 @@ module _ (t : Topology) (is-sound : T (sound t)) (d : ℕ) (place : d < t .route
     pub exact : (checking t d m bytes ≡ answer 0 0) ↔ (Accepted (networkOf t) d (modeOf m) part × (bytes ≡ orderBytes (t .routers) part))
     exact = (
       λ e. let (at, p, none) = is-0 t d m bytes 0 e in (accepts m part (proposal-begins p) (part-long p) none, proposal-bytes p),
-      λ (a, e). let p = proposes a e in sym (passes t d m bytes p (none-unready m part a) ∙ judged t d m bytes good place),
+      λ (a, e). let p = proposes a e in sym (passes t d m bytes p (none-unready m part a) ∙ judged t d m bytes is-sound place),
     )
 
   -- an order that is accepted, and then 255, is accepted as bytes
@@ -249,11 +247,11 @@ module _ (t : Topology) (is-sound : T (sound t)) (d : ℕ) (place : d < t .route
     left : t .routers ≤ length buffer →
         building t d m buffer ≡ record { answer = answer 0 (t .routers); buffer = orderBytes (t .routers) built ++ drop (t .routers) buffer }
     unfolding building given
-    left enough = rw (good, lt-ltb d (t .routers) place, order-long, le-ltb (length buffer) (t .routers) enough)
+    left enough = rw (on-place-next, order-long, le-ltb (length buffer) (t .routers) enough)
 
     no-room : length buffer < t .routers → building t d m buffer ≡ turnedAway 24 (t .routers) buffer
     unfolding building given turnedAway
-    no-room short = rw (good, lt-ltb d (t .routers) place, order-long, lt-ltb (length buffer) (t .routers) short)
+    no-room short = rw (on-place-next, order-long, lt-ltb (length buffer) (t .routers) short)
 
     built-well : t .routers ≤ length buffer → BuiltWell t d m (modeOf m) buffer
     unfolding orderBytes padded
@@ -312,7 +310,7 @@ pub build-refuses : BuildRefuses
 unfolding building turnedAway
 build-refuses t d m buffer =
     record {
-      not-sound = λ out. rw (as-false (sound t) out);
-      no-place = λ s h. rw (as-true (sound t) s, le-ltb d (t .routers) h);
+      not-sound = on-place-unsound _ t d _;
+      no-place = on-place-outside _ t d _;
       no-room = λ s place short. no-room t s d place m buffer short;
     }

@@ -9,12 +9,11 @@ use borrow.Author.Tests.{ltb-false, eq-eqb}
 use lib.Dec.{ltb}
 use lib.ListN.{length, getD, take}
 use lib.Seq.{length-take-le, getD-take, take-take}
-use Rattle.network.proofs.Tests.{as-true, as-false}
+use Rattle.network.proofs.Tests.{as-false}
 use Rattle.topology_types.specs.declared.Answer.{Answer}
 use Rattle.topology_types.specs.declared.Topology.{Topology}
 use Rattle.topology_types.specs.Topology.{networkOf}
 use Rattle.topology_types.specs.Outcome.{firstOr, answer}
-use Rattle.topology_sound.specs.Sound.{sound}
 use Rattle.order_standings.specs.declared.Mode.{Mode}
 use Rattle.order_standings.specs.declared.Mode.the-variants as mode
 use Rattle.order.specs.Calls.{modeOf, reachedCount, wrongRanks, ranksAfter, unreadyRanks, judging, checking}
@@ -146,16 +145,16 @@ module _ (t : Topology) (d : ℕ) (order : List ℕ) where
 
   -- where 14 and 15 pass, the tests after them answer
   judges : (m : Mode) {x : Answer} → Called t d → x ≡ judging t d m order → checking t d m order ≡ x
-  judges m c e = sym (e ∙ judged t d m order (as-true (sound t) (c .is-sound)) (c .place))
+  judges m c e = sym (e ∙ judged t d m order (c .is-sound) (c .place))
 
   module _ (m : Mode) (at : ℕ) where
     checked : OrderChecked t d m (modeOf m) order at
     checked =
         record {
-          says-14 = (is-14 t d m order at, λ (e, out). sym (unsound t d m order (as-false (sound t) out)) ∙ ap (answer 14) (sym e));
+          says-14 = (is-14 t d m order at, λ (e, out). unsound t d m order out ∙ ap (answer 14) (sym e));
           says-15 = (
             λ e. let (s, there, out) = is-15 t d m order at e in (there, s, ltb-false d (t .routers) (as-false (ltb d (t .routers)) out)),
-            λ (e, s, h). sym (outside t d m order (as-true (sound t) s) h) ∙ ap (answer 15) (sym e),
+            λ (e, s, h). outside t d m order s h ∙ ap (answer 15) (sym e),
           );
           says-17 = (
             λ e.

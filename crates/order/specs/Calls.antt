@@ -13,7 +13,7 @@ use Rattle.network.specs.Order as network
 use Rattle.topology_types.specs.declared.Answer.{Answer}
 use Rattle.topology_types.specs.declared.Topology.{Topology}
 use Rattle.topology_types.specs.Topology.{padded, networkOf}
-use Rattle.topology_sound.specs.Sound.{sound}
+use Rattle.topology_sound.specs.Place.{onPlace}
 use Rattle.topology_types.specs.Outcome.{answer, Outcome, turnedAway, given}
 use Rattle.order_standings.specs.declared.Mode.{Mode}
 use Rattle.order_standings.specs.declared.Mode.the-variants as mode
@@ -34,9 +34,7 @@ orderBytes count order = padded 255 count order
 -- 14, 15, then 24 at N; else the order that we build, N bytes, the rest of a longer buffer staying
 unfoldable pub building : Topology → ℕ → Mode → List ℕ → Outcome
 building t d m buffer =
-    cond (sound t)
-    (cond (ltb d (t .routers)) (given (orderBytes (t .routers) (build (networkOf t) d (modeOf m))) buffer) (turnedAway 15 d buffer))
-    (turnedAway 14 0 buffer)
+    onPlace (λ number at. turnedAway number at buffer) t d (given (orderBytes (t .routers) (build (networkOf t) d (modeOf m))) buffer)
 
 -- 18: the ranks whose entry is not below N, or stands before
 unfoldable pub wrongRanks : ℕ → List ℕ → List ℕ
@@ -66,4 +64,4 @@ judging t d m order =
 
 -- 14, 15, then 17 to 20
 unfoldable pub checking : Topology → ℕ → Mode → List ℕ → Answer
-checking t d m order = cond (not (sound t)) (answer 14 0) (cond (not (ltb d (t .routers))) (answer 15 d) (judging t d m order))
+checking t d m order = onPlace answer t d (judging t d m order)

@@ -14,14 +14,11 @@ ghost use Rattle.order.specs.Calls.{building, checking};
 pub fn build(t: Topology, destination: Place, mode: Mode, out: &mut [u8]) -> Answer
     ensures { λ r. ⌜ record { answer = r; buffer = now (out .exit) } ≡ building t (destination .0) mode (now (out .entry)) ⌝ }
 {
-    if !topology_sound::is_sound(t) {
-        return Answer { number: 14, at: 0 };
+    let refused = topology_sound::refused_at(t, destination);
+    if refused.number != 0 {
+        return refused;
     }
-    let d = destination.index();
     let n = t.routers;
-    if n <= d {
-        return Answer { number: 15, at: d };
-    }
     if out.len() < n {
         return Answer { number: 24, at: n };
     }
@@ -46,12 +43,9 @@ pub fn build(t: Topology, destination: Place, mode: Mode, out: &mut [u8]) -> Ans
 pub fn check(t: Topology, destination: Place, mode: Mode, order: &[u8]) -> Answer
     ensures { λ r. ⌜ r ≡ checking t (destination .0) mode (now (order .entry)) ⌝ }
 {
-    if !topology_sound::is_sound(t) {
-        return Answer { number: 14, at: 0 };
-    }
-    let d = destination.index();
-    if t.routers <= d {
-        return Answer { number: 15, at: d };
+    let refused = topology_sound::refused_at(t, destination);
+    if refused.number != 0 {
+        return refused;
     }
     let a = arcs::unchecked::of(t);
     let ds = distances::unchecked::to(&a.count, &a.to, &a.back, t.routers, destination);

@@ -19,12 +19,9 @@ pub const PATH: usize = ROUTERS;
 pub fn write(t: Topology, table: &[u8], start: Place, out: &mut [u8]) -> Answer
     ensures { λ r. ⌜ record { answer = r; buffer = now (out .exit) } ≡ writingPaths t (now (table .entry)) (start .0) (now (out .entry)) ⌝ }
 {
-    if !topology_sound::is_sound(t) {
-        return Answer { number: 14, at: 0 };
-    }
-    let u = start.index();
-    if t.routers <= u {
-        return Answer { number: 15, at: u };
+    let refused = topology_sound::refused_at(t, start);
+    if refused.number != 0 {
+        return refused;
     }
     let checked = table::unchecked::check(t, arcs::unchecked::of(t), table);
     if checked.number != 0 {
@@ -33,7 +30,10 @@ pub fn write(t: Topology, table: &[u8], start: Place, out: &mut [u8]) -> Answer
     let mut paths = unchecked::room_for_paths();
     let count = unchecked::gather(t, table, start, &mut paths);
     if PATHS < count {
-        return Answer { number: 25, at: u };
+        return Answer {
+            number: 25,
+            at: start.index(),
+        };
     }
     let needed = PATH * count;
     if out.len() < needed {

@@ -11,11 +11,12 @@ use borrow.Author.Tests.{lt-ltb, le-ltb}
 use lib.Dec.{T, ltb}
 use lib.ListN.{length, drop, length-append, length-drop, List·getD-append}
 use lib.Seq.{drop-append-seam}
-use Rattle.network.proofs.Tests.{truth, as-true, as-false}
+use Rattle.network.proofs.Tests.{truth}
 use Rattle.topology_types.specs.declared.Answer.{Answer}
 use Rattle.topology_types.specs.declared.Topology.{Topology}
 use Rattle.topology_types.specs.Outcome.{answer, Outcome, turnedAway, given}
 use Rattle.topology_sound.specs.Sound.{sound}
+use Rattle.topology_sound.proofs.Place.{on-place-unsound, on-place-outside, on-place-next}
 use Rattle.topology.specs.Written.{joinedOver}
 use Rattle.table.specs.Calls.{unlessRefused, tableChecking}
 use Rattle.forwarding_rules.proofs.Tested.{Kind, kind}
@@ -33,9 +34,9 @@ module _ (t : Topology) (table : List ℕ) (u : ℕ) (buffer : List ℕ) where
   written = writingPaths t table u buffer
 
   -- once 14, 15 and 21 have passed
-  on-passed : Passed t table u → written ≡ cond (ltb 512 many) (turnedAway 25 u buffer) (given (pathsBytes t table u) buffer)
+  pub on-passed : Passed t table u → written ≡ cond (ltb 512 many) (turnedAway 25 u buffer) (given (pathsBytes t table u) buffer)
   unfolding writingPaths unlessRefused
-  on-passed p = rw (as-true (sound t) (p .is-sound), lt-ltb _ _ (p .place), p .accepted)
+  on-passed p = on-place-next _ t u _ (p .is-sound) (p .place) ∙ rw (p .accepted)
 
   long : Passed t table u → length (pathsBytes t table u) ≡ 64 * many
   long p = bytes-long t (p .is-sound) table (p .accepted) u (p .place)
@@ -51,9 +52,9 @@ module _ (t : Topology) (table : List ℕ) (u : ℕ) (buffer : List ℕ) where
 
   outcome : {number at : ℕ} (s : PathsSay t table u buffer number at) → written ≡ record { answer = answer number at; buffer = left s }
   unfolding writingPaths unlessRefused turnedAway given left
-  outcome (says-14 out) = rw (as-false (sound t) out)
-  outcome (says-15 good past) = rw (as-true (sound t) good, le-ltb _ _ past)
-  outcome (says-21 good place at e) = rw (as-true (sound t) good, lt-ltb _ _ place, e)
+  outcome (says-14 out) = on-place-unsound _ t u _ out
+  outcome (says-15 good past) = on-place-outside _ t u _ good past
+  outcome (says-21 good place at e) = on-place-next _ t u _ good place ∙ rw e
   outcome (says-25 p more) = on-passed p ∙ rw (lt-ltb _ _ more)
   outcome (says-24 p few short) = on-passed p ∙ rw (le-ltb _ _ few, long p, lt-ltb _ _ short)
   outcome (says-0 p few room) = on-passed p ∙ rw (le-ltb _ _ few, long p, le-ltb _ _ room)

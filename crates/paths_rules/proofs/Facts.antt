@@ -10,6 +10,7 @@ use Rattle.network.specs.Paths.{pathsAt, throughEach, pathsFrom}
 use Rattle.topology_types.specs.Outcome.{firstOr, turnedAway, given}
 use Rattle.topology_types.specs.Topology.{noLink, padded, contents, held, zeros, seen, networkIn, networkOf}
 use Rattle.topology_sound.specs.Sound.{within, inLimits, wellLinked, uncrowded, isNoLink, unusedZero, slotted, sound}
+use Rattle.topology_sound.specs.Place.{onPlace}
 use Rattle.topology.specs.Written.{joinedOver}
 use Rattle.order.specs.Calls.{refusedAtFirst}
 use Rattle.order.specs.Facts.{answers, link, T-topology, cutOff}
@@ -29,7 +30,7 @@ unfolding numbersFrom below keep every any leastBy insert sort member distinct s
     reached leadsInto ready candidate candidatesInTurn holdsEachOnce firstIs othersInTurn accepted rank sortsBefore rankedBefore fullRow row
     pathsAt throughEach pathsFrom
     firstOr turnedAway given noLink padded contents held zeros seen networkIn networkOf
-    within inLimits wellLinked uncrowded isNoLink unusedZero slotted sound
+    within inLimits wellLinked uncrowded isNoLink unusedZero slotted sound onPlace
     joinedOver refusedAtFirst answers link T-topology cutOff rankOrNone rowBytes headerBytes rowOf rowsBytes tableBytes rowStart
     kindIn destinationIn countIn limitIn rankIn placesIn arcsTo entriesIn listed byRank orderIn
     unlessRefused soundHeader soundRanks differing wrongBytes tableJudging tableChecking
@@ -44,7 +45,7 @@ unfolding numbersFrom below keep every any leastBy insert sort member distinct s
     reached leadsInto ready candidate candidatesInTurn holdsEachOnce firstIs othersInTurn accepted rank sortsBefore rankedBefore fullRow row
     pathsAt throughEach pathsFrom
     firstOr turnedAway given noLink padded contents held seen networkIn networkOf
-    within inLimits wellLinked uncrowded isNoLink unusedZero slotted sound
+    within inLimits wellLinked uncrowded isNoLink unusedZero slotted sound onPlace
     joinedOver refusedAtFirst answers link rankOrNone rowBytes headerBytes rowOf rowsBytes tableBytes rowStart
     kindIn destinationIn countIn limitIn rankIn placesIn arcsTo entriesIn listed byRank orderIn
     unlessRefused soundHeader soundRanks differing wrongBytes tableJudging tableChecking

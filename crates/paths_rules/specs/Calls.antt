@@ -10,7 +10,7 @@ use Rattle.topology_types.specs.declared.Topology.{Topology}
 use Rattle.topology_types.specs.Limits.{mostRouters}
 use Rattle.topology_types.specs.Outcome.{Outcome, turnedAway, given}
 use Rattle.topology_types.specs.Topology.{networkOf, padded}
-use Rattle.topology_sound.specs.Sound.{sound}
+use Rattle.topology_sound.specs.Place.{onPlace}
 use Rattle.topology.specs.Written.{joinedOver}
 use Rattle.table.specs.Listed.{entriesIn}
 use Rattle.table.specs.Calls.{unlessRefused, tableChecking}
@@ -40,10 +40,7 @@ pathsBytes t table u = joinedOver pathBytes (pathsOf t table u)
 -- staying
 unfoldable pub writingPaths : Topology → List ℕ → ℕ → List ℕ → Outcome
 writingPaths t table u buffer =
-    cond (sound t)
-    (cond (ltb u (t .routers))
+    onPlace (λ number at. turnedAway number at buffer) t u
     (unlessRefused (tableChecking t table) buffer
     (cond (ltb mostPaths (length (pathsOf t table u))) (turnedAway 25 u buffer)
     (given (pathsBytes t table u) buffer)))
-    (turnedAway 15 u buffer))
-    (turnedAway 14 0 buffer)

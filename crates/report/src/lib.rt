@@ -16,12 +16,9 @@ ghost use Rattle.listing_rules.specs.Listing as said;
 pub fn listing(t: Topology, destination: Place, out: &mut [u8]) -> Answer
     ensures { λ r. ⌜ record { answer = r; buffer = now (out .exit) } ≡ said.listing t (destination .0) (now (out .entry)) ⌝ }
 {
-    if !topology_sound::is_sound(t) {
-        return Answer { number: 14, at: 0 };
-    }
-    let d = destination.index();
-    if t.routers <= d {
-        return Answer { number: 15, at: d };
+    let refused = topology_sound::refused_at(t, destination);
+    if refused.number != 0 {
+        return refused;
     }
     let mut lines = printing::room_for_lines();
     let needed = unchecked::put_lines(t, arcs::unchecked::of(t), destination, &mut lines, 0);

@@ -57,7 +57,7 @@ built-either n wf d inside mode.Free = built-accepted n wf d inside free
 module _ (t : Topology) (is-sound : T (sound t)) (d : ℕ) (place : d < t .routers) where
   -- judging is checking, once 14 and 15 pass
   same : (order : List ℕ) → judging t d mode.Free order ≡ checking t d mode.Free order
-  same order = judged t d mode.Free order (as-true (sound t) is-sound) place
+  same order = judged t d mode.Free order is-sound place
 
   -- number 0 is the answer that accepts
   pub let-through : (order : List ℕ) → judging t d mode.Free order .number ≡ 0 → checking t d mode.Free order ≡ answer 0 0

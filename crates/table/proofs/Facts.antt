@@ -9,6 +9,7 @@ use Rattle.network.specs.Row.{rank, sortsBefore, rankedBefore, fullRow, row}
 use Rattle.topology_types.specs.Outcome.{firstOr, turnedAway, given}
 use Rattle.topology_types.specs.Topology.{noLink, padded, contents, held, zeros, seen, networkIn, networkOf}
 use Rattle.topology_sound.specs.Sound.{within, inLimits, wellLinked, uncrowded, isNoLink, unusedZero, slotted, sound}
+use Rattle.topology_sound.specs.Place.{onPlace}
 use Rattle.topology.specs.Written.{joinedOver}
 use Rattle.order.specs.Calls.{modeOf, reachedCount, wrongRanks, ranksAfter, unreadyRanks, refusedAtFirst, judging, checking}
 use Rattle.order.specs.Facts.{answers, link, twoCosts, T-topology, cutOff, twoParts}
@@ -26,7 +27,7 @@ unfolding numbersFrom below keep every any leastBy insert sort member distinct s
     absent distanceIn through of-distance.atFirst round rounds distances
     reached leadsInto ready candidate rank sortsBefore rankedBefore fullRow row
     turnedAway given noLink padded contents held zeros seen networkIn networkOf
-    within inLimits wellLinked uncrowded isNoLink unusedZero slotted sound
+    within inLimits wellLinked uncrowded isNoLink unusedZero slotted sound onPlace
     joinedOver modeOf reachedCount wrongRanks ranksAfter unreadyRanks refusedAtFirst judging checking answers link twoCosts T-topology cutOff twoParts
     rankOrNone rowBytes headerBytes rowOf rowsBytes tableBytes rowStart unlessRefused filling
     holds lone slope F-links F-topology F-falling none one two room filled

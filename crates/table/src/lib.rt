@@ -16,14 +16,11 @@ ghost use Rattle.table.specs.Calls.{filling, tableChecking};
 pub fn fill(t: Topology, destination: Place, order: &[u8], out: &mut [u8]) -> Answer
     ensures { λ r. ⌜ record { answer = r; buffer = now (out .exit) } ≡ filling t (destination .0) (now (order .entry)) (now (out .entry)) ⌝ }
 {
-    if !topology_sound::is_sound(t) {
-        return Answer { number: 14, at: 0 };
+    let refused = topology_sound::refused_at(t, destination);
+    if refused.number != 0 {
+        return refused;
     }
-    let d = destination.index();
     let n = t.routers;
-    if n <= d {
-        return Answer { number: 15, at: d };
-    }
     let a = arcs::unchecked::of(t);
     let ds = distances::unchecked::to(&a.count, &a.to, &a.back, n, destination);
     let proposed = order::unchecked::judge(t, a, ds, destination, Mode::Free, order);

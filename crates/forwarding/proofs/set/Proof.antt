@@ -1,37 +1,19 @@
--- `forwarding::set` meets its contract: its tests are those of a setting, in turn.
+-- `forwarding::set` meets its contract: its tests are those of a setting.
 -- Assumes nothing.
-use mathlib.Core.Bool.{true}
-use mathlib.Core.Path.{_≡_, sym, _∙_}
-use native.Mathlib.Omega.{arith}
 use borrow.Author.Needs.{needs}
-use borrow.Author.Tests.{not-true, not-false, lt-ltb, le-ltb}
 use Rattle.network.specs.Forwarding as network
-use Rattle.topology_sound.specs.Sound.{sound}
-use Rattle.forwarding_rules.specs.Calls.{packetIn, settingSays, tested, settingAt}
+use Rattle.topology_sound.proofs.Place.{on-place-refused, on-place-passed, on-place-next}
+use Rattle.forwarding_rules.specs.Calls.{packetIn, settingSays, settingAt}
 use Rattle.forwarding.proofs.set.Statement.{statement}
 use Rattle.forwarding.proofs.set.Tie as tie
 
 returns : tie.Need-returns
-unfolding settingAt settingSays tested
-returns c = rw (sym (c .before .is-sound .ensures) ∙ not-true _ (c .if1 .taken))
-
--- the topology is sound
-good : (c : tie.Else1) → sound (c .before .before .args .t) ≡ true
-good c = sym (c .before .is-sound .ensures) ∙ not-false _ (c .if1 .left)
+unfolding settingAt settingSays
+returns c = on-place-refused _ _ _ (c .before .before .refused-at .ensures) _ _ (c .if1 .taken)
 
 returns-2 : tie.Need-returns-2
-unfolding settingAt settingSays tested
-returns-2 c =
-    let i : tie.After-index = c .before .before in
-    let a = i .before .before .before .args in
-    rw (good (i .before), le-ltb (a .start .0) (a .t .routers) (omega (arith, i .index .ensures, c .if2 .taken)), i .index .ensures)
-
-returns-3 : tie.Need-returns-3
-unfolding settingAt settingSays tested packetIn network.start
-returns-3 c =
-    let i : tie.After-index = c .before .before in
-    let a = i .before .before .before .args in
-    rw (good (i .before), lt-ltb (a .start .0) (a .t .routers) (omega (arith, i .index .ensures, c .if2 .left)))
+unfolding settingAt settingSays packetIn network.start
+returns-2 c = let (good, place) = on-place-passed _ _ _ (c .before .before .refused-at .ensures) (c .if1 .left) in rw on-place-next
 
 pub set-spec : {M : Type 1} → statement M
-set-spec = tie.close (tie.spec (λ c κs. search needs) returns (λ c κs. search needs) returns-2 returns-3)
+set-spec = tie.close (tie.spec (λ c κs. search needs) returns returns-2)

@@ -1,11 +1,10 @@
 -- `table::fill` meets its contract: the tests are those of `filling`, in turn, and what the rows are filled with is the table's bytes.
 -- Assumes nothing.
 use Prim.Native.Nat.{ℕ, _+_, _*_, _≤_, _<_}
-use mathlib.Core.Bool.{true}
 use mathlib.Core.Path.{_≡_, refl, sym, ap, subst, _∙_}
 use native.Mathlib.Omega.{arith}
 use borrow.Author.Needs.{needs}
-use borrow.Author.Tests.{not-true, not-false, lt-ltb, le-ltb, ne-eqb}
+use borrow.Author.Tests.{lt-ltb, le-ltb, ne-eqb}
 use denote.Ref.{now}
 use lib.Dec.{T}
 use lib.ListN.{length, take}
@@ -15,11 +14,12 @@ use Rattle.topology_types.specs.Outcome.{answer, given, turnedAway}
 use Rattle.topology_types.specs.Topology.{networkOf}
 use Rattle.topology_sound.specs.Sound.{sound}
 use Rattle.topology_sound.proofs.Sound.{sound-exact}
+use Rattle.topology_sound.proofs.Place.{on-place-refused, on-place-passed}
 use Rattle.order_standings.specs.declared.Mode.the-variants as mode
 use Rattle.order.specs.Calls.{reachedCount, judging, checking}
 use Rattle.order.specs.Inner.{Measured}
 use Rattle.order.proofs.Turn.{counts-reached}
-use Rattle.order.proofs.Decided.{unsound, outside, judged}
+use Rattle.order.proofs.Decided.{judged}
 use Rattle.distances.proofs.Slots.{laid-out}
 use Rattle.table_rows.specs.Bytes.{tableBytes, rowStart}
 use Rattle.table_rows.specs.Inner.{Fillable}
@@ -30,31 +30,26 @@ use Rattle.table.proofs.Verdicts.{table-long}
 use Rattle.table.proofs.fill.Statement.{statement}
 use Rattle.table.proofs.fill.Tie as tie
 
+-- the topology is sound, and the destination is one of its places
+module _ (c : tie.Else1) where
+  abbrev args : tie.Start
+  args = c .before .before .before .before .before
+
+  passed : T (sound (args .args .t)) × (args .args .destination .0 < args .args .t .routers)
+  passed = on-place-passed _ _ _ (c .before .before .refused-at .ensures) (c .if1 .left)
+
+-- what is refused is what checking the order answers
+refusal : (c : tie.Then1) → let a = c .before .before .before .before .before .args in
+    c .before .before .refused-at .result ≡ checking (a .t) (a .destination .0) mode.Free (now (a .order))
+unfolding checking
+refusal c = on-place-refused _ _ _ (c .before .before .refused-at .ensures) _ _ (c .if1 .taken)
+
 returns : tie.Need-returns
 unfolding filling unlessRefused turnedAway
-returns c =
-    let a = c .before .before .before .before .args in
-    rw (← unsound (a .t) (a .destination .0) mode.Free (now (a .order)) (sym (c .before .is-sound .ensures) ∙ not-true _ (c .if1 .taken)))
-
--- the topology is sound
-good : (c : tie.Else1) → sound (c .before .before .before .before .args .t) ≡ true
-good c = sym (c .before .is-sound .ensures) ∙ not-false _ (c .if1 .left)
-
-passed : (c : tie.Else1) → T (sound (c .before .before .before .before .args .t))
-passed c = rw (good c) tt
-
-returns-2 : tie.Need-returns-2
-unfolding filling unlessRefused turnedAway
-returns-2 c =
-    let a = c .before .before .before .before .before .before .args in
-    rw (← outside (a .t) (a .destination .0) mode.Free (now (a .order)) (good (c .before .before)) (omega (arith, c .before .index .ensures)), c .before .index .ensures)
+returns c = rw (← refusal c, ne-eqb _ _ (c .if1 .taken))
 
 of-requires : tie.Need-of-requires
-of-requires c κs = passed (c .before .before)
-
--- the destination is one of its places
-place : (c : tie.Else2) → let a = c .before .before .before .before .before .before .args in a .destination .0 < a .t .routers
-place c = omega (arith, c .before .index .ensures)
+of-requires c κs = passed c .0
 
 -- from the distances back to the arcs, and what they are
 abbrev laid : tie.After-to → tie.After-of
@@ -63,74 +58,75 @@ laid c = c .before .before .before .before .before
 to-requires : tie.Need-to-requires
 to-requires c κs =
     let o : tie.After-of = c .before .before .before .before in
-    ((_, laid-out _ _ (passed (o .before .before .before)) (o .of .ensures)), place (o .before))
+    let (good, place) = passed (o .before) in
+    ((_, laid-out _ _ good (o .of .ensures)), place)
 
-measured : (c : tie.After-to) → let a = laid c .before .before .before .before .before .before .before .args in
+measured : (c : tie.After-to) → let a = args (laid c .before) .args in
     Measured (a .t) (laid c .of .result) (a .destination .0) (c .to .result)
 measured c =
     let o = laid c in
-    let s = passed (o .before .before .before) in
-    record { is-sound = s; holds = o .of .ensures; place = place (o .before); settled = c .to .ensures _ (laid-out _ _ s (o .of .ensures)) }
+    let (s, place) = passed (o .before) in
+    record { is-sound = s; holds = o .of .ensures; place = place; settled = c .to .ensures _ (laid-out _ _ s (o .of .ensures)) }
 
 -- what judging answered is what checking the order answers
-verdict : (c : tie.After-judge) → let a = laid (c .before) .before .before .before .before .before .before .before .args in
+verdict : (c : tie.After-judge) → let a = args (laid (c .before) .before) .args in
     c .judge .result ≡ checking (a .t) (a .destination .0) mode.Free (now (a .order))
 verdict c =
     let o = laid (c .before) in
-    c .judge .ensures ∙ judged _ _ mode.Free _ (good (o .before .before .before)) (place (o .before))
+    c .judge .ensures ∙ judged _ _ mode.Free _ (passed (o .before) .0) (passed (o .before) .1)
 
-returns-3 : tie.Need-returns-3
+returns-2 : tie.Need-returns-2
 unfolding filling unlessRefused turnedAway
-returns-3 c = rw (← verdict (c .before .before), ne-eqb _ _ (c .if3 .taken))
+returns-2 c = rw (← verdict (c .before .before), ne-eqb _ _ (c .if2 .taken))
 
 -- from where judging let the order through back to the arcs
-abbrev arcs : tie.Else3 → tie.After-of
+abbrev arcs : tie.Else2 → tie.After-of
 arcs c = laid (c .before .before .before)
 
 -- judging let the order through, so its reached ranks are accepted, and their table has 4 + 19N bytes
-module _ (c : tie.Else3) where
-  few : arcs c .before .before .before .before .before .before .before .args .t .routers ≤ 64
-  few = sound-exact _ .0 (passed (arcs c .before .before .before)) .routers-most
+module _ (c : tie.Else2) where
+  few : args (arcs c .before) .args .t .routers ≤ 64
+  few = sound-exact _ .0 (passed (arcs c .before) .0) .routers-most
 
-  zero : let a = arcs c .before .before .before .before .before .before .before .args in
+  zero : let a = args (arcs c .before) .args in
       judging (a .t) (a .destination .0) mode.Free (now (a .order)) .number ≡ 0
-  zero = rw (c .before .before .judge .ensures) at (c .if3 .left)
+  zero = rw (c .before .before .judge .ensures) at (c .if2 .left)
 
-  whole : let a = arcs c .before .before .before .before .before .before .before .args in
+  whole : let a = args (arcs c .before) .args in
       checking (a .t) (a .destination .0) mode.Free (now (a .order)) ≡ answer 0 0
-  whole = let-through _ (passed (arcs c .before .before .before)) _ (place (arcs c .before)) _ zero
+  whole = let-through _ (passed (arcs c .before) .0) _ (passed (arcs c .before) .1) _ zero
 
-  part-free : let a = arcs c .before .before .before .before .before .before .before .args in
+  part-free : let a = args (arcs c .before) .args in
       Accepted (networkOf (a .t)) (a .destination .0) free (take (reachedCount (networkOf (a .t)) (a .destination .0)) (now (a .order)))
-  part-free = in-free _ (passed (arcs c .before .before .before)) _ (place (arcs c .before)) _ zero .0
+  part-free = in-free _ (passed (arcs c .before) .0) _ (passed (arcs c .before) .1) _ zero .0
 
-  long : let a = arcs c .before .before .before .before .before .before .before .args in
+  long : let a = args (arcs c .before) .args in
       length (tableBytes (networkOf (a .t)) (a .destination .0) (a .t .limit) (take (reachedCount (networkOf (a .t)) (a .destination .0)) (now (a .order))))
       ≡ 4 + 19 * a .t .routers
   long =
-      let a = arcs c .before .before .before .before .before .before .before .args in
-      let s = passed (arcs c .before .before .before) in
+      let a = args (arcs c .before) .args in
+      let s = passed (arcs c .before) .0 in
       table-long (a .t) s (bytes-exact (networkOf (a .t)) (a .destination .0) (a .t .limit) (sound-exact (a .t) .0 s .limit-most) _ _ .0 refl)
 
-returns-4 : tie.Need-returns-4
+returns-3 : tie.Need-returns-3
 unfolding filling unlessRefused given turnedAway
-returns-4 c = rw (whole (c .before), long (c .before), lt-ltb _ _ (c .if4 .taken))
+returns-3 c = rw (whole (c .before), long (c .before), lt-ltb _ _ (c .if3 .taken))
 
 -- from the count of the reached ranks back to the last test
-abbrev tested : tie.After-reached-count → tie.Else4
+abbrev tested : tie.After-reached-count → tie.Else3
 tested c = c .before .before
 
-reach : (c : tie.After-reached-count) → let a = arcs (tested c .before) .before .before .before .before .before .before .before .args in
+reach : (c : tie.After-reached-count) → let a = args (arcs (tested c .before) .before) .args in
     c .reached-count .result ≡ reachedCount (networkOf (a .t)) (a .destination .0)
 reach c = c .reached-count .ensures ∙ counts-reached (measured (tested c .before .before .before .before))
 
-part-long : (c : tie.After-reached-count) → let a = arcs (tested c .before) .before .before .before .before .before .before .before .args in
+part-long : (c : tie.After-reached-count) → let a = args (arcs (tested c .before) .before) .args in
     length (take (c .reached-count .result) (now (a .order))) ≡ c .reached-count .result
 part-long c =
     let e = tested c .before in
     let o = arcs e in
-    let order = now (o .before .before .before .before .before .before .before .args .order) in
-    ap (λ (k : ℕ). length (take k order)) (reach c) ∙ free-long _ (passed (o .before .before .before)) _ (place (o .before)) (part-free e) ∙ sym (reach c)
+    let order = now (args (o .before) .args .order) in
+    ap (λ (k : ℕ). length (take k order)) (reach c) ∙ free-long _ (passed (o .before) .0) _ (passed (o .before) .1) (part-free e) ∙ sym (reach c)
 
 fill-requires : tie.Need-fill-requires
 unfolding rowStart
@@ -138,24 +134,24 @@ fill-requires c κs =
     let r = c .before .before in
     let e = tested r .before in
     let o = arcs e in
-    let s = passed (o .before .before .before) in (
+    let (s, place) = passed (o .before) in (
       subst
-          (λ (k : ℕ). Fillable (o .before .before .before .before .before .before .before .args .t) (o .of .result) (e .before .before .before .to .result)
-          (o .before .before .before .before .before .before .before .args .destination .0)
-          (o .before .before .before .before .before .before .before .args .t .limit)
-          (take k (now (o .before .before .before .before .before .before .before .args .order))))
+          (λ (k : ℕ). Fillable (args (o .before) .args .t) (o .of .result) (e .before .before .before .to .result)
+          (args (o .before) .args .destination .0)
+          (args (o .before) .args .t .limit)
+          (take k (now (args (o .before) .args .order))))
           (sym (reach r))
-          (fillable _ s _ (place (o .before)) (o .of .ensures) (measured (e .before .before .before) .settled) (sound-exact _ .0 s .limit-most) (part-free e)),
-      tested r .if4 .left,
+          (fillable _ s _ place (o .of .ensures) (measured (e .before .before .before) .settled) (sound-exact _ .0 s .limit-most) (part-free e)),
+      tested r .if3 .left,
     )
 
-returns-5 : tie.Need-returns-5
+returns-4 : tie.Need-returns-4
 unfolding filling unlessRefused given turnedAway rowStart
-returns-5 c =
+returns-4 c =
     let f = c .before .before in
     let r = f .before .before .before in
     let b = tested r in
-    rw (f .fill .ensures, reach r, whole (b .before), long (b .before), le-ltb _ _ (b .if4 .left))
+    rw (f .fill .ensures, reach r, whole (b .before), long (b .before), le-ltb _ _ (b .if3 .left))
 
 pub fill-spec : {M : Type 1} → statement M
 fill-spec =
@@ -163,17 +159,15 @@ fill-spec =
     (tie.spec
     (λ c κs. search needs)
     returns
-    (λ c κs. search needs)
-    returns-2
     of-requires
     to-requires
     (λ c κs. measured c)
+    returns-2
+    (λ c. omega (arith, few c))
+    (λ c. omega (arith, few c))
     returns-3
-    (λ c. omega (arith, few c))
-    (λ c. omega (arith, few c))
-    returns-4
     (λ c κs. few (c .before .before))
     (λ c. sym (part-long (c .before)))
     fill-requires
     (λ c. search needs)
-    returns-5)
+    returns-4)
