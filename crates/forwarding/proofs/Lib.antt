@@ -1,3 +1,10 @@
 pub mod Returned
 pub mod Loan
+pub mod Parameters
+pub mod Handed
+pub mod Answered
+pub mod LentCall
+pub mod Storing
+pub mod Lends
+pub mod Packets
 pub mod Unchanged
