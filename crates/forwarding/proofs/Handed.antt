@@ -75,14 +75,14 @@ pub stayed : {n : ℕ} (p : Param n) (κs : Lfts n) (x : p .slot .row κs .Denot
 stayed p κs x = subst (λ e. Last e x) (sym (p .still κs)) tt
 
 -- the first parameter, whatever it is: what is had of it at exit, and its machine values
-pub record First (n : ℕ) : Type 2 where
+pub record FirstParam (n : ℕ) : Type 2 where
   pub slot : Slot n
   pub stay : Stay slot yes
   pub vals : (κs : Lfts n) → slot .row κs .Denot → List Val
   pub tells : (κs : Lfts n) → Tells (slot .row κs) (Is (slot .row κs)) (vals κs)
   pub goes : {M : Type 1} (𝓤 : URA M) (H : Heap 𝓤) (A : Atoms 𝓤) (W : Given 𝓤 H A) → Goes 𝓤 H A W n slot yes stay
 
-abbrev pub as-first : {n : ℕ} → Param n → First n
+abbrev pub as-first : {n : ℕ} → Param n → FirstParam n
 as-first p = record { slot = p .slot; stay = staying p; vals = p .vals; tells = p .tells; goes = λ 𝓤 H A W. stays 𝓤 H A W p }
 
 -- ---- a list of parameters: their types, those of their locals, their values, what they own, and what is had of them at exit
@@ -157,18 +157,19 @@ module _ {M : Type 1} (𝓤 : URA M) (H : Heap 𝓤) (A : Atoms 𝓤) (W : Given
   goes (p ∷ ps) = (stays 𝓤 H A W p, goes ps)
 
   -- a run that goes from what is had on entry to what is owed at exit, for all arguments, meets the contract
-  module _ (f : First n) (ps : List (Param n)) (result : Slot n) (c : Clauses 𝓤 (handing (f .slot) ps result)) where
+  module _ (f : FirstParam n) (ps : List (Param n)) (result : Slot n) (c : Clauses 𝓤 (handing (f .slot) ps result)) where
     module _ (κs : Lfts n) (qs : Shares n) (x : f .slot .row κs .Denot) (a : Args κs ps) (g : c κs (x, a) .ghost) where
       abbrev pub Owed : Val → SProp 𝓤
       Owed = walkOf 𝓤 H A (handing (f .slot) ps result) (f .stay, kept ps) c .post ((κs, qs, tt, (x, a), (f .vals κs x, values κs ps a)), g)
 
-      pub owed : (v : Val) (r : result .row κs .Denot) (w : Last (f .slot .row κs .exit yes) x) → f .stay .fit κs x w →
-          ent 𝓤 (sep 𝓤 (sep 𝓤 (toks 𝓤 A n κs qs) (sep 𝓤 (sem 𝓤 H A (fsep (f .stay .has κs x w (f .vals κs x)) (others κs ps a))) (sem 𝓤 H A (result .row κs .own r (v ∷ [])))))
-          (c κs (x, a) .ensures g r (atExit (handing (f .slot) ps result) κs (x, a) (w, ends κs ps a)))) (Owed v)
+      abbrev Ending : Fml → Val → (r : result .row κs .Denot) → Last (f .slot .row κs .exit yes) x → SProp 𝓤
+      Ending F v r w =
+          sep 𝓤 (sep 𝓤 (toks 𝓤 A n κs qs) (sep 𝓤 (sem 𝓤 H A (fsep (f .stay .has κs x w (f .vals κs x)) F)) (sem 𝓤 H A (result .row κs .own r (v ∷ [])))))
+          (c κs (x, a) .ensures g r (atExit (handing (f .slot) ps result) κs (x, a) (w, ends κs ps a)))
+
+      pub owed : (v : Val) (r : result .row κs .Denot) (w : Last (f .slot .row κs .exit yes) x) → f .stay .fit κs x w → ent 𝓤 (Ending (others κs ps a) v r w) (Owed v)
       owed v r w fit =
-          subst (λ (F : Fml). ent 𝓤 (sep 𝓤 (sep 𝓤 (toks 𝓤 A n κs qs) (sep 𝓤 (sem 𝓤 H A (fsep (f .stay .has κs x w (f .vals κs x)) F)) (sem 𝓤 H A (result .row κs .own r (v ∷ [])))))
-          (c κs (x, a) .ensures g r (atExit (handing (f .slot) ps result) κs (x, a) (w, ends κs ps a)))) (Owed v))
-          (sym (has-is κs ps a (ends κs ps a) (values κs ps a)))
+          subst (λ (F : Fml). ent 𝓤 (Ending F v r w) (Owed v)) (sym (has-is κs ps a (ends κs ps a) (values κs ps a)))
           (ends-at 𝓤 H A (handing (f .slot) ps result) (f .stay, kept ps) c W ((κs, qs, tt, (x, a), (f .vals κs x, values κs ps a)), g) v r (w, ends κs ps a)
           (fit, fits κs ps a (ends κs ps a)))
 

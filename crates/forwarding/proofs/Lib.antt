@@ -2,7 +2,7 @@ pub mod Returned
 pub mod Loan
 pub mod Parameters
 pub mod Handed
-pub mod Answered
+pub mod Answering
 pub mod LentCall
 pub mod Storing
 pub mod Lends

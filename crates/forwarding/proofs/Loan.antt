@@ -26,14 +26,14 @@ use denote.Struct.Declared.{Declared, fields, shape, row}
 use denote.Struct.Laws as LL
 
 -- a struct that is lent: its fields' laws, that it is Copy and owns only facts, and how it is lowered
-pub record Lent : Type 2 where
+pub record Lendable : Type 2 where
   pub type : Declared
   pub laws : LL.Laws type
   pub copy : LL.Copyables (type .parts)
   pub plain : Plains (fields type)
   pub low : LL.Lowered type
 
-module _ (P : Lent) where
+module _ (P : Lendable) where
   -- its machine type and values, and what whoever holds it knows of it
   abbrev pub ty : Ty
   ty = layout (shape (P .type))

@@ -1,8 +1,8 @@
 -- A setting that sets nothing and a hop that moves nothing leave the packet of before, by cases of what they say: so where the flag is down, nothing need be
 -- stored.
 -- Assumes nothing.
-use mathlib.Core.Path.{_≡_, refl, ap, subst, _∙_}
-use mathlib.Core.Bool.{Bool, not}
+use mathlib.Core.Path.{_≡_, refl, ap, subst}
+use mathlib.Core.Bool.{not}
 use Prim.Native.Nat.{ℕ}
 use mathlib.Core.List.{List}
 use lib.Dec.{T}
@@ -11,19 +11,14 @@ use Rattle.network.specs.Forwarding.{Packet}
 use Rattle.topology_types.specs.declared.Topology.{Topology}
 use Rattle.forwarding_rules.specs.Calls.{Said, done, refused, settingAt, hopping}
 use Rattle.forwarding_rules.specs.Lent.{Left, packetAfterSetting, packetAfterHop, settingPacket, hoppingPacket}
-use Rattle.forwarding.specs.Inner.{Change, isSet, isMoved, settingChange, hoppingChange}
+use Rattle.forwarding.specs.Inner.{isSet, isMoved}
 
 module _ {A : Type 0} where
   abbrev leaving : Said A → Packet ℕ → Left A
   leaving s p = record { answer = s; packet = p }
 
-  abbrev by-flag : Left A → Bool → Change A
-  by-flag l y = record { left = l; changed = y }
-
-  kept : (p q : Packet ℕ) (s : Said A) (y : Bool) → (T (not y) → p ≡ q) → (x : Change A) → x ≡ by-flag (leaving s q) y → T (not (x .changed)) →
-      leaving (x .left .answer) p ≡ leaving s q
-  kept p q s y same x e h =
-      ap (λ (c : Change A). leaving (c .left .answer) p) e ∙ ap (leaving s) (same (subst (λ (z : Bool). T (not z)) (ap (λ (c : Change A). c .changed) e) h))
+  kept : (after : Packet ℕ → Said A → Packet ℕ) (p z : Packet ℕ) (s s′ : Said A) → p ≡ after p s → leaving s z ≡ leaving s′ (after p s′) → leaving s p ≡ leaving s′ (after p s′)
+  kept after p z s s′ same e = subst (λ (x : Said A). leaving s p ≡ leaving x (after p x)) (ap (λ (l : Left A). l .answer) e) (ap (leaving s) same)
 
 not-set : (p : Packet ℕ) (s : Said (Packet ℕ)) → T (not (isSet s)) → p ≡ packetAfterSetting p s
 unfolding isSet packetAfterSetting
@@ -37,20 +32,11 @@ not-moved p (done (network.moved q)) h = absurd h
 not-moved p (done network.dropped) h = refl
 not-moved p (refused number at) h = refl
 
-module _ (t : Topology) (u : ℕ) (p : Packet ℕ) (x : Change (Packet ℕ)) (e : x ≡ settingChange t u p) where
-  pub set-stored : x .left ≡ settingPacket t u p
-  unfolding settingChange
-  set-stored = ap (λ (c : Change (Packet ℕ)). c .left) e
+pub set-kept : (t : Topology) (u : ℕ) (p z : Packet ℕ) (s : Said (Packet ℕ)) → leaving s z ≡ settingPacket t u p → T (not (isSet s)) → leaving s p ≡ settingPacket t u p
+unfolding settingPacket
+set-kept t u p z s e h = kept packetAfterSetting p z s (settingAt t u) (not-set p s h) e
 
-  pub set-kept : T (not (x .changed)) → leaving (x .left .answer) p ≡ settingPacket t u p
-  unfolding settingChange settingPacket
-  set-kept = kept p _ (settingAt t u) (isSet (settingAt t u)) (not-set p (settingAt t u)) x e
-
-module _ (t : Topology) (table states : List ℕ) (p : Packet ℕ) (x : Change (network.Hop ℕ)) (e : x ≡ hoppingChange t table states p) where
-  pub hop-stored : x .left ≡ hoppingPacket t table states p
-  unfolding hoppingChange
-  hop-stored = ap (λ (c : Change (network.Hop ℕ)). c .left) e
-
-  pub hop-kept : T (not (x .changed)) → leaving (x .left .answer) p ≡ hoppingPacket t table states p
-  unfolding hoppingChange hoppingPacket
-  hop-kept = kept p _ (hopping t table states p) (isMoved (hopping t table states p)) (not-moved p (hopping t table states p)) x e
+pub hop-kept : (t : Topology) (table states : List ℕ) (p z : Packet ℕ) (s : Said (network.Hop ℕ)) → leaving s z ≡ hoppingPacket t table states p → T (not (isMoved s)) →
+    leaving s p ≡ hoppingPacket t table states p
+unfolding hoppingPacket
+hop-kept t table states p z s e h = kept packetAfterHop p z s (hopping t table states p) (not-moved p s h) e

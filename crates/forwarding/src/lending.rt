@@ -7,7 +7,7 @@ use topology_types::Topology;
 ghost use mathlib.Core.Path.{_≡_};
 ghost use Rattle.forwarding_rules.specs.Calls.{packetIn, settingSays, hopSays};
 ghost use Rattle.forwarding_rules.specs.Lent.{packetAfterSetting, packetAfterHop, settingPacket, hoppingPacket};
-ghost use Rattle.forwarding.specs.Inner.{isSet, isMoved, settingChange, hoppingChange};
+ghost use Rattle.forwarding.specs.Inner.{isSet, isMoved};
 
 // What a setting of a packet answers, and the packet as it leaves it.
 pub struct AfterSetting {
@@ -19,20 +19,6 @@ pub struct AfterSetting {
 pub struct AfterHop {
     pub answer: Hopped,
     pub packet: Packet,
-}
-
-// What a setting leaves, and whether it set the packet: only then is it stored.
-struct LeftBySetting {
-    answer: Setting,
-    packet: Packet,
-    set: bool,
-}
-
-// What a hop leaves, and whether it moved the packet: only then is it stored.
-struct LeftByHop {
-    answer: Hopped,
-    packet: Packet,
-    moved: bool,
 }
 
 // Whether a setting of this answer set the packet.
@@ -80,30 +66,26 @@ fn packet_after_hop(answer: Hopped, packet: Packet) -> Packet
 }
 
 // What a setting of this packet answers and leaves.
-fn left_by_setting(packet: Packet, t: Topology, start: Place) -> LeftBySetting
-    ensures { λ r. ⌜ record { left = record { answer = settingSays (r .answer); packet = packetIn (r .packet) }; changed = r .set } ≡ settingChange t (start .0) (packetIn packet) ⌝ }
+fn left_by_setting(packet: Packet, t: Topology, start: Place) -> AfterSetting
+    ensures { λ r. ⌜ record { answer = settingSays (r .answer); packet = packetIn (r .packet) } ≡ settingPacket t (start .0) (packetIn packet) ⌝ }
 {
     let answer = super::set(t, start);
     let after = packet_after_setting(answer, packet);
-    let set = is_set(answer);
-    LeftBySetting {
+    AfterSetting {
         answer: answer,
         packet: after,
-        set: set,
     }
 }
 
 // What a hop of this packet answers and leaves.
-fn left_by_hop(packet: Packet, t: Topology, table: &[u8], states: &[u8]) -> LeftByHop
-    ensures { λ r. ⌜ record { left = record { answer = hopSays (r .answer); packet = packetIn (r .packet) }; changed = r .moved } ≡ hoppingChange t (now (table .entry)) (now (states .entry)) (packetIn packet) ⌝ }
+fn left_by_hop(packet: Packet, t: Topology, table: &[u8], states: &[u8]) -> AfterHop
+    ensures { λ r. ⌜ record { answer = hopSays (r .answer); packet = packetIn (r .packet) } ≡ hoppingPacket t (now (table .entry)) (now (states .entry)) (packetIn packet) ⌝ }
 {
     let answer = super::hop(t, table, states, packet);
     let after = packet_after_hop(answer, packet);
-    let moved = is_moved(answer);
-    LeftByHop {
+    AfterHop {
         answer: answer,
         packet: after,
-        moved: moved,
     }
 }
 
@@ -112,7 +94,7 @@ pub fn set_packet(packet: &mut Packet, t: Topology, start: Place) -> Setting
     ensures { λ r. ⌜ record { answer = settingSays r; packet = packetIn (now (packet .exit)) } ≡ settingPacket t (start .0) (packetIn (now (packet .entry))) ⌝ }
 {
     let left = left_by_setting(*packet, t, start);
-    if left.set {
+    if is_set(left.answer) {
         *packet = left.packet;
     }
     left.answer
@@ -123,7 +105,7 @@ pub fn hop_packet(packet: &mut Packet, t: Topology, table: &[u8], states: &[u8])
     ensures { λ r. ⌜ record { answer = hopSays r; packet = packetIn (now (packet .exit)) } ≡ hoppingPacket t (now (table .entry)) (now (states .entry)) (packetIn (now (packet .entry))) ⌝ }
 {
     let left = left_by_hop(*packet, t, table, states);
-    if left.moved {
+    if is_moved(left.answer) {
         *packet = left.packet;
     }
     left.answer

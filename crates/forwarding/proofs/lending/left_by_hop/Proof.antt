@@ -1,13 +1,10 @@
--- `forwarding::lending::left_by_hop` meets its contract: the packet and the flag are those after what the hop says.
+-- `forwarding::lending::left_by_hop` meets its contract: the packet is that after what the hop says.
 -- Assumes nothing.
 use borrow.Author.Needs.{needs}
 use Rattle.forwarding_rules.specs.Lent.{hoppingPacket}
-use Rattle.forwarding.specs.Inner.{hoppingChange}
 use Rattle.forwarding.proofs.lending.left_by_hop.Statement.{statement}
 use Rattle.forwarding.proofs.lending.left_by_hop.Tie as tie
 
 pub left-by-hop-spec : {M : Type 1} → statement M
-unfolding hoppingPacket hoppingChange
-left-by-hop-spec =
-    tie.close (tie.spec (λ c κs. search needs) (λ c κs. search needs) (λ c κs. search needs)
-    (λ c. rw (← c .before .before .hop .ensures, c .before .packet-after-hop .ensures, c .is-moved .ensures)))
+unfolding hoppingPacket
+left-by-hop-spec = tie.close (tie.spec (λ c κs. search needs) (λ c κs. search needs) (λ c. rw (← c .before .hop .ensures, c .packet-after-hop .ensures)))
