@@ -95,11 +95,11 @@ hopText (said.done dropped) p = packetLine droppedWord p
 hopText (said.refused number at) p = wordLine refusedWord number at
 
 -- the packet as a setting left it is held from then on
-unfoldable pub setAnswer : Held → Left (Packet ℕ) → Answered
+unfoldable pub setAnswer : Held → Left ℕ (Packet ℕ) → Answered
 setAnswer h l = record { held = carrying h (l .packet); text = setText (l .answer) (l .packet) }
 
 -- as a hop left it
-unfoldable pub hopAnswer : Held → Left (Hop ℕ) → Answered
+unfoldable pub hopAnswer : Held → Left ℕ (Hop ℕ) → Answered
 hopAnswer h l = record { held = carrying h (l .packet); text = hopText (l .answer) (l .packet) }
 
 -- what a call returned is held from then on, beside the table and the packet

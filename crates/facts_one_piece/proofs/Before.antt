@@ -49,8 +49,7 @@ use Rattle.forwarding_rules.specs.Calls.{figure, figureByte, figures}
 use Rattle.forwarding_rules.specs.Theorems.{destinationByte, rankByte, Reached}
 use Rattle.forwarding_rules.proofs.Listed.{ranks-tell}
 use Rattle.forwarding_rules.proofs.Figures.{figures-exact}
-use Rattle.forwarding_rules.proofs.CallLists.{calls-exact}
-use Rattle.forwarding_rules.proofs.Walks.{shortest-walks}
+use Rattle.forwarding_rules.proofs.Routers.{shortest-walks, calls-exact}
 use Rattle.paths_rules.proofs.Right.{paths-exact}
 use Rattle.listing_rules.proofs.Right.{lists-right}
 use Rattle.facts_one_piece.specs.Theorems.{InOnePiece, judgedWhole, Orders, Filled, Stations, AsBefore, OnePieceAsBefore}

@@ -29,7 +29,8 @@ use Rattle.table.specs.Calls.{filling, tableChecking}
 use Rattle.table.specs.Theorems.{RankAt, GivenBy, limitSetTo}
 use Rattle.forwarding_rules.specs.Calls.{figure, figures}
 use Rattle.forwarding_rules.specs.Lists.{PacketCall, set-at, hop-under, afterAll, lastSetIn}
-use Rattle.forwarding_rules.specs.Theorems.{destinationByte, FigureExact, SoundStates, SoundSchedule, ShortestWalk}
+use Rattle.forwarding_rules.specs.Theorems.{destinationByte, SoundStates, SoundSchedule, routerTable, ShortestWalk}
+use Rattle.forwarding_rules.specs.Theorems.Demand3.{FigureExact}
 use Rattle.paths_rules.specs.Calls.{pathsOf}
 use Rattle.listing_rules.specs.Theorems.{LineIs, LinesListed}
 
@@ -71,13 +72,13 @@ pub record Filled (t : Topology) (d : ℕ) (order buffer : List ℕ) : Type 0 wh
 -- shortest walk, and #103's longest path.
 pub record Stations (t : Topology) (table : List ℕ) : Type 0 where
   pub figures-are : figures t table ≡ map (figure t table) (below (t .routers))
-  pub by-walks : (u : ℕ) → u < t .routers → FigureExact t table u
-  pub never-passed : (p : Packet ℕ) (first : ℕ) → first < t .routers → (cs : List PacketCall) →
-      (lastSetIn t table cs first < t .routers)
-      × (afterAll t table (set-at first ∷ cs) p .hops ≤ getD (figures t table) (lastSetIn t table cs first) 0)
-  pub reached : (p : Packet ℕ) (s : ℕ) → s < t .routers → (cs : List PacketCall) × (lastSetIn t table cs s ≡ s)
-      × (afterAll t table (set-at s ∷ cs) p .hops ≡ getD (figures t table) s 0)
-      × ((c : PacketCall) → List·Memᴰ c cs → (states : List ℕ) × (c ≡ hop-under states) × SoundStates t states)
+  pub by-walks : (u : ℕ) → u < t .routers → FigureExact (routerTable t table) u
+  pub never-passed : (p : Packet ℕ) (first : ℕ) → first < t .routers → (cs : List (PacketCall (List ℕ))) →
+      (lastSetIn (routerTable t table) cs first < t .routers)
+      × (afterAll (routerTable t table) (set-at first ∷ cs) p .hops ≤ getD (figures t table) (lastSetIn (routerTable t table) cs first) 0)
+  pub reached : (p : Packet ℕ) (s : ℕ) → s < t .routers → (cs : List (PacketCall (List ℕ))) × (lastSetIn (routerTable t table) cs s ≡ s)
+      × (afterAll (routerTable t table) (set-at s ∷ cs) p .hops ≡ getD (figures t table) s 0)
+      × ((c : PacketCall (List ℕ)) → List·Memᴰ c cs → (states : List ℕ) × (c ≡ hop-under states) × SoundStates t states)
   pub shortest : Accepted (networkOf t) (destinationByte table) shortest-path (orderIn (t .routers) table) → (u : ℕ) → u < t .routers →
       (schedule : List ℕ) → SoundSchedule t schedule → ((b : ℕ) → List·Memᴰ b schedule → b ≡ 1) → ShortestWalk t table u schedule
   pub longest-one : (u : ℕ) → u < t .routers → (p : List ℕ) × List·Memᴰ p (pathsOf t table u) × (length p ≡ suc (getD (figures t table) u 0))

@@ -10,10 +10,8 @@ use Rattle.topology_sound.proofs.Sound.{sound-networks}
 use Rattle.order.proofs.Orders.{builds-by-rule, checks-exact}
 use Rattle.table.proofs.Fills.{fills-well}
 use Rattle.table.proofs.Verdicts.{tables-exact}
-use Rattle.forwarding_rules.proofs.Hops.{hops-by-rule}
-use Rattle.forwarding_rules.proofs.Figures.{figures-reported, figures-exact}
-use Rattle.forwarding_rules.proofs.CallLists.{calls-exact}
-use Rattle.forwarding_rules.proofs.Walks.{cut-off-drops, shortest-walks, walks-end, walks-by-hops}
+use Rattle.forwarding_rules.proofs.Routers.{shortest-walks, tables-meet}
+use Rattle.forwarding_rules.proofs.Figures.{figures-reported}
 use Rattle.ospf.specs.Import.{importing}
 use Rattle.ospf.proofs.Verdict.{import-sound}
 use Rattle.facts_ospf.specs.Theorems.{OrdersAndRows, ImportMeets}
@@ -38,14 +36,5 @@ import-meets file bytes z =
     record {
       is-sound = s;
       demand-2 = orders-and-rows t s;
-      demand-3 = λ table ok.
-          record {
-            reported = figures-reported t s table ok;
-            by-walks = figures-exact t s table ok;
-            cut-off = cut-off-drops t s table ok;
-            by-hops = calls-exact t s table ok;
-            each-hop = hops-by-rule t s table ok;
-            ends = walks-end t s table ok;
-            walks-too = walks-by-hops t s table ok;
-          };
+      demand-3 = λ table ok. record { reported = figures-reported t s table ok; claims = tables-meet t s table ok };
     }

@@ -6,7 +6,6 @@ use mathlib.Core.Logic.{_↔_}
 use mathlib.Core.Path.{_≡_}
 use lib.Dec.{T}
 use lib.ListN.{length}
-use Rattle.network.specs.Forwarding.{Packet, Walk}
 use Rattle.network.specs.Order.{shortest-path, free}
 use Rattle.network.specs.Theorems.Distance.{DistanceExact}
 use Rattle.network.specs.Theorems.Order.{Accepted}
@@ -21,8 +20,8 @@ use Rattle.order.specs.Theorems.{InBoth, OrderHeld, BuiltWell}
 use Rattle.table.specs.Listed.{orderIn}
 use Rattle.table.specs.Calls.{tableChecking}
 use Rattle.table.specs.Theorems.{FilledWell, SomeGive}
-use Rattle.forwarding_rules.specs.Calls.{done, walking}
-use Rattle.forwarding_rules.specs.Theorems.{destinationByte, Reached, SoundSchedule, Reports, FigureExact, CutOff, CallsBounded, ShortestWalk, PacketStands, SoundStates, HopByRule, WalkEnds, ByHops}
+use Rattle.forwarding_rules.specs.Theorems.{destinationByte, Reached, SoundSchedule, routerTable, Reports, ShortestWalk}
+use Rattle.forwarding_rules.specs.Theorems.Demand3.{Claims}
 use Rattle.ospf.specs.Import.{importing}
 
 -- demand 2: distances are exact, orders are built by 01's rule, checking answers 0 exactly for the bytes of those that it accepts, tables are filled from
@@ -46,13 +45,7 @@ pub record OrdersAndRows (t : Topology) : Type 0 where
 -- where no link to a listed next hop is up
 pub record HopCounts (t : Topology) (table : List ℕ) : Type 0 where
   pub reported : (buffer : List ℕ) → Reports t table buffer
-  pub by-walks : (u : ℕ) → u < t .routers → Reached t table u → FigureExact t table u
-  pub cut-off : (u : ℕ) → u < t .routers → (Reached t table u → ⊥) → CutOff t table u
-  pub by-hops : CallsBounded t table
-  pub each-hop : (states : List ℕ) (p : Packet ℕ) → PacketStands t p → SoundStates t states → HopByRule t table states p
-  pub ends : (u : ℕ) → u < t .routers → (schedule : List ℕ) → SoundSchedule t schedule → WalkEnds t table u schedule
-  pub walks-too : (u : ℕ) (schedule : List ℕ) (w : Walk ℕ) → walking t table u schedule ≡ done w →
-      (cost : ℕ) × ByHops t table schedule (record { station = u; hops = 0 }) w cost
+  pub claims : Claims (routerTable t table)
 
 -- 02, #106: the hop-count statement covers the result, and so do the others
 pub record Imported (file : List ℕ) : Type 0 where

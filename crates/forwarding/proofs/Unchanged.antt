@@ -14,11 +14,11 @@ use Rattle.forwarding_rules.specs.Lent.{Left, packetAfterSetting, packetAfterHo
 use Rattle.forwarding.specs.Inner.{isSet, isMoved}
 
 module _ {A : Type 0} where
-  abbrev leaving : Said A → Packet ℕ → Left A
+  abbrev leaving : Said A → Packet ℕ → Left ℕ A
   leaving s p = record { answer = s; packet = p }
 
   kept : (after : Packet ℕ → Said A → Packet ℕ) (p z : Packet ℕ) (s s′ : Said A) → p ≡ after p s → leaving s z ≡ leaving s′ (after p s′) → leaving s p ≡ leaving s′ (after p s′)
-  kept after p z s s′ same e = subst (λ (x : Said A). leaving s p ≡ leaving x (after p x)) (ap (λ (l : Left A). l .answer) e) (ap (leaving s) same)
+  kept after p z s s′ same e = subst (λ (x : Said A). leaving s p ≡ leaving x (after p x)) (ap (λ (l : Left ℕ A). l .answer) e) (ap (leaving s) same)
 
 not-set : (p : Packet ℕ) (s : Said (Packet ℕ)) → T (not (isSet s)) → p ≡ packetAfterSetting p s
 unfolding isSet packetAfterSetting

@@ -1,211 +1,178 @@
--- Each call over an accepted table does what network's call does, tests included, so that network's bound on lists of calls is the bound here: the figure
--- of the station last set where that is reached, and 0 where it is not.
+-- Lists of calls over a system. What one call leaves is read off what it answers. Every call keeps hops made plus the station's longest way at most that of
+-- where the packet was last set; the hops of a longest way, each under valid states and none of them refused, attain it.
 -- Assumes nothing.
-use Prim.Native.Nat.{ℕ, _≤_, _<_}
-use mathlib.Core.Bool.{Bool, true, false, cond}
-use mathlib.Core.List.{List, [], _∷_, map}
+use Prim.Native.Nat.{ℕ, zero, suc, _+_, _≤_, _<_}
+use mathlib.Core.List.{List, [], _∷_, _++_, map, List·Memᴰ, List·Memᴰ·head, List·Memᴰ·tail, List·Memᴰ·not-nil}
 use mathlib.Core.Logic.{_⊎_, inl, inr, ⊎-elim}
-use mathlib.Core.Path.{_≡_, refl, sym, ap, _∙_}
-use native.Mathlib.Decide.{decLt}
+use mathlib.Core.Path.{_≡_, refl, sym, ap, _∙_, subst}
 use native.Mathlib.Omega.{arith}
-use lib.Dec.{T, ltb, ltb→lt, lt→ltb}
-use Rattle.network.specs.Network.{size}
+use lib.ListN.{length}
+use Rattle.network.specs.Lists.{greatestBy}
 use Rattle.network.specs.Forwarding as network
-use Rattle.network.specs.Forwarding.{Forwarding, Packet, hop, start}
-use Rattle.network.specs.Calls as calls
-use Rattle.network.specs.Calls.{Tests, afterCall, afterCalls, setBy, lastSet}
-use Rattle.network.specs.Routing.{routers, greatestHop, callTests}
-use Rattle.network.specs.Theorems.Calls as theorems
-use Rattle.network.proofs.Tests.{truth, passes, fails}
+use Rattle.network.specs.Forwarding.{Forwarding, Packet, start, longest}
 use Rattle.network.proofs.Hops.{Hopped, stays-home, stuck, went, hopped}
-use Rattle.network.proofs.Routing.{tests-right, routers-calls}
-use Rattle.topology_types.specs.declared.Topology.{Topology}
-use Rattle.topology_types.specs.Topology.{networkOf}
-use Rattle.topology_types.specs.Outcome.{answer}
-use Rattle.topology_sound.specs.Sound.{sound}
-use Rattle.table.specs.Calls.{tableChecking}
-use Rattle.forwarding_rules.specs.Calls.{Said, done, refused, settingAt, hopping}
-use Rattle.forwarding_rules.specs.Lent.{packetAfterSetting, packetAfterHop, settingPacket, hoppingPacket}
+use Rattle.network.proofs.Forwarding.{Way, stop, down, lower, longest-way, hop-down}
+use Rattle.forwarding_rules.specs.Calls.{Said, done, refused}
+use Rattle.forwarding_rules.specs.Lent.{packetAfterSetting, packetAfterHop}
+use Rattle.forwarding_rules.specs.System.{System}
 use Rattle.forwarding_rules.specs.Lists.{PacketCall, set-at, hop-under, lastAfter, afterOne, afterAll, setAfter, lastSetIn}
-use Rattle.forwarding_rules.specs.Theorems.{PacketStands, CallsBounded, CallsExact}
-use Rattle.forwarding_rules.proofs.Calls.{settings-answer}
-use Rattle.forwarding_rules.proofs.Listed.{Over, over, reached-or, figure-reached, figure-unreached, hops-unreached}
-use Rattle.forwarding_rules.proofs.Answers.{hops-done}
-use Rattle.forwarding_rules.proofs.Reaching.{reaching}
+use Rattle.forwarding_rules.specs.Theorems.Demand3.{CallRule, InTurn, CallsBounded}
+use Rattle.forwarding_rules.specs.Inner.{LeftByAnswer, Laws}
 
 -- what is answered is done or refused
 kinds : {A : Type 0} (said : Said A) → ((x : A) × (said ≡ done x)) ⊎ ((number at : ℕ) × (said ≡ refused number at))
 kinds (done x) = inl (x, refl)
 kinds (refused number at) = inr (number, at, refl)
 
-after-done : (p : Packet ℕ) (h : network.Hop ℕ) → packetAfterHop p (done h) ≡ calls.afterHop p h
-unfolding packetAfterHop calls.afterHop
-after-done p network.delivered = refl
-after-done p (network.moved q) = refl
-after-done p network.dropped = refl
+pub in-turn : (s : System) (p : Packet (s .forwarding .State)) (last : ℕ) → InTurn s p last
+unfolding afterAll lastSetIn
+in-turn s p last = record { no-calls = (refl, refl); one-more = λ cs c. last-call cs c p last }
+  where
+    last-call : (cs : List (PacketCall (s .forwarding .States))) (c : PacketCall (s .forwarding .States)) (q : Packet (s .forwarding .State)) (u : ℕ) →
+        (afterAll s (cs ++ (c ∷ [])) q ≡ afterOne s c (afterAll s cs q)) × (lastSetIn s (cs ++ (c ∷ [])) u ≡ setAfter s c (lastSetIn s cs u))
+    last-call [] c q u = (refl, refl)
+    last-call (e ∷ cs) c q u = last-call cs c (afterOne s e q) (setAfter s e u)
 
-module _ (t : Topology) (good : T (sound t)) (table : List ℕ) (right : tableChecking t table ≡ answer 0 0) (o : Over t table) where
+pub each-call : (s : System) → LeftByAnswer s → (p : Packet (s .forwarding .State)) (last : ℕ) → CallRule s p last
+unfolding afterOne setAfter packetAfterSetting packetAfterHop lastAfter
+each-call s left p last =
+    record {
+      set-leaves = λ u. refl;
+      hop-leaves = λ x. refl;
+      sets = λ u q e. (left .set-leaves u p ∙ ap (packetAfterSetting p) e, ap (lastAfter u last) e);
+      set-refused = λ u number at e. (left .set-leaves u p ∙ ap (packetAfterSetting p) e, ap (lastAfter u last) e);
+      hops = λ x q e. left .hop-leaves x p ∙ ap (packetAfterHop p) e;
+      stays = λ x h. left .hop-leaves x p ∙ ⊎-elim (λ e. ap (packetAfterHop p) e) (λ e. ap (packetAfterHop p) e) h;
+      hop-refused = λ x number at e. left .hop-leaves x p ∙ ap (packetAfterHop p) e;
+      hop-sets-nothing = λ x. refl;
+    }
+
+module _ (s : System) (l : Laws s) where
   abbrev f : Forwarding
-  f = routers (networkOf t) (o .d) (o .limit) (o .order)
+  f = s .forwarding
 
-  abbrev tests : Tests f
-  tests = callTests (networkOf t) (o .d) (o .limit) (o .order)
+  -- the longest way from a station
+  abbrev far : f .State → ℕ
+  far st = longest f (l .rows) st
 
-  -- network's call and the call here
-  here : calls.Call f → PacketCall
-  here (calls.setting u) = set-at u
-  here (calls.hopping states) = hop-under states
+  rule : (p : Packet (f .State)) (last : ℕ) → CallRule s p last
+  rule = each-call s (l .left-by)
 
-  there : PacketCall → calls.Call f
-  there (set-at u) = calls.setting u
-  there (hop-under states) = calls.hopping states
+  -- What each call keeps of a packet last set at `last`: it cannot pass the longest way from there, and while no hop is made it stands there.
+  record Kept (last : ℕ) (p : Packet (f .State)) : Type 0 where
+    placed : last < s .places
+    low : l .rank (p .station) ≤ l .rows
+    few : p .hops + far (p .station) ≤ far (s .standing last)
+    still : p .hops ≡ 0 → p .station ≡ s .standing last
 
-  again : (cs : List PacketCall) → map here (map there cs) ≡ cs
-  unfolding here there
-  again [] = refl
-  again (set-at u ∷ cs) = ap (λ (rest : List PacketCall). set-at u ∷ rest) (again cs)
-  again (hop-under states ∷ cs) = ap (λ (rest : List PacketCall). hop-under states ∷ rest) (again cs)
+  renamed : {j k : ℕ} {p q : Packet (f .State)} → k ≡ j → q ≡ p → Kept j p → Kept k q
+  renamed {j} {k} {p} {q} e g h = subst (λ (i : ℕ). Kept i q) (sym e) (subst (Kept j) (sym g) h)
 
-  -- a setting sets the packet below N, and leaves it elsewhere
-  sets : (u : ℕ) (p : Packet ℕ) (last : ℕ) → (packetAfterSetting p (settingAt t u) ≡ cond (ltb u (size (networkOf t))) (start u) p)
-      × (lastAfter last (settingAt t u) ≡ cond (ltb u (size (networkOf t))) u last)
-  unfolding packetAfterSetting lastAfter start
-  sets u p last = step (decLt u (t .routers))
+  begun : (u : ℕ) → u < s .places → Kept u (start (s .standing u))
+  unfolding start
+  begun u place = record { placed = place; low = l .starts u place .1; few = omega arith; still = λ e. refl }
+
+  -- a setting begins anew, and a hop that goes down an entry takes from the longest way what it adds to the hops
+  kept : (c : PacketCall (f .States)) (last : ℕ) (p : Packet (f .State)) → Kept last p → Kept (setAfter s c last) (afterOne s c p)
+  kept (set-at u) last p k = step (kinds (s .setting u))
     where
-      step : Dec (u < t .routers) → (packetAfterSetting p (settingAt t u) ≡ cond (ltb u (size (networkOf t))) (start u) p)
-          × (lastAfter last (settingAt t u) ≡ cond (ltb u (size (networkOf t))) u last)
-      step (yes h) =
-          let ok : T (ltb u (size (networkOf t))) = lt→ltb u (size (networkOf t)) (omega (arith, o .routers-are)) in
-          rw (settings-answer t u .sets good h) (sym (passes (ltb u (size (networkOf t))) ok _ _), sym (passes (ltb u (size (networkOf t))) ok _ _))
-      step (no h) =
-          let out : T (ltb u (size (networkOf t))) → ⊥ = λ l. omega (arith, ltb→lt u (size (networkOf t)) l, o .routers-are) in
-          rw (settings-answer t u .no-place good (omega arith)) (sym (fails (ltb u (size (networkOf t))) out _ _), sym (fails (ltb u (size (networkOf t))) out _ _))
-
-  -- a hop that the tests let pass is made, and one that they do not is refused
-  hop-done : (states : List ℕ) (p : Packet ℕ) → T (tests .hop-ok states p) → hopping t table states p ≡ done (hop f states p)
-  hop-done states p ok =
-      let (station, made, (long, small)) = tests-right (networkOf t) (o .d) (o .limit) (o .order) .1 states p .0 ok in
-      let s : PacketStands t p = record { is-sound = good; station = omega (arith, o .routers-are); hops = omega (arith, o .routers-are) } in
-      hops-done t table states p (hop f states p) .1 (s, (right, (long ∙ o .links-are, (small, o .hop-is states p))))
-
-  done-hop : (states : List ℕ) (p : Packet ℕ) (h : network.Hop ℕ) → hopping t table states p ≡ done h → T (tests .hop-ok states p)
-  done-hop states p h e =
-      let (s, (r, (long, (small, same)))) = hops-done t table states p h .0 e in
-      tests-right (networkOf t) (o .d) (o .limit) (o .order) .1 states p .1
-      (omega (arith, s .station, o .routers-are), omega (arith, s .hops, o .routers-are), (long ∙ sym (o .links-are), small))
-
-  hops : (states : List ℕ) (p : Packet ℕ) → packetAfterHop p (hopping t table states p) ≡ cond (tests .hop-ok states p) (calls.afterHop p (hop f states p)) p
-  unfolding packetAfterHop
-  hops states p = step (truth (tests .hop-ok states p)) (kinds (hopping t table states p))
+      step : ((q : Packet (f .State)) × (s .setting u ≡ done q)) ⊎ ((number at : ℕ) × (s .setting u ≡ refused number at)) →
+          Kept (setAfter s (set-at u) last) (afterOne s (set-at u) p)
+      step (inl (q, e)) =
+          let place = l .sets-only u q e in
+          let (leaves, there) = rule p last .sets u (start (s .standing u)) (l .sets u place) in
+          renamed there leaves (begun u place)
+      step (inr (number, at, e)) = let (leaves, there) = rule p last .set-refused u number at e in renamed there leaves k
+  kept (hop-under x) last p k = step (kinds (s .hopping x p))
     where
-      step : T (tests .hop-ok states p) ⊎ (T (tests .hop-ok states p) → ⊥) →
-          ((h : network.Hop ℕ) × (hopping t table states p ≡ done h)) ⊎ ((number at : ℕ) × (hopping t table states p ≡ refused number at)) →
-          packetAfterHop p (hopping t table states p) ≡ cond (tests .hop-ok states p) (calls.afterHop p (hop f states p)) p
-      step (inl ok) k =
-          ap (packetAfterHop p) (hop-done states p ok) ∙ after-done p (hop f states p) ∙ sym (passes (tests .hop-ok states p) ok (calls.afterHop p (hop f states p)) p)
-      step (inr out) (inl (h, e)) = absurd (out (done-hop states p h e))
-      step (inr out) (inr (number, at, e)) = ap (packetAfterHop p) e ∙ sym (fails (tests .hop-ok states p) out (calls.afterHop p (hop f states p)) p)
+      on : {h : network.Hop (f .State)} → Hopped f x p h → s .hopping x p ≡ done h → Kept (setAfter s (hop-under x) last) (afterOne s (hop-under x) p)
+      on (stays-home h) e = renamed (rule p last .hop-sets-nothing x) (rule p last .stays x (inl e)) k
+      on (stuck off c) e = renamed (rule p last .hop-sets-nothing x) (rule p last .stays x (inr e)) k
+      on (went off y c) e =
+          let m = l .lawful .chosen x (p .station) y c in
+          let falls = l .lawful .falls (p .station) y m in
+          renamed (rule p last .hop-sets-nothing x) (rule p last .hops x _ e)
+          record {
+            placed = k .placed;
+            low = omega (arith, k .low);
+            few = omega (arith, k .few, lower f (l .rank) (l .valid) (l .lawful) (l .rows) (p .station) y (k .low) m);
+            still = λ z. absurd (omega arith);
+          }
 
-  -- so each call, and each list of calls, leaves the packet, and where it was last set, as network's does
-  same : (c : calls.Call f) (p : Packet ℕ) (last : ℕ) → (afterOne t table (here c) p ≡ afterCall f tests c p) × (setAfter t table (here c) last ≡ setBy f tests c last)
-  unfolding here afterOne settingPacket hoppingPacket setAfter afterCall setBy
-  same (calls.setting u) p last = sets u p last
-  same (calls.hopping states) p last = (hops states p, refl)
+      step : ((h : network.Hop (f .State)) × (s .hopping x p ≡ done h)) ⊎ ((number at : ℕ) × (s .hopping x p ≡ refused number at)) →
+          Kept (setAfter s (hop-under x) last) (afterOne s (hop-under x) p)
+      step (inl (h, e)) = let (stands, sound) = l .hops-only x p h e in on (hopped f x p) (l .hops x p stands sound)
+      step (inr (number, at, e)) = renamed (rule p last .hop-sets-nothing x) (rule p last .hop-refused x number at e) k
 
-  same-all : (cs : List (calls.Call f)) (p : Packet ℕ) (last : ℕ) → (afterAll t table (map here cs) p ≡ afterCalls f tests cs p)
-      × (lastSetIn t table (map here cs) last ≡ lastSet f tests cs last)
-  unfolding afterAll lastSetIn afterCalls lastSet
-  same-all [] p last = (refl, refl)
-  same-all (c ∷ cs) p last =
-      let (e, g) = same c p last in
-      let (es, gs) = same-all cs (afterCall f tests c p) (setBy f tests c last) in
-      (ap (afterAll t table (map here cs)) e ∙ es, ap (lastSetIn t table (map here cs)) g ∙ gs)
+  -- so it is kept to the end of any list
+  kept-all : (cs : List (PacketCall (f .States))) (last : ℕ) (p : Packet (f .State)) → Kept last p → Kept (lastSetIn s cs last) (afterAll s cs p)
+  unfolding afterAll lastSetIn
+  kept-all [] last p k = k
+  kept-all (c ∷ cs) last p k = kept-all cs _ _ (kept c last p k)
 
-  -- the packet was last set below N
-  set-below : (cs : List (calls.Call f)) (last : ℕ) → last < t .routers → lastSet f tests cs last < t .routers
-  unfolding lastSet setBy
-  set-below [] last h = h
-  set-below (calls.setting u ∷ cs) last h = set-below cs _ (step (truth (ltb u (size (networkOf t)))))
+  -- a list that begins with an accepted setting goes on from its start
+  set-first : (p : Packet (f .State)) (u : ℕ) → u < s .places → (cs : List (PacketCall (f .States))) →
+      afterAll s (set-at u ∷ cs) p ≡ afterAll s cs (record { station = s .standing u; hops = 0 })
+  unfolding afterAll start
+  set-first p u place cs = ap (afterAll s cs) (rule p u .sets u _ (l .sets u place) .0)
+
+  ended : (p : Packet (f .State)) (first : ℕ) → first < s .places → (cs : List (PacketCall (f .States))) →
+      Kept (lastSetIn s cs first) (afterAll s (set-at first ∷ cs) p)
+  unfolding start
+  ended p first place cs = renamed refl (set-first p first place cs) (kept-all cs first (start (s .standing first)) (begun first place))
+
+  -- where there is no path there is no way
+  far-unreached : (u : ℕ) → u < s .places → (s .reached u → ⊥) → far (s .standing u) ≡ 0
+  far-unreached u place out = step (l .rows)
     where
-      step : T (ltb u (size (networkOf t))) ⊎ (T (ltb u (size (networkOf t))) → ⊥) → cond (ltb u (size (networkOf t))) u last < t .routers
-      step (inl ok) = rw (passes (ltb u (size (networkOf t))) ok u last) (omega (arith, ltb→lt u (size (networkOf t)) ok, o .routers-are))
-      step (inr out) = rw (fails (ltb u (size (networkOf t))) out u last) h
-  set-below (calls.hopping states ∷ cs) last h = set-below cs last h
+      step : (left : ℕ) → longest f left (s .standing u) ≡ 0
+      step zero = unfold longest in refl
+      step (suc left) = unfold longest greatestBy in rw (l .row-unreached u place out .0)
 
-  bounded : theorems.CallsBounded f tests (greatestHop (networkOf t) (o .d) (o .limit) (o .order))
-  bounded = routers-calls (networkOf t) (o .well-formed) (o .d) (o .inside) (o .limit) (o .order) (o .in-free)
+  -- hops set the packet nowhere
+  last-kept : (xs : List (f .States)) (u : ℕ) → lastSetIn s (map hop-under xs) u ≡ u
+  unfolding lastSetIn setAfter
+  last-kept [] u = refl
+  last-kept (x ∷ xs) u = last-kept xs u
 
-  starts : (u : ℕ) → u < t .routers → T (ltb u (size (networkOf t)))
-  starts u h = lt→ltb u (size (networkOf t)) (omega (arith, o .routers-are))
+  all-sound : {st : f .State} {xs : List (f .States)} → Way f (l .valid) st xs → (c : PacketCall (f .States)) → List·Memᴰ c (map hop-under xs) →
+      (x : f .States) × (c ≡ hop-under x) × s .sound-states x
+  all-sound stop c m = absurd (List·Memᴰ·not-nil m)
+  all-sound (down {x = x} e v k w) c (List·Memᴰ·head h) = (x, h, l .valid-sound x v)
+  all-sound (down e v k w) c (List·Memᴰ·tail m) = all-sound w c m
 
-  -- over network's calls: hops made are at most network's greatest hop count of where the packet was last set
-  passed-never : (p : Packet ℕ) (first : ℕ) → first < t .routers → (cs : List (calls.Call f)) →
-      (lastSetIn t table (map here cs) first < t .routers)
-      × (afterAll t table (set-at first ∷ map here cs) p .hops ≤ greatestHop (networkOf t) (o .d) (o .limit) (o .order) (lastSetIn t table (map here cs) first))
-  unfolding here
-  passed-never p first h cs =
-      rw (same-all cs p first .1, same-all (calls.setting first ∷ cs) p first .0)
-      (set-below cs first h, bounded .never-passed p first (starts first h) cs)
+  -- hops under the states of a way go all of it
+  over-way : {st : f .State} {xs : List (f .States)} → Way f (l .valid) st xs → (h : ℕ) → l .inside st → h + l .rank st ≤ l .rows →
+      afterAll s (map hop-under xs) (record { station = st; hops = h }) .hops ≡ h + length xs
+  unfolding afterAll
+  over-way stop h in-it few = omega arith
+  over-way {st} (down {x = x} e v c w) h in-it few =
+      let p : Packet (f .State) = record { station = st; hops = h } in
+      let m = l .lawful .chosen x st e c in
+      let falls = l .lawful .falls st e m in
+      let made = rule p 0 .hops x _ (l .hops x p (l .admitted p in-it few) (l .valid-sound x v) ∙ ap done (hop-down f (l .rank) (l .valid) (l .lawful) x p e c)) in
+      rw (afterAll, made) (omega (arith, over-way w (suc h) (l .stays st in-it e m) (omega arith)))
 
-  at-most : (p : Packet ℕ) (first : ℕ) → first < t .routers → (cs : List PacketCall) →
-      (lastSetIn t table cs first < t .routers)
-      × (afterAll t table (set-at first ∷ cs) p .hops ≤ greatestHop (networkOf t) (o .d) (o .limit) (o .order) (lastSetIn t table cs first))
-  unfolding here
-  at-most p first h cs = rw again at (passed-never p first h (map there cs))
-
-  -- while no hop is made the packet stands where it was last set
-  abbrev Stands : ℕ → Packet ℕ → Type 0
-  Stands last p = p .hops ≡ 0 → p .station ≡ last
-
-  stands-on : (c : calls.Call f) (last : ℕ) (p : Packet ℕ) → Stands last p → Stands (setBy f tests c last) (afterCall f tests c p)
-  unfolding afterCall setBy
-  stands-on (calls.setting u) last p k = go (tests .start-ok u)
-    where
-      go : (b : Bool) → Stands (cond b u last) (cond b (start u) p)
-      go true = unfold start in λ e. refl
-      go false = k
-  stands-on (calls.hopping states) last p k = go (tests .hop-ok states p) (hopped f states p)
-    where
-      go : (b : Bool) {r : network.Hop ℕ} → Hopped f states p r → Stands last (cond b (calls.afterHop p r) p)
-      go false r = k
-      go true (stays-home h) = unfold calls.afterHop in k
-      go true (stuck h c) = unfold calls.afterHop in k
-      go true (went h e c) = unfold calls.afterHop in λ z. absurd (omega arith)
-
-  stands-all : (cs : List (calls.Call f)) (last : ℕ) (p : Packet ℕ) → Stands last p → Stands (lastSet f tests cs last) (afterCalls f tests cs p)
-  unfolding afterCalls lastSet
-  stands-all [] last p k = k
-  stands-all (c ∷ cs) last p k = stands-all cs _ _ (stands-on c last p k)
-
-  there-still : (p : Packet ℕ) (first : ℕ) → first < t .routers → (cs : List (calls.Call f)) →
-      afterAll t table (set-at first ∷ map here cs) p .hops ≡ 0 → afterAll t table (set-at first ∷ map here cs) p .station ≡ lastSetIn t table (map here cs) first
-  unfolding here afterCalls lastSet afterCall setBy
-  there-still p first h cs =
-      rw (same-all cs p first .1, same-all (calls.setting first ∷ cs) p first .0)
-      (stands-all cs first (cond (ltb first (size (networkOf t))) (start first) p)
-      (rw (passes (ltb first (size (networkOf t))) (starts first h) (start first) p) (unfold start in λ e. refl)))
-
-  still-there : (p : Packet ℕ) (first : ℕ) → first < t .routers → (cs : List PacketCall) → afterAll t table (set-at first ∷ cs) p .hops ≡ 0 →
-      afterAll t table (set-at first ∷ cs) p .station ≡ lastSetIn t table cs first
-  unfolding here
-  still-there p first h cs = rw again at (there-still p first h (map there cs))
-
-  calls-bounded : CallsBounded t table
-  calls-bounded =
+  pub bounded : CallsBounded s
+  bounded =
       record {
-        never-passed = λ p first h cs.
-            let (inside, few) = at-most p first h cs in
-            let last = lastSetIn t table cs first in (
-              inside,
-              ⊎-elim (λ path. rw (figure-reached good o last inside path) few)
-                  (λ out. rw (figure-unreached good o last inside out) (omega (arith, few, hops-unreached good o last inside out))) (reached-or good o last),
+        never-passed = λ p first place cs.
+            let k = ended p first place cs in
+            let last = lastSetIn s cs first in (
+              k .placed,
+              ⊎-elim (λ path. omega (arith, k .few, l .figure-reached last (k .placed) path))
+                  (λ out. omega (arith, k .few, far-unreached last (k .placed) out)) (l .either last (k .placed)),
             );
-        never-moved = λ p first h cs out.
-            let (inside, few) = at-most p first h cs in
-            let none-made : afterAll t table (set-at first ∷ cs) p .hops ≡ 0 = omega (arith, few, hops-unreached good o _ inside out) in
-            λ i. record { station = still-there p first h cs none-made i; hops = none-made i };
-        reached = reaching t good table right o;
+        never-moved = λ p first place cs out.
+            let k = ended p first place cs in
+            let none-made : afterAll s (set-at first ∷ cs) p .hops ≡ 0 = omega (arith, k .few, far-unreached _ (k .placed) out) in
+            λ i. record { station = k .still none-made i; hops = none-made i };
+        reached = λ p u place path.
+            let (in-it, low) = l .starts u place in
+            let (xs, way, long) = longest-way f (l .rank) (l .valid) (l .lawful) (l .rows) (s .standing u) low in (
+              map hop-under xs,
+              last-kept xs u,
+              rw (set-first p u place (map hop-under xs)) (omega (arith, over-way way 0 in-it (omega arith), long, l .figure-reached u place path)),
+              all-sound way,
+            );
       }
-
-pub calls-exact : CallsExact
-calls-exact t good table right = calls-bounded t good table right (over t good table right)

@@ -1,26 +1,27 @@
--- What an accepted table gives: a destination, K and an order, whose routers are those that forward by the table. A hop, a walk and a figure over the
--- table are network's, since the destinations and the entries are the same.
+-- What an accepted table gives: a destination, K and an order, whose routers are those that forward by the table. A walk and a figure over the table are
+-- network's, and network's laws hold of it, since the destinations and the entries are the same.
 -- Assumes nothing.
-use Prim.Native.Nat.{ℕ, zero, suc, _<_}
+use Prim.Native.Nat.{ℕ, _<_}
 use mathlib.Core.List.{List, []}
 use mathlib.Core.Logic.{_⊎_, inl, inr, ⊎-elim}
-use mathlib.Core.Path.{_≡_, refl, ap₂, _∙_, fun-ext}
+use mathlib.Core.Path.{_≡_, sym, ap₂, _∙_, subst, fun-ext}
 use native.Mathlib.Omega.{arith}
 use borrow.Author.Tests.{eq-eqb, ne-eqb}
 use lib.Dec.{T}
 use lib.ListN.{getD}
 use Rattle.network.specs.Network.{Arc, size, WellFormed}
-use Rattle.network.specs.Lists.{greatestBy}
 use Rattle.network.specs.Distance.{PathTo, distances}
 use Rattle.network.specs.Order.{free, reached, accepted}
 use Rattle.network.specs.Row.{rank, row}
-use Rattle.network.specs.Forwarding.{Forwarding, Packet, hop, walk, longest}
-use Rattle.network.specs.Routing.{routers, greatestHop}
+use Rattle.network.specs.Forwarding.{Forwarding, Packet, walk, route, longest}
+use Rattle.network.specs.Routing.{validStates, routers, greatestHop}
+use Rattle.network.specs.Theorems.Forwarding.{Lawful}
 use Rattle.network.proofs.Below.{getD-below}
 use Rattle.network.proofs.Tests.{truth}
 use Rattle.network.proofs.NextHop.{path-reached, reached-path}
 use Rattle.network.proofs.Order.{acceptance-exact}
 use Rattle.network.proofs.Falling.{orders-fall}
+use Rattle.network.proofs.Routing.{routers-lawful}
 use Rattle.topology_types.specs.declared.Topology.{Topology}
 use Rattle.topology_types.specs.Topology.{networkOf}
 use Rattle.topology_types.specs.Outcome.{answer}
@@ -55,24 +56,26 @@ pub record Over (t : Topology) (table : List ℕ) : Type 1 where
   pub rank-is : (u : ℕ) → u < t .routers → RankAt order u (rankByte table u)
   pub entries-are : (u : ℕ) → entriesIn (networkOf t) table u ≡ row (networkOf t) (distances (networkOf t) d) limit order u
   -- what forwards by the table
-  pub hop-is : (states : List ℕ) (p : Packet ℕ) → hop (by t table) states p ≡ hop (routers (networkOf t) d limit order) states p
   pub walk-is : (xs : List (List ℕ)) (p : Packet ℕ) → walk (by t table) xs p ≡ walk (routers (networkOf t) d limit order) xs p
+  pub route-is : (xs : List (List ℕ)) (u : ℕ) → route (by t table) xs u ≡ route (routers (networkOf t) d limit order) xs u
   pub hops-are : (u : ℕ) → figure t table u ≡ greatestHop (networkOf t) d limit order u
+  pub lawful : Lawful (by t table) (rank order) (λ states. T (validStates (networkOf t) states))
 
 -- routers that forward to d by rows
-forwarding : ℕ → (ℕ → List Arc) → Forwarding
+abbrev forwarding : ℕ → (ℕ → List Arc) → Forwarding
 forwarding d rows = forwardingBy (record { destination = d; rank = λ u. 0; entries = rows })
 
 given-over : (t : Topology) → T (sound t) → (table : List ℕ) → SomeGive t table → Over t table
-unfolding listed forwarding figure
+unfolding listed figure
 given-over t good table (d, limit, order, g) =
     let n = networkOf t in
     let s = sound-networks t good in
     let l = tables-list t good table d limit order g in
     let inside : d < size n = omega (arith, s .routers, g .place) in
-    let in-free = acceptance-exact n (s .well-formed) d inside free order .1 (g .in-free) in
     let rows = fun-ext (l .entries) in
     let to = l .destination in
+    let in-free : T (accepted n d free order) = acceptance-exact n (s .well-formed) d inside free order .1 (g .in-free) in
+    let valid : List ℕ → Type 0 = λ states. T (validStates n states) in
     record {
       d = d;
       limit = limit;
@@ -88,9 +91,11 @@ given-over t good table (d, limit, order, g) =
       destination-is = g .bytes .destination;
       rank-is = λ u h. g .bytes .rows u (omega (arith, s .routers)) .rank-is;
       entries-are = l .entries;
-      hop-is = λ states p. ap₂ (λ (e : ℕ) (es : ℕ → List Arc). hop (forwarding e es) states p) to rows;
       walk-is = λ xs p. ap₂ (λ (e : ℕ) (es : ℕ → List Arc). walk (forwarding e es) xs p) to rows;
+      route-is = λ xs u. ap₂ (λ (e : ℕ) (es : ℕ → List Arc). route (forwarding e es) xs u) to rows;
       hops-are = λ u. rw (s .routers) (ap₂ (λ (e : ℕ) (es : ℕ → List Arc). longest (forwarding e es) (t .routers) u) to rows);
+      lawful = subst (λ (e : ℕ). Lawful (forwarding e (entriesIn n table)) (rank order) valid) (sym to)
+          (subst (λ (es : ℕ → List Arc). Lawful (forwarding d es) (rank order) valid) (sym rows) (routers-lawful n (s .well-formed) d inside limit order in-free));
     }
 
 pub over : (t : Topology) → T (sound t) → (table : List ℕ) → tableChecking t table ≡ answer 0 0 → Over t table
@@ -104,7 +109,7 @@ reached-or {t} {table} good o u =
     ⊎-elim (λ r. inl (reached-path n (o .well-formed) _ d-in u r)) (λ out. inr (λ path. out (path-reached n (o .well-formed) _ d-in path)))
     (truth (reached n (distances n (destinationByte table)) u))
 
--- by whether a place has a path: its rank and the figure reported are network's, or both are 255, its row is empty and its greatest hop count 0
+-- by whether a place has a path: its rank and the figure reported are network's, or both are 255 and its row is empty
 module _ {t : Topology} {table : List ℕ} (good : T (sound t)) (o : Over t table) (u : ℕ) (h : u < t .routers) where
   own-path : Reached t table u → PathTo (networkOf t) (o .d) u
   own-path path = rw (o .destination-is) at path
@@ -134,13 +139,6 @@ module _ {t : Topology} {table : List ℕ} (good : T (sound t)) (o : Over t tabl
 
     pub row-unreached : row (networkOf t) (distances (networkOf t) (o .d)) (o .limit) (o .order) u ≡ []
     row-unreached = no-path-row (networkOf t) (o .well-formed) (o .d) (o .inside) (o .given .in-free) (o .limit) u no-path
-
-    pub hops-unreached : greatestHop (networkOf t) (o .d) (o .limit) (o .order) u ≡ 0
-    hops-unreached = step (size (networkOf t))
-      where
-        step : (left : ℕ) → longest (routers (networkOf t) (o .d) (o .limit) (o .order)) left u ≡ 0
-        step zero = unfold longest in refl
-        step (suc left) = unfold longest greatestBy in rw row-unreached
 
 -- so the rank byte tells whether there is a path
 pub ranks-tell : RanksTell

@@ -1,21 +1,20 @@
 -- What the definitions mean: each is read off its clauses. A hop or a walk is done exactly where it is done with what forwarding by the table makes.
 -- Assumes nothing.
 use Prim.Native.Nat.{ℕ, pred, _*_, _/_}
-use mathlib.Core.List.{List, [], _∷_, _++_, map}
-use mathlib.Core.Path.{_≡_, refl, sym, ap, _∙_}
+use mathlib.Core.List.{map}
+use mathlib.Core.Path.{refl, sym, ap, _∙_}
 use native.Mathlib.Nat.{mul-zero, mul-div-cancel}
 use native.Mathlib.Omega.{arith}
 use borrow.Author.Tests.{ne-eqb}
 use lib.ListN.{length, drop, length-drop}
 use lib.Seq.{length-take-le, getD-take, getD-drop}
 use Rattle.network.specs.Lists.{below}
-use Rattle.network.specs.Forwarding.{Packet, start, hop, walk}
+use Rattle.network.specs.Forwarding.{start, hop, walk}
 use Rattle.topology_types.specs.Outcome.{turnedAway}
 use Rattle.table.specs.Calls.{unlessRefused}
 use Rattle.forwarding_rules.specs.Schedule.{rowIn, rowsIn}
 use Rattle.forwarding_rules.specs.Calls.{said, packetIn, settingSays, hopSays, walkSays, by, countingHops}
-use Rattle.forwarding_rules.specs.Lists.{PacketCall, afterOne, afterAll, setAfter, lastSetIn}
-use Rattle.forwarding_rules.specs.Theorems.{AnswersMean, RowsRight, EmptyWithoutLinks, RowsInTurn, CountRefuses, HopsDone, WalksDone, CallsInTurn}
+use Rattle.forwarding_rules.specs.Theorems.{AnswersMean, RowsRight, EmptyWithoutLinks, RowsInTurn, CountRefuses, HopsDone, WalksDone}
 use Rattle.forwarding_rules.proofs.Schedules.{count, counted, counts, least-count}
 use Rattle.forwarding_rules.proofs.Answers as answers
 
@@ -82,12 +81,3 @@ walks-done t table u schedule = (
       let made = walk (by t table) (rowsIn (t .routers) (t .links) schedule) (start u) in
       (made, answers.walks-done t table u schedule made .1 (good, (place, (right, (ok .whole-rows, (ok .states-are, refl)))))),
 )
-
-pub calls-in-turn : CallsInTurn
-unfolding afterAll lastSetIn
-calls-in-turn t table p last = record { no-calls = (refl, refl); one-more = λ cs c. last-call cs c p last }
-  where
-    last-call : (cs : List PacketCall) (c : PacketCall) (q : Packet ℕ) (s : ℕ) → (afterAll t table (cs ++ (c ∷ [])) q ≡ afterOne t table c (afterAll t table cs q))
-        × (lastSetIn t table (cs ++ (c ∷ [])) s ≡ setAfter t table c (lastSetIn t table cs s))
-    last-call [] c q s = (refl, refl)
-    last-call (e ∷ cs) c q s = last-call cs c (afterOne t table e q) (setAfter t table e s)

@@ -1,120 +1,80 @@
--- Walks over an accepted table are network's walks over the schedule's rows: they end, go hop by hop, and from reached stations, with all links up, cost
--- the distance. At every hop the hops made and the rank left are together below N, so that no single hop is refused. What the hops cost is what network's
--- route costs.
+-- Walks of a system that obeys the laws are its forwarding's over the rows of the run. At every hop the hops made and the rank left are together at most the
+-- rows that a run has, so that no single hop is refused and each has its row. What the hops cost is what the entries of the route cost.
 -- Assumes nothing.
 use Prim.Native.Nat.{ℕ, suc, _+_, _≤_, _<_}
-use mathlib.Core.List.{List, [], _∷_, List·Memᴰ, Memᴰ·of-map}
-use mathlib.Core.Logic.{inl, inr}
+use mathlib.Core.List.{List, [], _∷_, List·Memᴰ·not-nil}
+use mathlib.Core.Logic.{_⊎_, inl, inr}
 use mathlib.Core.Option.{some}
 use mathlib.Core.Path.{_≡_, refl, sym, ap, _∙_, subst}
 use native.Mathlib.Numerals.{add-one}
 use native.Mathlib.Omega.{arith}
-use borrow.Author.Tests.{ne-eqb}
-use lib.Dec.{T, eqb→eq}
+use lib.Dec.{T}
 use lib.ListN.{length, drop}
 use lib.Seq.{drop-drop}
-use Rattle.network.specs.Lists.{below}
-use Rattle.network.specs.Distance.{arrived, distance}
-use Rattle.network.specs.Order.{shortest-path, accepted}
-use Rattle.network.specs.Row.{rank}
-use Rattle.network.specs.Forwarding.{Forwarding, Packet, Hop, dropped, Walk, dropped-at, hopTo, hop, walk, routeOn, route, start}
-use Rattle.network.specs.Routing.{validStates, firstLive, routers, costOf}
-use Rattle.network.specs.Theorems.Forwarding.{Lawful, WalkRule, RouteRule}
-use Rattle.network.specs.Theorems.Routing as network
-use Rattle.network.specs.Theorems.Routing.{AllUp}
-use Rattle.network.proofs.Tests.{as-false, eq-test}
-use Rattle.network.proofs.Below.{below-lt, length-map-below}
-use Rattle.network.proofs.Order.{acceptance-exact}
-use Rattle.network.proofs.Rank.{rank-zero}
+use Rattle.network.specs.Forwarding.{Forwarding, Packet, Hop, dropped, Walk, delivered-at, dropped-at, hop, walk, routeOn, route, start}
+use Rattle.network.specs.Theorems.Forwarding.{WalkRule, RouteRule}
+use Rattle.network.proofs.Tests.{truth, as-false}
 use Rattle.network.proofs.Hops as hops
 use Rattle.network.proofs.Hops.{Hopped, stays-home, stuck, went, hopped}
-use Rattle.network.proofs.Routing as routing
-use Rattle.network.proofs.Routing.{routers-lawful, entry-arc}
-use Rattle.network.proofs.ShortestWalk as shortest
-use Rattle.topology_types.specs.declared.Topology.{Topology}
-use Rattle.topology_types.specs.Topology.{networkOf}
-use Rattle.topology_types.specs.Outcome.{answer}
-use Rattle.topology_sound.specs.Sound.{sound}
-use Rattle.order.proofs.Ranges.{getD-mem}
-use Rattle.table.specs.Calls.{tableChecking}
-use Rattle.forwarding_rules.specs.Schedule.{rowIn, rowsIn}
-use Rattle.forwarding_rules.specs.Calls.{done, hopping, walking}
-use Rattle.forwarding_rules.specs.Theorems.{Reached, SoundSchedule, SoundStates, CutOff, CutOffDrops, WalkEnds, delivers, drops, WalksEnd}
-use Rattle.forwarding_rules.specs.Theorems.{ByHops, arrives, goes-on, WalksByHops, ShortestWalk, ShortestWalks}
-use Rattle.forwarding_rules.specs.Theorems as packet
-use Rattle.forwarding_rules.proofs.Listed.{Over, over, figure-unreached, row-unreached}
-use Rattle.forwarding_rules.proofs.Rules.{down-none-up}
-use Rattle.forwarding_rules.proofs.Rules as rules
-use Rattle.forwarding_rules.proofs.Schedules.{Rows, rows-of, row-mem, row-fits, row-long, drop-run}
-use Rattle.forwarding_rules.proofs.Passed.{hops-when, walks-when, walks-only}
+use Rattle.network.proofs.Forwarding.{walks-exact}
+use Rattle.forwarding_rules.specs.Calls.{done}
+use Rattle.forwarding_rules.specs.System.{System}
+use Rattle.forwarding_rules.specs.Theorems.Demand3 as of
+use Rattle.forwarding_rules.specs.Theorems.Demand3.{FigureExact, WalkEnds, ByHops, arrives, goes-on, WalkCosts, CutOff}
+use Rattle.forwarding_rules.specs.Inner.{Laws}
 
 -- off home a route goes to the entry chosen
-route-on : (f : Forwarding) (x : f .States) (xs : List (f .States)) (s : f .State) (e : f .Entry) → (T (f .home s) → ⊥) → f .choose x s ≡ some e →
-    route f (x ∷ xs) s ≡ e ∷ route f xs (f .next e)
+route-on : (f : Forwarding) (x : f .States) (xs : List (f .States)) (st : f .State) (e : f .Entry) → (T (f .home st) → ⊥) → f .choose x st ≡ some e →
+    route f (x ∷ xs) st ≡ e ∷ route f xs (f .next e)
 unfolding route routeOn
-route-on f x xs s e off c = rw (as-false (f .home s) off, c)
+route-on f x xs st e off c = rw (as-false (f .home st) off, c)
 
--- an end and a cost under other names
-renamed : {t : Topology} {table schedule : List ℕ} {p : Packet ℕ} {w v : Walk ℕ} {j k : ℕ} → w ≡ v → j ≡ k → ByHops t table schedule p w j →
-    ByHops t table schedule p v k
-renamed {t} {table} {schedule} {p} {w} {v} {j} e g h =
-    subst (ByHops t table schedule p v) g (subst (λ (x : Walk ℕ). ByHops t table schedule p x j) e h)
-
-module _ (t : Topology) (good : T (sound t)) (table : List ℕ) (right : tableChecking t table ≡ answer 0 0) where
-  o : Over t table
-  o = over t good table right
-
-  -- network's routers, by which the table forwards
+module _ (s : System) (l : Laws s) where
   abbrev f : Forwarding
-  f = routers (networkOf t) (o .d) (o .limit) (o .order)
+  f = s .forwarding
 
-  abbrev ranks : ℕ → ℕ
-  ranks u = rank (o .order) u
+  -- how a walk ended
+  data Ended (run : s .Run) : Walk (f .State) → Type 0 where
+    delivers : (p : Packet (f .State)) → s .at-destination (p .station) → Ended run (delivered-at p)
+    drops : (p : Packet (f .State)) → (s .at-destination (p .station) → ⊥) → s .has-row run (p .hops) → s .none-up (s .row-of run (p .hops)) (p .station) →
+        Ended run (dropped-at p)
+    drops-rowless : (p : Packet (f .State)) → (s .at-destination (p .station) → ⊥) → (s .has-row run (p .hops) → ⊥) → s .rowless (p .station) →
+        Ended run (dropped-at p)
 
-  lawful : Lawful f (rank (o .order)) (λ states. T (validStates (networkOf t) states))
-  lawful = routers-lawful (networkOf t) (o .well-formed) (o .d) (o .inside) (o .limit) (o .order) (o .in-free)
+  module _ (run : s .Run) (sound : s .sound-run run) where
+    abbrev xs : List (f .States)
+    xs = l .rows-in run
 
-  module _ (schedule : List ℕ) (s : SoundSchedule t schedule) where
-    rows : Rows t schedule
-    rows = rows-of t schedule (s .whole-rows)
+    abbrev Went : Packet (f .State) → Walk (f .State) → ℕ → Type 0
+    Went p w cost = ByHops s run p w cost × Ended run w
 
-    abbrev xs : List (List ℕ)
-    xs = rowsIn (t .routers) (t .links) schedule
+    -- an end and a cost under other names
+    renamed : {p : Packet (f .State)} {w v : Walk (f .State)} {j k : ℕ} → w ≡ v → j ≡ k → Went p w j → Went p v k
+    renamed {p} {w} {v} {j} e g h = subst (Went p v) g (subst (λ (x : Walk (f .State)). Went p x j) e h)
 
-    abbrev rowAt : ℕ → List ℕ
-    rowAt h = rowIn (t .links) schedule h
+    -- from a packet whose hops made and rank left are at most the rows, of which enough are left for the rank
+    by-hops : (ys : List (f .States)) (p : Packet (f .State)) → drop (p .hops) xs ≡ ys → l .inside (p .station) →
+        p .hops + l .rank (p .station) ≤ l .rows → l .rank (p .station) ≤ length ys → Went p (walk f ys p) (l .cost-of (route f ys (p .station)))
+    by-hops [] p left in-it few enough = step (truth (f .home (p .station)))
+      where
+        any : f .States
+        any = l .lawful .some-valid .0
 
-    -- there are rows enough for every start
-    rows-enough : (u : ℕ) → u < t .routers → ranks u ≤ length xs
-    rows-enough u place = omega (arith, ap length (rows .are), length-map-below rowAt (rows .count), o .rank-below u place, rows .enough)
+        stands : s .may-stand p
+        stands = l .admitted p in-it few
 
-    -- what is left of the rows from turn h on begins with row h
-    row-there : (h : ℕ) {x : List ℕ} {rest : List (List ℕ)} → drop h xs ≡ x ∷ rest → (h < rows .count) × (x ≡ rowAt h)
-    row-there h e = drop-run rowAt (rows .count) h (rw (rows .are) at e)
+        free : 0 ≡ l .cost-of (route f [] (p .station))
+        free = sym (ap (l .cost-of) (hops.routes-by-hops f any [] p .ends) ∙ l .no-cost)
 
-    row-sound : (h : ℕ) → h < rows .count → SoundStates t (rowAt h)
-    row-sound h inside =
-        record {
-          long = row-long (t .links) schedule (rows .count) (rows .whole) h inside;
-          states-are = λ b m. s .states-are b (row-mem (t .links) schedule h m);
-        }
-
-    all-up : ((b : ℕ) → List·Memᴰ b schedule → b ≡ 1) → AllUp (networkOf t) xs
-    all-up ones states m link l =
-        let (h, k, e) = Memᴰ·of-map rowAt (below (rows .count)) (subst (List·Memᴰ states) (rows .are) m) in
-        let long = row-sound h (below-lt (rows .count) k) .long in
-        rw (← e) (ones _ (row-mem (t .links) schedule h (getD-mem (rowAt h) link 0 (omega (arith, o .links-are)))))
-
-    -- from a packet whose hops made and rank left are below N, with rows enough for the rank
-    by-hops : (ys : List (List ℕ)) (p : Packet ℕ) (w : Walk ℕ) → drop (p .hops) xs ≡ ys → p .station < t .routers →
-        p .hops + ranks (p .station) < t .routers → ranks (p .station) ≤ length ys → walk f ys p ≡ w →
-        ByHops t table schedule p w (costOf (route f ys (p .station)))
-    unfolding costOf
-    by-hops [] p w left place few enough e =
-        let home = rank-zero (o .given .in-free) (p .station) (omega arith) in
-        renamed (sym (hops.walks-by-hops f [] [] p .arrives (eq-test home)) ∙ e) (sym (ap costOf (hops.routes-by-hops f [] [] p .ends)))
-        (arrives p (home ∙ sym (o .destination-is)))
-    by-hops (x ∷ ys) p w left place few enough e = step refl (hopped f x p) (λ q. by-hops ys q w)
+        step : T (f .home (p .station)) ⊎ (T (f .home (p .station)) → ⊥) → Went p (walk f [] p) (l .cost-of (route f [] (p .station)))
+        step (inl h) =
+            let home = l .home-is p stands .0 h in
+            renamed (sym (hops.walks-by-hops f any [] p .arrives h)) free (arrives p home, delivers p home)
+        step (inr off) =
+            let (e, none-left, empty) = l .row-past run sound p left in-it (omega arith) off in
+            let other : s .at-destination (p .station) → ⊥ = λ home. off (l .home-is p stands .1 home) in
+            renamed (sym e) free (of.ByHops.drops-rowless p other none-left empty, drops-rowless p other none-left empty)
+    by-hops (x ∷ ys) p left in-it few enough = step refl (hopped f x p) (by-hops ys)
       where
         rule : WalkRule f x ys p
         rule = hops.walks-by-hops f x ys p
@@ -122,106 +82,105 @@ module _ (t : Topology) (good : T (sound t)) (table : List ℕ) (right : tableCh
         took : RouteRule f x ys p
         took = hops.routes-by-hops f x ys p
 
-        here : hopping t table (rowAt (p .hops)) p ≡ done (hop f x p)
-        here =
-            let (inside, is) = row-there (p .hops) left in
-            rw is (hops-when t table right (rowAt (p .hops)) p (record { is-sound = good; station = place; hops = omega arith }) (row-sound (p .hops) inside) ∙ ap done (o .hop-is (rowAt (p .hops)) p))
+        stands : s .may-stand p
+        stands = l .admitted p in-it few
 
-        step : {h : Hop ℕ} → hop f x p ≡ h → Hopped f x p h →
-            ((q : Packet ℕ) → drop (q .hops) xs ≡ ys → q .station < t .routers → q .hops + ranks (q .station) < t .routers →
-            ranks (q .station) ≤ length ys → walk f ys q ≡ w → ByHops t table schedule q w (costOf (route f ys (q .station)))) →
-            ByHops t table schedule p w (costOf (route f (x ∷ ys) (p .station)))
+        there : s .has-row run (p .hops) × s .sound-states (s .row-of run (p .hops)) × (x ≡ s .row-of run (p .hops))
+        there = l .row-there run sound (p .hops) x ys left
+
+        here : s .hopping (s .row-of run (p .hops)) p ≡ done (hop f x p)
+        here = rw (there .2) (l .hops (s .row-of run (p .hops)) p stands (there .1))
+
+        step : {h : Hop (f .State)} → hop f x p ≡ h → Hopped f x p h →
+            ((q : Packet (f .State)) → drop (q .hops) xs ≡ ys → l .inside (q .station) → q .hops + l .rank (q .station) ≤ l .rows →
+            l .rank (q .station) ≤ length ys → Went q (walk f ys q) (l .cost-of (route f ys (q .station)))) →
+            Went p (walk f (x ∷ ys) p) (l .cost-of (route f (x ∷ ys) (p .station)))
         step is (stays-home h) rest =
-            renamed (sym (rule .delivers is) ∙ e) (sym (ap costOf (took .stops (inl is)))) (arrives p (eqb→eq _ _ h ∙ sym (o .destination-is)))
+            let home = l .home-is p stands .0 h in
+            renamed (sym (rule .delivers is)) (sym (ap (l .cost-of) (took .stops (inl is)) ∙ l .no-cost)) (arrives p home, delivers p home)
         step is (stuck off c) rest =
-            renamed (sym (rule .drops is) ∙ e) (sym (ap costOf (took .stops (inr is)))) (packet.ByHops.drops p (here ∙ ap done is))
-        step is (went off a c) rest =
-            let q : Packet ℕ = record { station = a .to; hops = suc (p .hops) } in
-            let m = lawful .chosen x (p .station) a c in
-            let lower = lawful .falls (p .station) a m in
-            let arc = entry-arc (networkOf t) (o .well-formed) (o .d) (o .inside) (o .limit) (o .order) (o .in-free) (p .station) a m in
-            renamed refl (sym (ap costOf (route-on f x ys (p .station) a off c)))
-            (goes-on p q w a (costOf (route f ys (a .to))) (here ∙ ap done is) arc refl
-            (rest q (subst (λ (n : ℕ). drop n xs ≡ ys) (add-one (p .hops)) (sym (drop-drop 1 (p .hops) xs) ∙ ap (drop 1) left))
-            (omega (arith, o .routers-are, o .well-formed .sound (p .station) a arc .place)) (omega arith) (omega arith) (sym (rule .goes-on q is) ∙ e)))
+            let down = l .chooses-none (s .row-of run (p .hops)) p stands (there .1) .0 (rw (there .2) at c) in
+            renamed (sym (rule .drops is)) (sym (ap (l .cost-of) (took .stops (inr is)) ∙ l .no-cost))
+            (of.ByHops.drops p (here ∙ ap done is), drops p (λ home. off (l .home-is p stands .1 home)) (there .0) down)
+        step is (went off e c) rest =
+            let q : Packet (f .State) = record { station = f .next e; hops = suc (p .hops) } in
+            let m = l .lawful .chosen x (p .station) e c in
+            let lower = l .lawful .falls (p .station) e m in
+            let (cost, costs, adds) = l .one-more (p .station) in-it e (route f ys (f .next e)) m in
+            let (on, end) = rest q (subst (λ (n : ℕ). drop n xs ≡ ys) (add-one (p .hops)) (sym (drop-drop 1 (p .hops) xs) ∙ ap (drop 1) left))
+            (l .stays (p .station) in-it e m) (omega arith) (omega arith) in
+            renamed (sym (rule .goes-on q is)) (sym (ap (l .cost-of) (route-on f x ys (p .station) e off c) ∙ adds))
+            (goes-on p q _ cost _ (here ∙ ap done is) costs on, end)
 
-    module _ (u : ℕ) (place : u < t .routers) where
-      walk-here : {w : Walk ℕ} → walk f xs (start u) ≡ w → walking t table u schedule ≡ done w
-      walk-here e = walks-when t table right u schedule good place s ∙ ap done (o .walk-is xs (start u) ∙ e)
+    -- from a start
+    module _ (u : ℕ) (place : u < s .places) where
+      abbrev walked : Walk (f .State)
+      walked = walk f xs (start (s .standing u))
 
-      hops-here : {w : Walk ℕ} → walk f xs (start u) ≡ w → ByHops t table schedule (record { station = u; hops = 0 }) w (costOf (route f xs u))
+      from-start : Went (record { station = s .standing u; hops = 0 }) walked (l .cost-of (route f xs (s .standing u)))
       unfolding start
-      hops-here {w} e = by-hops xs (start u) w refl place (omega (arith, o .rank-below u place)) (rows-enough u place) e
+      from-start =
+          let (in-it, low) = l .starts u place in
+          by-hops xs (start (s .standing u)) refl in-it (omega arith) (omega (arith, l .enough run sound))
 
-      end : network.WalkEnd (networkOf t) (o .d) (o .limit) (o .order) xs u → WalkEnds t table u schedule
-      end (network.delivers p e to) = delivers p (walk-here e) (to ∙ sym (o .destination-is))
-      end (network.drops p e off states rest left down) =
-          let (inside, is) = row-there (p .hops) left in
-          drops p (walk-here e) (λ to. off (to ∙ o .destination-is)) (row-fits (t .links) schedule (rows .count) (rows .whole) (p .hops) inside)
-          (down-none-up t (rowAt (p .hops)) (p .station) table (rules.row-fits t table o (p .station)) .0
-          (rw (o .entries-are (p .station), ← is) down))
+      pub end : WalkEnds s u run
+      end = step (l .walks u place run sound) (from-start .1)
+        where
+          step : {w : Walk (f .State)} → s .walking u run ≡ done w → Ended run w → WalkEnds s u run
+          step e (delivers p home) = of.WalkEnds.delivers p e home
+          step e (drops p off row down) = of.WalkEnds.drops p e off row down
+          step e (drops-rowless p off none-left empty) = of.WalkEnds.drops-rowless p e off none-left empty
 
-      shortest-here : network.ShortestWalk (networkOf t) (o .d) (o .limit) (o .order) xs u → ShortestWalk t table u schedule
-      shortest-here x =
-          let (p, e, to) = x .arrives in
+      pub hop-by-hop : (w : Walk (f .State)) → s .walking u run ≡ done w →
+          ByHops s run (record { station = s .standing u; hops = 0 }) w (l .cost-of (route f xs (s .standing u)))
+      hop-by-hop w e =
+          subst (λ (v : Walk (f .State)). ByHops s run (record { station = s .standing u; hops = 0 }) v (l .cost-of (route f xs (s .standing u))))
+          (cc (l .walks u place run sound)) (from-start .0)
+
+      -- a walk that is delivered costs what its route does
+      pub costs : (p : Packet (f .State)) → walked ≡ delivered-at p → s .at-destination (p .station) → WalkCosts s u run (l .cost-of (route f xs (s .standing u)))
+      costs p e home =
+          let delivers : s .walking u run ≡ done (delivered-at p) = l .walks u place run sound ∙ ap done e in
+          record { end = p; delivers = delivers; there = home; adds-up = hop-by-hop (delivered-at p) delivers }
+
+  module _ (u : ℕ) (place : u < s .places) where
+    pub figure : s .reached u → FigureExact s u
+    figure path =
+        let x = walks-exact f (l .rank) (l .valid) (l .lawful) (l .rows) (s .standing u) (l .starts u place .1) in
+        let is = l .figure-reached u place path in
+        let (xs, long, valid, reach) = x .reached (l .rows) (l .starts u place .1) in
+        let (run, least, sound, are) = l .run-of xs long valid in
+        record {
+          never-passed = λ run w e.
+              let (h, sound) = l .walks-only u run w e in
+              let same : walk f (l .rows-in run) (start (s .standing u)) ≡ w = cc (l .walks u place run sound) in
+              rw (← same, is) (x .never-passed (l .rows-in run));
+          reached = (run, least, (walk f xs (start (s .standing u)), rw are at (l .walks u place run sound), rw is reach));
+          at-most-rank = omega (arith, is, x .at-most-rank, l .within-bound u place path);
+        }
+
+    -- where there is no path the row is empty off home, so a hop drops the packet, and so does a walk, if no row is there for its first hop too
+    module _ (out : s .reached u → ⊥) where
+      drops-there : (x : f .States) (p : Packet (f .State)) → p .station ≡ s .standing u → hop f x p ≡ dropped
+      drops-there x p e = step (hopped f x p)
+        where
+          step : {h : Hop (f .State)} → Hopped f x p h → h ≡ dropped
+          step (stays-home h) = absurd (l .row-unreached u place out .1 (rw e at h))
+          step (stuck off c) = refl
+          step (went off y c) = absurd (List·Memᴰ·not-nil (rw (e, l .row-unreached u place out .0) at (l .lawful .chosen x (p .station) y c)))
+
+      first-drops : (run : s .Run) → s .sound-run run → (ys : List (f .States)) → l .rows-in run ≡ ys →
+          walk f ys (start (s .standing u)) ≡ dropped-at (record { station = s .standing u; hops = 0 })
+      unfolding start
+      first-drops run sound [] e =
+          let (in-it, low) = l .starts u place in
+          l .row-past run sound (start (s .standing u)) e in-it (omega (arith, l .enough run sound, ap length e)) (l .row-unreached u place out .1) .0
+      first-drops run sound (x ∷ ys) e = hops.walks-by-hops f x ys (start (s .standing u)) .drops (drops-there x (start (s .standing u)) refl)
+
+      pub cut-off : CutOff s u
+      cut-off =
           record {
-            end = p;
-            delivers = walk-here e;
-            there = to ∙ sym (o .destination-is);
-            shortest = renamed refl (x .shortest ∙ ap (λ (d : ℕ). distance (networkOf t) d u) (sym (o .destination-is))) (hops-here e);
+            figure-is = l .figure-unreached u place out;
+            walks = λ run sound. l .walks u place run sound ∙ ap done (first-drops run sound (l .rows-in run) refl);
+            hops = λ x p e stands sound. l .hops x p stands sound ∙ ap done (drops-there x p e);
           }
-
-pub walks-end : WalksEnd
-walks-end t good table right u place schedule s =
-    let v = o t good table right in
-    end t good table right schedule s u place
-    (routing.walks-end (networkOf t) (v .well-formed) (v .d) (v .inside) (v .limit) (v .order) (v .in-free) (rowsIn (t .routers) (t .links) schedule) u
-    (rows-enough t good table right schedule s u place))
-
-pub walks-by-hops : WalksByHops
-walks-by-hops t good table right u schedule w e =
-    let v = o t good table right in
-    let (place, s, is) = walks-only t table right u schedule w e in
-    (_, hops-here t good table right schedule s u place (sym (v .walk-is (rowsIn (t .routers) (t .links) schedule) (start u)) ∙ sym is))
-
--- Where there is no path the row is empty, and d has one, so a hop drops the packet; some row of states is there for the first hop.
-module _ (t : Topology) (good : T (sound t)) (table : List ℕ) (right : tableChecking t table ≡ answer 0 0) (u : ℕ) (place : u < t .routers)
-    (out : Reached t table u → ⊥) where
-  abbrev v : Over t table
-  v = o t good table right
-
-  not-home : u ≡ v .d → ⊥
-  not-home e = out (arrived (e ∙ sym (v .destination-is)))
-
-  drops-there : (states : List ℕ) (p : Packet ℕ) → p .station ≡ u → hop (f t good table right) states p ≡ dropped
-  unfolding hop hopTo firstLive
-  drops-there states p e = rw (e, ne-eqb u (v .d) not-home, row-unreached good v u place out)
-
-  first-drops : (ys : List (List ℕ)) → rank (v .order) u ≤ length ys → walk (f t good table right) ys (start u) ≡ dropped-at (start u)
-  unfolding start
-  first-drops [] enough = absurd (not-home (rank-zero (v .given .in-free) u (omega arith)))
-  first-drops (x ∷ ys) enough = hops.walks-by-hops (f t good table right) x ys (start u) .drops (drops-there x (start u) refl)
-
-  cut-off : CutOff t table u
-  unfolding start
-  cut-off =
-      record {
-        figure-is = figure-unreached good v u place out;
-        walks = λ schedule s.
-            walk-here t good table right schedule s u place
-            (first-drops (rowsIn (t .routers) (t .links) schedule) (rows-enough t good table right schedule s u place));
-        hops = λ states p e s k. hops-when t table right states p s k ∙ ap done (v .hop-is states p ∙ drops-there states p e);
-      }
-
-pub cut-off-drops : CutOffDrops
-cut-off-drops = cut-off
-
-pub shortest-walks : ShortestWalks
-shortest-walks t good table right mode u place path schedule s ones =
-    let v = o t good table right in
-    let n = networkOf t in
-    let a : T (accepted n (v .d) shortest-path (v .order)) =
-    acceptance-exact n (v .well-formed) (v .d) (v .inside) shortest-path (v .order) .1 (rw (v .destination-is, v .lists .ordered) at mode) in
-    shortest-here t good table right schedule s u place
-    (shortest.shortest-walks n (v .well-formed) (v .d) (v .inside) (v .limit) (v .order) a (v .given .limit-least) u (rw (v .destination-is) at path)
-    (rowsIn (t .routers) (t .links) schedule) (all-up t good table right schedule s ones) (rows-enough t good table right schedule s u place))

@@ -1,8 +1,8 @@
--- What is proved of what the calls answer: demand 1 for these calls, over all values; demand 3 and demand 2's last clause, for every sound topology and
--- every table that checking answers 0 for.
+-- What is proved of what the calls answer: demand 1 for these calls, over all values; demand 3, whose claims are said of any system (Demand3), and demand 2's
+-- last clause, for every sound topology and every table that checking answers 0 for.
 -- Assumes nothing.
-use Prim.Native.Nat.{ℕ, suc, pred, _+_, _*_, _≤_, _<_}
-use mathlib.Core.List.{List, [], _∷_, _++_, map, List·Memᴰ}
+use Prim.Native.Nat.{ℕ, pred, _+_, _*_, _≤_, _<_}
+use mathlib.Core.List.{List, [], map, List·Memᴰ}
 use mathlib.Core.Logic.{_↔_, _≢_, _⊎_}
 use mathlib.Core.Path.{_≡_}
 use lib.Dec.{T}
@@ -12,7 +12,7 @@ use Rattle.network.specs.Network.{Arc, arcsOf}
 use Rattle.network.specs.Distance.{PathTo, distance}
 use Rattle.network.specs.Order.{shortest-path}
 use Rattle.network.specs.Forwarding as network
-use Rattle.network.specs.Forwarding.{Packet, Walk, delivered-at, dropped-at, packetOf}
+use Rattle.network.specs.Forwarding.{Packet, Walk, delivered-at, dropped-at}
 use Rattle.network.specs.Theorems.Order.{Accepted}
 use Rattle.topology_types.specs.declared.Answer.{Answer}
 use Rattle.topology_types.specs.declared.Topology.{Topology}
@@ -26,9 +26,11 @@ use Rattle.forwarding_rules.specs.declared.Setting.the-variants as setti
 use Rattle.forwarding_rules.specs.declared.Hopped.the-variants as hopped
 use Rattle.forwarding_rules.specs.declared.Walked.the-variants as walked
 use Rattle.forwarding_rules.specs.Schedule.{rowIn, rowsIn, soundLength}
-use Rattle.forwarding_rules.specs.Calls.{Said, done, refused, said, packetIn, settingSays, hopSays, walkSays, figures, countingHops, settingAt, hopping, walking}
+use Rattle.forwarding_rules.specs.Calls.{Said, done, refused, said, packetIn, settingSays, hopSays, walkSays, by, figures, countingHops, settingAt, hopping, walking}
 use Rattle.forwarding_rules.specs.Lent.{Left, settingPacket, hoppingPacket}
-use Rattle.forwarding_rules.specs.Lists.{PacketCall, set-at, hop-under, afterOne, afterAll, setAfter, lastSetIn}
+use Rattle.forwarding_rules.specs.System.{System}
+use Rattle.forwarding_rules.specs.Theorems.Demand3.{FigureExact, CutOff, HopByRule, WalkEnds, ByHops, WalkCosts, CallsBounded, CallRule, InTurn, Claims}
+pub mod Demand3
 
 -- 01, Packet, hop and schedule; Refusals: a packet of the code, and the answers that hold it, with its place as a number
 pub record PacketMeant (p : code.Packet) : Type 0 where
@@ -115,6 +117,57 @@ pub record SoundSchedule (t : Topology) (schedule : List ℕ) : Type 0 where
   pub whole-rows : WholeRows t schedule
   pub states-are : (b : ℕ) → List·Memᴰ b schedule → b ≤ 1
 
+-- 01, Refusals, 14 and 15, for a hop: the topology is sound, and the packet's station and hops made are below N
+pub record PacketStands (t : Topology) (p : Packet ℕ) : Type 0 where
+  pub is-sound : T (sound t)
+  pub station : p .station < t .routers
+  pub hops : p .hops < t .routers
+
+-- 01, Refusals, 22 and 23, for a hop: one byte per link, none over 1
+pub record SoundStates (t : Topology) (states : List ℕ) : Type 0 where
+  pub long : length states ≡ t .links
+  pub states-are : (b : ℕ) → List·Memᴰ b states → b ≤ 1
+
+-- 02, #107: u has a path to the table's destination
+abbrev pub Reached : Topology → List ℕ → ℕ → Type 0
+Reached t table u = PathTo (networkOf t) (destinationByte table) u
+
+-- 01, Packet, hop and schedule: what a move from u to its neighbour v costs. No two arcs of a router lead to one place (`WellFormed` of `network`, by
+-- `SoundNetworks` of `topology_sound`).
+abbrev pub MoveCosts : Topology → ℕ → ℕ → ℕ → Type 0
+MoveCosts t u v cost = (a : Arc) × List·Memᴰ a (arcsOf (networkOf t) u) × (a .to ≡ v) × (a .cost ≡ cost)
+
+-- One router table is a system: a packet stands at a station and can be set at each, a hop is given a row of link states, and a walk a schedule of at least
+-- N - 1 rows. So there is a row for every hop off d, and none is dropped for want of one.
+abbrev pub routerTable : Topology → List ℕ → System
+routerTable t table =
+    record {
+      forwarding = by t table;
+      places = t .routers;
+      standing = λ u. u;
+      Run = List ℕ;
+      setting = settingAt t;
+      hopping = hopping t table;
+      walking = walking t table;
+      setting-lent = settingPacket t;
+      hopping-lent = hoppingPacket t table;
+      may-stand = λ p. PacketStands t p;
+      sound-states = λ states. SoundStates t states;
+      sound-run = λ schedule. SoundSchedule t schedule;
+      has-row = λ schedule h. h * t .links + t .links ≤ length schedule;
+      row-of = rowIn (t .links);
+      least-run = λ schedule. length schedule ≡ pred (t .routers) * t .links;
+      reported = λ u. getD (figures t table) u 0;
+      bound = rankByte table;
+      reached = Reached t table;
+      no-figure = 255;
+      at-destination = λ u. u ≡ destinationByte table;
+      none-up = NoneUp t table;
+      goes = λ states u v. FirstUp t table states u v;
+      rowless = λ u. ⊥;
+      costs = MoveCosts t;
+    }
+
 -- The greatest hop counts are reported for every accepted table, N bytes; a buffer that is too short is refused at N and stays as it was.
 pub record Reports (t : Topology) (table buffer : List ℕ) : Type 0 where
   pub success : t .routers ≤ length buffer → countingHops t table buffer .answer ≡ answer 0 (t .routers)
@@ -131,46 +184,6 @@ abbrev pub CountRefuses : Type 0
 CountRefuses =
     (t : Topology) (table buffer : List ℕ) (number at : ℕ) → number ≢ 0 → tableChecking t table ≡ answer number at →
     countingHops t table buffer ≡ record { answer = answer number at; buffer = buffer }
-
--- 02, #107: u has a path to the table's destination
-abbrev pub Reached : Topology → List ℕ → ℕ → Type 0
-Reached t table u = PathTo (networkOf t) (destinationByte table) u
-
--- Demand 3, walks: for every reached start the figure we report is exactly the greatest hop count of a walk from there.
-pub record FigureExact (t : Topology) (table : List ℕ) (u : ℕ) : Type 0 where
-  -- no schedule passes it
-  pub never-passed : (schedule : List ℕ) (w : Walk ℕ) → walking t table u schedule ≡ done w → packetOf w .hops ≤ getD (figures t table) u 0
-  -- some schedule, of exactly N - 1 rows, reaches it
-  pub reached : (schedule : List ℕ) × (length schedule ≡ pred (t .routers) * t .links)
-      × ((w : Walk ℕ) × (walking t table u schedule ≡ done w) × (packetOf w .hops ≡ getD (figures t table) u 0))
-  -- it never exceeds the station's rank
-  pub at-most-rank : getD (figures t table) u 0 ≤ rankByte table u
-
-abbrev pub FiguresExact : Type 0
-FiguresExact = OfAccepted (λ t table. (u : ℕ) → u < t .routers → Reached t table u → FigureExact t table u)
-
--- 01, Refusals, 14 and 15, for a hop: the topology is sound, and the packet's station and hops made are below N
-pub record PacketStands (t : Topology) (p : Packet ℕ) : Type 0 where
-  pub is-sound : T (sound t)
-  pub station : p .station < t .routers
-  pub hops : p .hops < t .routers
-
--- 01, Refusals, 22 and 23, for a hop: one byte per link, none over 1
-pub record SoundStates (t : Topology) (states : List ℕ) : Type 0 where
-  pub long : length states ≡ t .links
-  pub states-are : (b : ℕ) → List·Memᴰ b states → b ≤ 1
-
--- Demand 3, last sentence: a hop not refused goes by 01's rule, and drops the packet exactly when it is short of its destination and no link to a
--- listed next hop is up.
-pub record HopByRule (t : Topology) (table states : List ℕ) (p : Packet ℕ) : Type 0 where
-  pub delivers : (hopping t table states p ≡ done network.delivered) ↔ (p .station ≡ destinationByte table)
-  pub drops : (hopping t table states p ≡ done network.dropped) ↔ ((p .station ≢ destinationByte table) × NoneUp t table states (p .station))
-  pub moves : (q : Packet ℕ) → (hopping t table states p ≡ done (network.moved q))
-      ↔ ((p .station ≢ destinationByte table) × FirstUp t table states (p .station) (q .station) × (q .hops ≡ suc (p .hops)))
-
-abbrev pub HopsByRule : Type 0
-HopsByRule =
-    OfAccepted (λ t table. (states : List ℕ) (p : Packet ℕ) → PacketStands t p → SoundStates t states → HopByRule t table states p)
 
 -- A hop is not refused exactly where each of its tests passes.
 abbrev pub HopsDone : Type 0
@@ -232,7 +245,7 @@ abbrev pub SettingsAnswer : Type 0
 SettingsAnswer = (t : Topology) (u : ℕ) → SettingAnswers t u
 
 -- An answer, and the packet as it is then.
-abbrev pub left : {A : Type 0} → Said A → Packet ℕ → Left A
+abbrev pub left : {S A : Type 0} → Said A → Packet S → Left S A
 left said p = record { answer = said; packet = p }
 
 -- 01, Packet, hop and schedule; Refusals: what a setting of a lent packet leaves, for every packet before. Its old contents are not tested, and a refusal
@@ -258,16 +271,6 @@ pub record HopLeaves (t : Topology) (table states : List ℕ) (p : Packet ℕ) :
 abbrev pub HopsLeave : Type 0
 HopsLeave = (t : Topology) (table states : List ℕ) (p : Packet ℕ) → HopLeaves t table states p
 
--- 02, #107: from a start with no path to the destination a walk not refused is dropped after 0 hops, and so is every hop there, whatever the hops made; the
--- figure reported is 255.
-pub record CutOff (t : Topology) (table : List ℕ) (u : ℕ) : Type 0 where
-  pub figure-is : getD (figures t table) u 0 ≡ 255
-  pub walks : (schedule : List ℕ) → SoundSchedule t schedule → walking t table u schedule ≡ done (dropped-at (record { station = u; hops = 0 }))
-  pub hops : (states : List ℕ) (p : Packet ℕ) → p .station ≡ u → PacketStands t p → SoundStates t states → hopping t table states p ≡ done network.dropped
-
-abbrev pub CutOffDrops : Type 0
-CutOffDrops = OfAccepted (λ t table. (u : ℕ) → u < t .routers → (Reached t table u → ⊥) → CutOff t table u)
-
 -- 02, #107: a station is reached or cut off, and its rank byte tells which: below N, or 255
 pub record ByRank (t : Topology) (table : List ℕ) (u : ℕ) : Type 0 where
   pub either : Reached t table u ⊎ (Reached t table u → ⊥)
@@ -277,79 +280,47 @@ pub record ByRank (t : Topology) (table : List ℕ) (u : ℕ) : Type 0 where
 abbrev pub RanksTell : Type 0
 RanksTell = OfAccepted (λ t table. (u : ℕ) → u < t .routers → ByRank t table u)
 
--- Demand 3: a walk not refused ends delivered at d, or dropped off d where, in the row of states for that hop, no link to a listed next hop is up.
-pub data WalkEnds (t : Topology) (table : List ℕ) (u : ℕ) (schedule : List ℕ) : Type 0 where
-  delivers : (p : Packet ℕ) → walking t table u schedule ≡ done (delivered-at p) → p .station ≡ destinationByte table → WalkEnds t table u schedule
-  drops : (p : Packet ℕ) → walking t table u schedule ≡ done (dropped-at p) → p .station ≢ destinationByte table →
-      p .hops * t .links + t .links ≤ length schedule → NoneUp t table (rowIn (t .links) schedule (p .hops)) (p .station) →
-      WalkEnds t table u schedule
+-- Demand 3, entire: its claims (Demand3), of every sound topology and every table accepted on it.
+abbrev pub TablesMeet : Type 0
+TablesMeet = OfAccepted (λ t table. Claims (routerTable t table))
+
+-- Its parts: the figures, and what is cut off.
+abbrev pub FiguresExact : Type 0
+FiguresExact = OfAccepted (λ t table. (u : ℕ) → u < t .routers → Reached t table u → FigureExact (routerTable t table) u)
+
+abbrev pub CutOffDrops : Type 0
+CutOffDrops = OfAccepted (λ t table. (u : ℕ) → u < t .routers → (Reached t table u → ⊥) → CutOff (routerTable t table) u)
+
+-- each hop, and walks: how they end, and that they are made of single hops
+abbrev pub HopsByRule : Type 0
+HopsByRule =
+    OfAccepted (λ t table. (states : List ℕ) (p : Packet ℕ) → PacketStands t p → SoundStates t states →
+    HopByRule (routerTable t table) states p)
 
 abbrev pub WalksEnd : Type 0
-WalksEnd = OfAccepted (λ t table. (u : ℕ) → u < t .routers → (schedule : List ℕ) → SoundSchedule t schedule → WalkEnds t table u schedule)
-
--- Demand 3, "in a walk too": from a packet, single hops by the call for them, each under the schedule's row for it, lead to this end. Where the packet
--- is at d it is delivered. The number is what the hops cost, each in the direction of travel, since no two arcs of a router lead to one place (`WellFormed` of
--- `network`, by `SoundNetworks` of `topology_sound`).
-pub data ByHops (t : Topology) (table schedule : List ℕ) : Packet ℕ → Walk ℕ → ℕ → Type 0 where
-  arrives : (p : Packet ℕ) → p .station ≡ destinationByte table → ByHops t table schedule p (delivered-at p) 0
-  drops : (p : Packet ℕ) → hopping t table (rowIn (t .links) schedule (p .hops)) p ≡ done network.dropped → ByHops t table schedule p (dropped-at p) 0
-  goes-on : (p q : Packet ℕ) (w : Walk ℕ) (a : Arc) (rest : ℕ) → hopping t table (rowIn (t .links) schedule (p .hops)) p ≡ done (network.moved q) →
-      List·Memᴰ a (arcsOf (networkOf t) (p .station)) → a .to ≡ q .station → ByHops t table schedule q w rest →
-      ByHops t table schedule p w (a .cost + rest)
+WalksEnd =
+    OfAccepted (λ t table. (u : ℕ) → u < t .routers → (schedule : List ℕ) → SoundSchedule t schedule →
+    WalkEnds (routerTable t table) u schedule)
 
 abbrev pub WalksByHops : Type 0
 WalksByHops =
     OfAccepted (λ t table. (u : ℕ) (schedule : List ℕ) (w : Walk ℕ) → walking t table u schedule ≡ done w →
-    (cost : ℕ) × ByHops t table schedule (record { station = u; hops = 0 }) w cost)
+    (cost : ℕ) × ByHops (routerTable t table) schedule (record { station = u; hops = 0 }) w cost)
 
--- What one call does to the packet, and to where it was last set: it leaves the packet that the call's contract says, and a refused one changes nothing.
-pub record CallRule (t : Topology) (table : List ℕ) (p : Packet ℕ) (last : ℕ) : Type 0 where
-  pub set-leaves : (u : ℕ) → afterOne t table (set-at u) p ≡ settingPacket t u p .packet
-  pub hop-leaves : (states : List ℕ) → afterOne t table (hop-under states) p ≡ hoppingPacket t table states p .packet
-  pub sets : (u : ℕ) (q : Packet ℕ) → settingAt t u ≡ done q → (afterOne t table (set-at u) p ≡ q) × (setAfter t table (set-at u) last ≡ u)
-  pub set-refused : (u number at : ℕ) → settingAt t u ≡ refused number at →
-      (afterOne t table (set-at u) p ≡ p) × (setAfter t table (set-at u) last ≡ last)
-  pub hops : (states : List ℕ) (q : Packet ℕ) → hopping t table states p ≡ done (network.moved q) → afterOne t table (hop-under states) p ≡ q
-  pub stays : (states : List ℕ) → (hopping t table states p ≡ done network.delivered) ⊎ (hopping t table states p ≡ done network.dropped) →
-      afterOne t table (hop-under states) p ≡ p
-  pub hop-refused : (states : List ℕ) (number at : ℕ) → hopping t table states p ≡ refused number at → afterOne t table (hop-under states) p ≡ p
-  pub hop-sets-nothing : (states : List ℕ) → setAfter t table (hop-under states) last ≡ last
+-- the one claim on lists of calls; what each call does, and in which turn they are made, whatever the table
+abbrev pub CallsExact : Type 0
+CallsExact = OfAccepted (λ t table. CallsBounded (routerTable t table))
 
 abbrev pub CallsByRule : Type 0
-CallsByRule = (t : Topology) (table : List ℕ) (p : Packet ℕ) (last : ℕ) → CallRule t table p last
-
--- 01, Packet, hop and schedule: the last call of a list gets the packet as those before it left it, and where it was last set.
-pub record InTurn (t : Topology) (table : List ℕ) (p : Packet ℕ) (last : ℕ) : Type 0 where
-  pub no-calls : (afterAll t table [] p ≡ p) × (lastSetIn t table [] last ≡ last)
-  pub one-more : (cs : List PacketCall) (c : PacketCall) → (afterAll t table (cs ++ (c ∷ [])) p ≡ afterOne t table c (afterAll t table cs p))
-      × (lastSetIn t table (cs ++ (c ∷ [])) last ≡ setAfter t table c (lastSetIn t table cs last))
+CallsByRule = (t : Topology) (table : List ℕ) (p : Packet ℕ) (last : ℕ) → CallRule (routerTable t table) p last
 
 abbrev pub CallsInTurn : Type 0
-CallsInTurn = (t : Topology) (table : List ℕ) (p : Packet ℕ) (last : ℕ) → InTurn t table p last
-
--- Demand 3, hop by hop: ONE claim over all lists of calls, refused ones included, after a first accepted setting. The packet never has more hops made
--- than the figure of the station it was last set at; if that is not reached it has 0 hops made, always, and stands there (02, #107). For each reached
--- station some list that last sets it there, and goes on by hops under states that 22 and 23 let pass, reaches that figure.
-pub record CallsBounded (t : Topology) (table : List ℕ) : Type 0 where
-  pub never-passed : (p : Packet ℕ) (first : ℕ) → first < t .routers → (cs : List PacketCall) →
-      (lastSetIn t table cs first < t .routers)
-      × (afterAll t table (set-at first ∷ cs) p .hops ≤ getD (figures t table) (lastSetIn t table cs first) 0)
-  pub never-moved : (p : Packet ℕ) (first : ℕ) → first < t .routers → (cs : List PacketCall) → (Reached t table (lastSetIn t table cs first) → ⊥) →
-      afterAll t table (set-at first ∷ cs) p ≡ record { station = lastSetIn t table cs first; hops = 0 }
-  pub reached : (p : Packet ℕ) (s : ℕ) → s < t .routers → Reached t table s → (cs : List PacketCall) × (lastSetIn t table cs s ≡ s)
-      × (afterAll t table (set-at s ∷ cs) p .hops ≡ getD (figures t table) s 0)
-      × ((c : PacketCall) → List·Memᴰ c cs → (states : List ℕ) × (c ≡ hop-under states) × SoundStates t states)
-
-abbrev pub CallsExact : Type 0
-CallsExact = OfAccepted CallsBounded
+CallsInTurn = (t : Topology) (table : List ℕ) (p : Packet ℕ) (last : ℕ) → InTurn (routerTable t table) p last
 
 -- Demand 2, last clause: over a table in shortest-path mode, with all links up before every hop, the walk from every reached start is delivered at d, and
 -- what its hops cost, each in the direction of travel, adds up to the distance.
-pub record ShortestWalk (t : Topology) (table : List ℕ) (u : ℕ) (schedule : List ℕ) : Type 0 where
-  pub end : Packet ℕ
-  pub delivers : walking t table u schedule ≡ done (delivered-at end)
-  pub there : end .station ≡ destinationByte table
-  pub shortest : ByHops t table schedule (record { station = u; hops = 0 }) (delivered-at end) (distance (networkOf t) (destinationByte table) u)
+abbrev pub ShortestWalk : Topology → List ℕ → ℕ → List ℕ → Type 0
+ShortestWalk t table u schedule = WalkCosts (routerTable t table) u schedule (distance (networkOf t) (destinationByte table) u)
 
 abbrev pub ShortestWalks : Type 0
 ShortestWalks =

@@ -23,12 +23,10 @@ use Rattle.table.specs.Listed.{destinationIn, entriesIn, listed}
 use Rattle.table.specs.Calls.{tableChecking}
 use Rattle.forwarding_rules.specs.Schedule.{rowsIn}
 use Rattle.forwarding_rules.specs.Calls.{done, by, figures, walking}
-use Rattle.forwarding_rules.specs.Theorems.{ListsPlace, SoundSchedule, Reached}
+use Rattle.forwarding_rules.specs.Theorems.{ListsPlace, Reached}
 use Rattle.forwarding_rules.proofs.Listed.{Over, figure-reached}
-use Rattle.forwarding_rules.proofs.Figures.{valid-states}
+use Rattle.forwarding_rules.proofs.Laid.{schedule-of}
 use Rattle.forwarding_rules.proofs.Passed.{walks-when, walks-only}
-use Rattle.forwarding_rules.proofs.Rules.{mem-joined}
-use Rattle.forwarding_rules.proofs.Schedules.{joined, joined-long, rows-again}
 use Rattle.paths_rules.specs.Calls.{pathsOf}
 use Rattle.paths_rules.specs.Theorems.{PathIs, Sooner, PathsRight, PathsExact}
 use Rattle.paths_rules.proofs.Listed.{forwarding, o, rows, carried}
@@ -126,18 +124,11 @@ module _ (t : Topology) (good : T (sound t)) (table : List ℕ) (right : tableCh
           × ((q : Packet ℕ) × (walking t table u schedule ≡ done (delivered-at q))) × (visited (by t table) (rowsIn (t .routers) (t .links) schedule) u ≡ p)
       scheduled p m =
           let (xs, many, valid, (q, w), v) = exact .walks .each-path p (rw same at m) (pred (t .routers)) (omega (arith, x .rank-below u place)) in
-          let wide : (states : List ℕ) → List·Memᴰ states xs → length states ≡ t .links = λ row k. valid-states n row (valid row k) .0 ∙ x .links-are in
-          let long : length (joined xs) ≡ pred (t .routers) * t .links = joined-long (t .links) xs wide ∙ ap (λ (k : ℕ). k * t .links) many in
-          let again = rows-again (t .links) (t .routers) xs wide many in
-          let s : SoundSchedule t (joined xs) =
-          record {
-            whole-rows = record { rows = pred (t .routers); whole = long; enough = omega arith };
-            states-are = λ b k. let (states, l, i) = mem-joined (λ states. states) xs k in valid-states n states (valid states l) .1 b i;
-          } in (
-            joined xs,
+          let (schedule, long, sound, are) = schedule-of t (x .links-are) xs many valid in (
+            schedule,
             long,
-            (q, walks-when t table right u (joined xs) good place s ∙ rw again (ap done (x .walk-is xs (start u) ∙ w))),
-            rw again (visited-is xs ∙ v),
+            (q, walks-when t table right u schedule good place sound ∙ rw are (ap done (x .walk-is xs (start u) ∙ w))),
+            rw are (visited-is xs ∙ v),
           )
 
       paths-right : PathsRight t table u

@@ -20,6 +20,7 @@ use Rattle.table.specs.Calls.{filling}
 use Rattle.table.specs.Facts.{room}
 use Rattle.forwarding_rules.specs.Calls.{Said, done, refused, countingHops, walking}
 use Rattle.forwarding_rules.specs.Lists.{PacketCall, afterAll}
+use Rattle.forwarding_rules.specs.Theorems.{routerTable}
 use Rattle.facts_starred.specs.Facts.Fact.{leftAt}
 
 -- Which end a walk is expected to have, at which station, after how many hops.
@@ -38,7 +39,7 @@ pub data Expected : Type 0 where
   -- a walk, by the table filled, from a start under the bytes of a schedule
   walks : ℕ → List ℕ → End → Expected
   -- a list of calls, by the table filled, leaves the packet at a station with so many hops made; at first it is at place 0 with 0 hops made
-  leaves : List PacketCall → ℕ → ℕ → Expected
+  leaves : List (PacketCall (List ℕ)) → ℕ → ℕ → Expected
 
 pub record Chain : Type 0 where
   pub stream : List ℕ
@@ -71,7 +72,7 @@ byOrder t d (lists u expected) order = byTable t d order (λ table. sameNumbers 
 byOrder t d (counts expected) order =
     byTable t d order (λ table. wrote (countingHops t table (room (t .routers))) (λ figures. sameNumbers figures expected))
 byOrder t d (walks u schedule expected) order = byTable t d order (λ table. endsSo expected (walking t table u schedule))
-byOrder t d (leaves calls station hops) order = byTable t d order (λ table. leftAt (afterAll t table calls (start 0)) station hops)
+byOrder t d (leaves calls station hops) order = byTable t d order (λ table. leftAt (afterAll (routerTable t table) calls (start 0)) station hops)
 
 -- on from what was read, which must not be refused
 unfoldable pub byReading : Reading → ℕ → Mode → Expected → Bool
