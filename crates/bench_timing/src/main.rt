@@ -4,9 +4,7 @@
 // hop counts, and `w` for walks over a schedule of as many rows as a walk can use, `W` of ten times as many, both over the table of destination 0.
 use forwarding::Walked;
 use order::Mode;
-use table_rows::HEADER;
-use table_rows::ROW;
-use table_rows::TABLE;
+use table::unchecked::Built;
 use topology::Place;
 use topology::ROUTERS;
 use topology::Topology;
@@ -49,13 +47,6 @@ fn all_orders(t: Topology, mode: Mode, sum: u32) -> u32
     next
 }
 
-// Room for the longest table. An array that comes out of a function is known by what the function ensures.
-fn room() -> [u8; TABLE]
-    ensures { λ r. ⌜ 1220 ≡ length r ⌝ }
-{
-    [0; TABLE]
-}
-
 // The tables for all destinations, once.
 fn all_tables(t: Topology, mode: Mode, sum: u32) -> u32
     requires { ⌜ sum < 65521 ⌝ }
@@ -68,9 +59,8 @@ fn all_tables(t: Topology, mode: Mode, sum: u32) -> u32
     let mut next = sum;
     let mut d: usize = 0;
     while d < t.routers {
-        let mut out = room();
-        table::unchecked::build(t, a, Place(d as u8), mode, &mut out);
-        next = with_bytes(next, &out, 7);
+        let bytes = table::unchecked::build(t, a, Place(d as u8), mode).bytes;
+        next = with_bytes(next, &bytes, 7);
         d += 1;
     }
     next
@@ -98,11 +88,11 @@ fn repeated_tables(t: Topology, mode: Mode, times: u32) -> u32 {
 }
 
 // The table of destination 0 for the order in shortest-path mode.
-fn put_table(t: Topology, out: &mut [u8])
-    requires { ⌜ T (sound t) × (1220 ≡ length (now out)) ⌝ }
+fn first_table(t: Topology) -> Built
+    requires { ⌜ T (sound t) ⌝ }
+    ensures { λ r. ⌜ r .length ≤ length (r .bytes) ⌝ }
 {
-    let a = arcs::unchecked::of(t);
-    table::unchecked::build(t, a, Place(0), Mode::ShortestPath, out);
+    table::unchecked::build(t, arcs::unchecked::of(t), Place(0), Mode::ShortestPath)
 }
 
 // The greatest hop counts, once.
@@ -119,9 +109,9 @@ fn repeated_counts(t: Topology, times: u32) -> u32 {
     if !topology::is_sound(t) {
         return 0;
     }
-    let mut bytes = room();
-    put_table(t, &mut bytes);
-    let length = HEADER + ROW * t.routers;
+    let built = first_table(t);
+    let bytes = built.bytes;
+    let length = built.length;
     let mut sum: u32 = 0;
     let mut i: u32 = 0;
     while i < times {
@@ -211,9 +201,9 @@ fn repeated_walks(t: Topology, long: bool, times: u32) -> u32 {
     if !topology::is_sound(t) {
         return 0;
     }
-    let mut bytes = room();
-    put_table(t, &mut bytes);
-    let length = HEADER + ROW * t.routers;
+    let built = first_table(t);
+    let bytes = built.bytes;
+    let length = built.length;
     let most = t.routers - 1;
     let rows = if long { 10 * most } else { most };
     let mut schedule = room_for_schedule();

@@ -1,15 +1,12 @@
 // What the rows of a table list.
 use arcs::Arcs;
 use order::Mode;
-use table_rows::HEADER;
-use table_rows::ROW;
-use table_rows::TABLE;
+use table::unchecked::reading;
 use topology_types::Place;
 use topology_types::Topology;
 ghost use mathlib.Core.Path.{_≡_};
 ghost use Prim.Native.Nat.{_<_};
 ghost use lib.Dec.{T};
-ghost use lib.ListN.{length};
 ghost use Rattle.topology_sound.specs.Sound.{sound};
 ghost use Rattle.arcs.specs.Inner.{Laid};
 ghost use Rattle.coverage_rules.specs.Coverage.{pairsTo, coveredAmong, listedFor};
@@ -21,23 +18,17 @@ pub(crate) struct Counts {
     pub entries: usize,
 }
 
-// An array that comes out of a function is known by what the function ensures.
-fn room() -> [u8; TABLE]
-    ensures { λ r. ⌜ 1220 ≡ length r ⌝ }
-{
-    [0; TABLE]
-}
-
 // The tally of a table for n routers.
 fn tally(table: &[u8], n: usize) -> Counts
     requires { ⌜ Countable (now table) n ⌝ }
     ensures { λ r. ⌜ (r .two ≡ twoIn (now (table .entry)) n) × (r .entries ≡ allIn (now (table .entry)) n) ⌝ }
 {
+    let l = reading::layout_of(table);
     let mut two: usize = 0;
     let mut entries: usize = 0;
     let mut u: usize = 0;
     while u < n {
-        let count = table[HEADER + ROW * u + 2] as usize;
+        let count = reading::row_in(l, table, u).len();
         entries += count;
         u += 1;
         if 2 <= count {
@@ -52,9 +43,8 @@ pub(crate) fn tally_for(t: Topology, a: Arcs, destination: Place) -> Counts
     requires { ⌜ T (sound t) × Laid t a × (destination .0 < t .routers) ⌝ }
     ensures { λ r. ⌜ (r .two ≡ coveredAmong t (pairsTo (t .routers) (destination .0))) × (r .entries ≡ listedFor t (destination .0)) ⌝ }
 {
-    let n = t.routers;
-    let length = HEADER + ROW * n;
-    let mut table = room();
-    table::unchecked::build(t, a, destination, Mode::ShortestPath, &mut table);
-    tally(&table[..length], n)
+    let built = table::unchecked::build(t, a, destination, Mode::ShortestPath);
+    let bytes = built.bytes;
+    let length = built.length;
+    tally(&bytes[..length], t.routers)
 }

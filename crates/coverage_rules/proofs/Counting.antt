@@ -1,5 +1,5 @@
--- The count of a row in the destination's table is the length of `network`'s row, and the destination's own row is empty. So what is counted over all rows
--- of the tables is what the pairs and the rows give.
+-- A row of the destination's table has as many entries as `network`'s row, and the destination's own row is empty. So what is counted over all rows of the
+-- tables is what the pairs and the rows give.
 -- Assumes nothing.
 use Prim.Native.Nat.{ℕ, zero, suc, _+_, _*_, _≤_, _<_}
 use mathlib.Core.Bool.{not, _&&_}
@@ -11,9 +11,9 @@ use native.Mathlib.Numerals.{add-one}
 use native.Mathlib.Omega.{arith}
 use borrow.Author.Tests.{eq-eqb, ne-eqb}
 use lib.Dec.{T, eqb, leb}
-use lib.ListN.{length, set, length-append}
+use lib.ListN.{length, set, length-append, length-map}
 use Rattle.network.specs.Lists.{numbersFrom, below, keep}
-use Rattle.network.specs.Network.{size}
+use Rattle.network.specs.Network.{Arc, size}
 use Rattle.network.specs.Order.{shortest-path, free, build}
 use Rattle.network.proofs.Below.{below-lt, length-map-below}
 use Rattle.network.proofs.Filled.{rows-filled}
@@ -27,13 +27,11 @@ use Rattle.topology.specs.Written.{joinedOver}
 use Rattle.arcs.proofs.Slots.{below-more}
 use Rattle.order_standings.proofs.Counts.{keep-append, count-most}
 use Rattle.order_standings.proofs.Keeping.{keep-same, keep-keep, keep-map}
-use Rattle.table_rows.specs.Bytes.{rowStart}
-use Rattle.table.proofs.Bytes.{row-few}
 use Rattle.listing_rules.specs.Listing.{tableFor}
-use Rattle.listing_rules.proofs.Tables.{given, long}
+use Rattle.listing_rules.proofs.Tables.{given, row-stands, places}
 use Rattle.coverage_rules.specs.Coverage.{rowFor, pairsTo, hasTwo, coveredAmong, listedFor}
 use Rattle.coverage_rules.specs.Theorems.{total}
-use Rattle.coverage_rules.specs.Inner.{entriesAt, twoIn, allIn, Countable}
+use Rattle.coverage_rules.specs.Inner.{listedAt, twoIn, allIn, Countable}
 use Rattle.coverage_rules.proofs.Lists.{joined-more}
 
 -- sums of what agrees are equal, and of what is at most so much at most so many times that
@@ -68,9 +66,9 @@ module _ (t : Topology) (good : T (sound t)) (d : ℕ) (place : d < t .routers) 
   inside : d < size (networkOf t)
   inside = omega (arith, sound-networks t good .routers)
 
-  count-is : (u : ℕ) → u < t .routers → entriesAt table u ≡ length (rowFor t d u)
-  unfolding entriesAt rowStart rowFor
-  count-is u h = given t good d place .bytes .rows u (omega (arith, sound-networks t good .routers)) .count
+  count-is : (u : ℕ) → u < t .routers → listedAt table u ≡ length (rowFor t d u)
+  unfolding rowFor
+  count-is u h = ap length (places t good d place u h) ∙ length-map (rowFor t d u) (λ (a : Arc). a .to)
 
   own-row : rowFor t d d ≡ []
   unfolding rowFor
@@ -79,7 +77,7 @@ module _ (t : Topology) (good : T (sound t)) (d : ℕ) (place : d < t .routers) 
       (acceptance-exact (networkOf t) (sound-networks t good .well-formed) d inside free _ .1 (given t good d place .in-free)) .no-entry
 
   -- a row of two entries or more is another router's
-  test-same : (u : ℕ) → u < t .routers → (not (eqb u d) && leb 2 (length (rowFor t d u))) ≡ leb 2 (entriesAt table u)
+  test-same : (u : ℕ) → u < t .routers → (not (eqb u d) && leb 2 (length (rowFor t d u))) ≡ leb 2 (listedAt table u)
   test-same u h = rw (count-is u h) (step (ℕ-discrete u d))
     where
       step : Dec (u ≡ d) → (not (eqb u d) && leb 2 (length (rowFor t d u))) ≡ leb 2 (length (rowFor t d u))
@@ -95,20 +93,14 @@ module _ (t : Topology) (good : T (sound t)) (d : ℕ) (place : d < t .routers) 
 
   pub covered-few : coveredAmong t (pairsTo (t .routers) d) ≤ t .routers
   unfolding twoIn
-  covered-few = omega (arith, covered-to, count-most (λ u. leb 2 (entriesAt table u)) (t .routers))
+  covered-few = omega (arith, covered-to, count-most (λ u. leb 2 (listedAt table u)) (t .routers))
 
   pub listed-to : listedFor t d ≡ allIn table (t .routers)
   unfolding listedFor allIn
   listed-to = joined-total (rowFor t d) (t .routers) ∙ sym (total-same _ _ (t .routers) count-is)
 
   pub countable : Countable table (t .routers)
-  unfolding rowStart rowFor
-  countable =
-      record {
-        routers = sound-exact t .0 good .routers-most;
-        long = long t good d place;
-        few = λ u h. omega (arith, count-is u h, row-few (networkOf t) d (t .limit) (given t good d place .limit-most) (build (networkOf t) d shortest-path) u);
-      }
+  countable = record { routers = sound-exact t .0 good .routers-most; row = row-stands t good d place }
 
 -- one destination more
 pub covered-more : (t : Topology) (n d : ℕ) →

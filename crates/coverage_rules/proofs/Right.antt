@@ -21,9 +21,9 @@ use Rattle.topology_sound.proofs.Sound.{sound-exact, sound-networks}
 use Rattle.stream_rules.proofs.Held.{padded-length}
 use Rattle.topology.specs.Written.{joinedOver}
 use Rattle.order_standings.proofs.Keeping.{kept-most}
-use Rattle.table.proofs.Lists.{places-are, no-path-row}
+use Rattle.table.proofs.Lists.{no-path-row}
 use Rattle.listing_rules.specs.Listing.{spaced}
-use Rattle.listing_rules.proofs.Tables.{given}
+use Rattle.listing_rules.proofs.Tables.{given, places}
 use Rattle.coverage_rules.specs.Coverage.{rowFor, pairsOf, hasTwo, coveredAmong, listedFor, figuresCounted, nothingCounted, coverage}
 use Rattle.coverage_rules.specs.Printed.{Fraction, overLinks, fractions, numbers, fractionText, fractionsText, coverageText}
 use Rattle.coverage_rules.specs.Theorems.{HowMany, PairOf, FiguresRight, CoverageRefuses, figureLine, FigureLinesRight}
@@ -95,9 +95,7 @@ figures-right t good =
       by-rule = λ d h. built-by-rule (networkOf t) (s .well-formed) d (omega (arith, s .routers)) shortest-path .0;
       entries = rowFor t;
       row-is = λ d u. refl;
-      in-table = λ d u h k.
-          let g = given t good d h in
-          places-are (networkOf t) (s .well-formed) d (t .limit) (g .limit-most) _ _ (g .bytes) u (omega (arith, s .routers));
+      in-table = λ d u h k. places t good d h u k;
       unreached = λ d u h out.
           no-path-row (networkOf t) (s .well-formed) d (omega (arith, s .routers)) (given t good d h .in-free) (t .limit) u out;
       success = rw (is-counted t good);

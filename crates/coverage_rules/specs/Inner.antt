@@ -1,13 +1,13 @@
--- What the functions of `coverage_counts` ask of a table's bytes and of the room, and what they count; the calls that users name do not rest on it.
+-- What the functions of `coverage_counts` ask of a table and of the room, and what they count; the calls that users name do not rest on it.
 -- Assumes nothing.
-use Prim.Native.Nat.{ℕ, _+_, _≤_, _<_}
+use Prim.Native.Nat.{ℕ, _≤_, _<_}
 use mathlib.Core.List.{List}
-use mathlib.Core.Path.{_≡_}
 use lib.Dec.{leb}
-use lib.ListN.{length, getD}
+use lib.ListN.{length}
 use Rattle.network.specs.Lists.{below, keep}
-use Rattle.topology_types.specs.Limits.{mostRouters, mostNextHops}
-use Rattle.table_rows.specs.Bytes.{rowStart, tableLength}
+use Rattle.topology_types.specs.Limits.{mostRouters}
+use Rattle.table.specs.Listed.{placesIn}
+use Rattle.table.specs.Inner.{RowOf}
 use Rattle.coverage_rules.specs.Theorems.{total}
 
 -- room for a line: two numbers of at most 20 digits, the space between and the line's end
@@ -18,19 +18,18 @@ mostFraction = 42
 abbrev pub mostText : ℕ
 mostText = 2730
 
--- the count of the row of u
-unfoldable pub entriesAt : List ℕ → ℕ → ℕ
-entriesAt table u = getD table (rowStart u + 2) 0
+-- how many entries the row of u has
+abbrev pub listedAt : List ℕ → ℕ → ℕ
+listedAt table u = length (placesIn table u)
 
 -- how many of the first rows have two entries or more, and how many entries they have
 unfoldable pub twoIn : List ℕ → ℕ → ℕ
-twoIn table n = length (keep (λ u. leb 2 (entriesAt table u)) (below n))
+twoIn table n = length (keep (λ u. leb 2 (listedAt table u)) (below n))
 
 unfoldable pub allIn : List ℕ → ℕ → ℕ
-allIn table n = total (entriesAt table) n
+allIn table n = total (listedAt table) n
 
--- the bytes of a table for so many routers, as far as its rows are counted
+-- a table for so many routers, as far as its rows are counted
 pub record Countable (table : List ℕ) (n : ℕ) : Type 0 where
   pub routers : n ≤ mostRouters
-  pub long : length table ≡ tableLength n
-  pub few : (u : ℕ) → u < n → entriesAt table u ≤ mostNextHops
+  pub row : (u : ℕ) → u < n → RowOf table u

@@ -1,7 +1,7 @@
 -- In one piece every router has a path to every destination, so that all ranks are reached: an accepted order has N entries, no 255 stands after it, and
 -- what holds of reached stations holds of all.
 -- Assumes nothing.
-use Prim.Native.Nat.{ℕ, _+_, _*_, _-_, _≤_, _<_}
+use Prim.Native.Nat.{ℕ, _-_, _≤_, _<_}
 use mathlib.Core.Bool.{cond, not}
 use mathlib.Core.List.{List, [], append-nil, map}
 use mathlib.Core.Logic.{_↔_}
@@ -40,11 +40,11 @@ use Rattle.order.proofs.After.{all-none}
 use Rattle.order.proofs.Decided.{judged, other-length}
 use Rattle.order.proofs.Runs.{map-same}
 use Rattle.order.proofs.Reached.{accepted-long, built-long}
+use Rattle.table_rows.specs.Layout.{narrow, rowStart, tableLength}
 use Rattle.table.specs.Calls.{tableChecking}
+use Rattle.table.proofs.Fields.{fields-read}
 use Rattle.table.proofs.Fills.{fills-well, given-is-filled}
 use Rattle.table.proofs.Verdicts.{accepted-given}
-use Rattle.table_rows.specs.Bytes.{rowStart}
-use Rattle.table.specs.Listed.{rankIn}
 use Rattle.forwarding_rules.specs.Calls.{figure, figureByte, figures}
 use Rattle.forwarding_rules.specs.Theorems.{destinationByte, rankByte, Reached}
 use Rattle.forwarding_rules.proofs.Listed.{ranks-tell}
@@ -150,8 +150,9 @@ module _ (t : Topology) (good : T (sound t)) (one : InOnePiece t) where
             no-more = λ held a. (long a, no-more a);
           }
 
-  filled : (d : ℕ) → d < t .routers → (order : List ℕ) → Accepted (networkOf t) d free order → (buffer : List ℕ) → 4 + 19 * t .routers ≤ length buffer →
+  filled : (d : ℕ) → d < t .routers → (order : List ℕ) → Accepted (networkOf t) d free order → (buffer : List ℕ) → tableLength narrow (t .routers) ≤ length buffer →
       Filled t d order buffer
+  unfolding rowStart
   filled d place order a buffer room =
       let w = fills-well t good d place order a buffer room in
       let e = no-more d place a in
@@ -178,14 +179,14 @@ module _ (t : Topology) (good : T (sound t)) (one : InOnePiece t) where
 
   module _ (table : List ℕ) (right : tableChecking t table ≡ answer 0 0) where
     goal : destinationByte table < t .routers
-    goal = accepted-given t good table right .place
+    goal = rw (fields-read table .destination) (accepted-given t good table right .place)
 
     all : (u : ℕ) → u < t .routers → Reached t table u
     all u h = paths (destinationByte table) u goal h
 
     -- no rank is 255, so the bytes are the counts
     figures-are : figures t table ≡ map (figure t table) (below (t .routers))
-    unfolding figures figureByte rankIn rowStart
+    unfolding figures figureByte
     figures-are =
         map-same _ _ _
         (λ u m.

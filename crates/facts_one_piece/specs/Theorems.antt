@@ -1,7 +1,7 @@
 -- What holds of a topology in one piece (02, #107): there every router is reached, and every promise that speaks of reached stations now, or of 255, holds as
 -- it was before #107.
 -- Assumes nothing.
-use Prim.Native.Nat.{ℕ, suc, _+_, _*_, _≤_, _<_}
+use Prim.Native.Nat.{ℕ, suc, _≤_, _<_}
 use mathlib.Core.Bool.{cond, not}
 use mathlib.Core.List.{List, _∷_, List·Memᴰ, map}
 use mathlib.Core.Logic.{_↔_}
@@ -24,6 +24,7 @@ use Rattle.order_standings.specs.declared.Mode.{Mode}
 use Rattle.order.specs.Calls.{modeOf, wrongRanks, unreadyRanks, refusedAtFirst, building, checking}
 use Rattle.order.specs.Theorems.{upToN, InBoth}
 use Rattle.order.specs.Facts.{T-topology, twoParts}
+use Rattle.table_rows.specs.Layout.{narrow, tableLength}
 use Rattle.table.specs.Listed.{orderIn}
 use Rattle.table.specs.Calls.{filling, tableChecking}
 use Rattle.table.specs.Theorems.{RankAt, GivenBy, limitSetTo}
@@ -62,11 +63,11 @@ pub record Orders (t : Topology) (d : ℕ) (m : Mode) (meant : network.Mode) : T
 
 -- Filling for an order accepted in free mode, which is the whole of the bytes.
 pub record Filled (t : Topology) (d : ℕ) (order buffer : List ℕ) : Type 0 where
-  pub success : filling t d order buffer .answer ≡ answer 0 (4 + 19 * t .routers)
-  pub by-order : GivenBy t (take (4 + 19 * t .routers) (filling t d order buffer .buffer)) d (t .limit) order
-  pub rest : drop (4 + 19 * t .routers) (filling t d order buffer .buffer) ≡ drop (4 + 19 * t .routers) buffer
+  pub success : filling t d order buffer .answer ≡ answer 0 (tableLength narrow (t .routers))
+  pub by-order : GivenBy t (take (tableLength narrow (t .routers)) (filling t d order buffer .buffer)) d (t .limit) order
+  pub rest : drop (tableLength narrow (t .routers)) (filling t d order buffer .buffer) ≡ drop (tableLength narrow (t .routers)) buffer
   pub long : length (filling t d order buffer .buffer) ≡ length buffer
-  pub accepted : tableChecking t (take (4 + 19 * t .routers) (filling t d order buffer .buffer)) ≡ answer 0 0
+  pub accepted : tableChecking t (take (tableLength narrow (t .routers)) (filling t d order buffer .buffer)) ≡ answer 0 0
 
 -- Over an accepted table, from every station: the figures reported are the greatest hop counts, demand 3 by walks and by lists of calls, demand 2's
 -- shortest walk, and #103's longest path.
@@ -89,7 +90,7 @@ pub record AsBefore (t : Topology) : Type 0 where
   pub one-alone : t .links ≡ 0 → t .routers ≡ 1
   pub orders : (d : ℕ) → d < t .routers → InBoth (λ m meant. Orders t d m meant)
   pub filled : (d : ℕ) → d < t .routers → (order : List ℕ) → Accepted (networkOf t) d free order → (buffer : List ℕ) →
-      4 + 19 * t .routers ≤ length buffer → Filled t d order buffer
+      tableLength narrow (t .routers) ≤ length buffer → Filled t d order buffer
   -- 01, Rows and tables: a table is what filling gives for its order
   pub refilled : (table : List ℕ) (d limit : ℕ) (order : List ℕ) → GivenBy t table d limit order → (buffer : List ℕ) → length buffer ≡ length table →
       filling (limitSetTo t limit) d order buffer ≡ record { answer = answer 0 (length table); buffer = table }

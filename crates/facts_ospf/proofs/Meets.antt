@@ -8,6 +8,7 @@ use Rattle.topology_types.specs.Topology.{networkOf}
 use Rattle.topology_sound.specs.Sound.{sound}
 use Rattle.topology_sound.proofs.Sound.{sound-networks}
 use Rattle.order.proofs.Orders.{builds-by-rule, checks-exact}
+use Rattle.table_rows.specs.Layout.{rowStart}
 use Rattle.table.proofs.Fills.{fills-well}
 use Rattle.table.proofs.Verdicts.{tables-exact}
 use Rattle.forwarding_rules.proofs.Routers.{shortest-walks, tables-meet}
@@ -17,6 +18,7 @@ use Rattle.ospf.proofs.Verdict.{import-sound}
 use Rattle.facts_ospf.specs.Theorems.{OrdersAndRows, ImportMeets}
 
 orders-and-rows : (t : Topology) → T (sound t) → OrdersAndRows t
+unfolding rowStart
 orders-and-rows t s =
     let n = sound-networks t s in
     record {

@@ -1,6 +1,6 @@
 -- What holds of a topology imported from a file of router-LSAs (02, #106): demands 2 and 3, as of every sound one.
 -- Assumes nothing.
-use Prim.Native.Nat.{ℕ, _+_, _*_, _≤_, _<_}
+use Prim.Native.Nat.{ℕ, _≤_, _<_}
 use mathlib.Core.List.{List, List·Memᴰ}
 use mathlib.Core.Logic.{_↔_}
 use mathlib.Core.Path.{_≡_}
@@ -17,6 +17,7 @@ use Rattle.topology_sound.specs.Theorems.{SoundNetwork}
 use Rattle.stream_rules.specs.Theorems.{Bytes}
 use Rattle.order.specs.Calls.{checking}
 use Rattle.order.specs.Theorems.{InBoth, OrderHeld, BuiltWell}
+use Rattle.table_rows.specs.Layout.{narrow, tableLength}
 use Rattle.table.specs.Listed.{orderIn}
 use Rattle.table.specs.Calls.{tableChecking}
 use Rattle.table.specs.Theorems.{FilledWell, SomeGive}
@@ -33,7 +34,7 @@ pub record OrdersAndRows (t : Topology) : Type 0 where
   pub built : (d : ℕ) → d < t .routers → InBoth (λ m meant. (buffer : List ℕ) → t .routers ≤ length buffer → BuiltWell t d m meant buffer)
   pub checked : (d : ℕ) → d < t .routers →
       InBoth (λ m meant. (bytes : List ℕ) → (checking t d m bytes ≡ answer 0 0) ↔ ((order : List ℕ) × OrderHeld t d meant bytes order))
-  pub filled : (d : ℕ) → d < t .routers → (order : List ℕ) → Accepted (networkOf t) d free order → (buffer : List ℕ) → 4 + 19 * t .routers ≤ length buffer →
+  pub filled : (d : ℕ) → d < t .routers → (order : List ℕ) → Accepted (networkOf t) d free order → (buffer : List ℕ) → tableLength narrow (t .routers) ≤ length buffer →
       FilledWell t d order buffer
   pub proposed : (table : List ℕ) → (tableChecking t table ≡ answer 0 0) ↔ SomeGive t table
   pub shortest : (table : List ℕ) → tableChecking t table ≡ answer 0 0 →

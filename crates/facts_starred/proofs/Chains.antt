@@ -22,9 +22,10 @@ use Rattle.stream_rules.specs.Facts.{T-stream}
 use Rattle.topology.specs.Written.{joinedOver}
 use Rattle.order.specs.Calls.{modeOf, reachedCount, orderBytes, building, wrongRanks, ranksAfter, unreadyRanks, refusedAtFirst, judging, checking}
 use Rattle.order.specs.Facts.{answers}
-use Rattle.table_rows.specs.Bytes.{rankOrNone, rowBytes, headerBytes, rowOf, rowsBytes, tableBytes, rowStart}
-use Rattle.table.specs.Listed.{kindIn, destinationIn, countIn, limitIn, rankIn, placesIn, arcsTo, entriesIn, listed, byRank, orderIn}
-use Rattle.table.specs.Calls.{unlessRefused, filling, soundHeader, soundRanks, differing, wrongBytes, tableJudging, tableChecking}
+use Rattle.table_rows.specs.Layout.{rowStart, numberAt, spread}
+use Rattle.table_rows.specs.Bytes.{rankOrNone, rowBytes, headerBytes, rowOf, tableOf, tableBytes}
+use Rattle.table.specs.Listed.{kindIn, destinationIn, countIn, limitIn, rankIn, entryCount, placesIn, arcsTo, entriesIn, listed, byRank, orderIn}
+use Rattle.table.specs.Calls.{unlessRefused, filling, soundHeader, soundRanks, rightRanks, differing, rightBytes, wrongBytes, tableJudging, tableChecking}
 use Rattle.table.specs.Facts.{room}
 use Rattle.forwarding_rules.specs.Schedule.{rowIn, rowCounts, rowsIn, soundLength, wrongStates}
 use Rattle.forwarding_rules.specs.Calls.{tested, testedBy, testedOver, figure, figureByte, figures, countingHops, settingAt, hopping, walking}
@@ -50,9 +51,9 @@ unfolding numbersFrom below keep every any leastBy greatestBy ahead foremost ins
     refusal acceptedReading routerFault repeated crowded halvesFault fault withRouter withLink withLimit arrived added
     width isEnd ended unless anyRecord? inTurn nothingListed reading
     T-stream joinedOver modeOf reachedCount orderBytes building wrongRanks ranksAfter unreadyRanks refusedAtFirst judging checking answers
-    rankOrNone rowBytes headerBytes rowOf rowsBytes tableBytes rowStart
-    kindIn destinationIn countIn limitIn rankIn placesIn arcsTo entriesIn listed byRank orderIn
-    unlessRefused filling soundHeader soundRanks differing wrongBytes tableJudging tableChecking room
+    rankOrNone rowStart numberAt spread rowBytes headerBytes rowOf tableOf tableBytes
+    kindIn destinationIn countIn limitIn rankIn entryCount placesIn arcsTo entriesIn listed byRank orderIn
+    unlessRefused filling soundHeader soundRanks rightRanks differing wrongBytes rightBytes tableJudging tableChecking room
     rowIn rowCounts rowsIn soundLength wrongStates tested testedBy testedOver figure figureByte figures countingHops settingAt hopping walking
     packetAfterSetting packetAfterHop settingPacket hoppingPacket afterOne afterAll
     upBut leftAt wrote endsSo byTable byOrder byReading follows

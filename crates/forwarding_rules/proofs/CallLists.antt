@@ -37,6 +37,8 @@ pub each-call : (s : System) → LeftByAnswer s → (p : Packet (s .forwarding .
 unfolding afterOne setAfter packetAfterSetting packetAfterHop lastAfter
 each-call s left p last =
     record {
+      set-answers = λ u. left .set-answers u p;
+      hop-answers = λ x. left .hop-answers x p;
       set-leaves = λ u. refl;
       hop-leaves = λ x. refl;
       sets = λ u q e. (left .set-leaves u p ∙ ap (packetAfterSetting p) e, ap (lastAfter u last) e);

@@ -1,6 +1,5 @@
 pub mod Listed
 pub mod Schedules
-pub mod Places
 pub mod Rules
 pub mod Laid
 pub mod Calls

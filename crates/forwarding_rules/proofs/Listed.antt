@@ -27,7 +27,6 @@ use Rattle.topology_types.specs.Topology.{networkOf}
 use Rattle.topology_types.specs.Outcome.{answer}
 use Rattle.topology_sound.specs.Sound.{sound}
 use Rattle.topology_sound.proofs.Sound.{sound-exact, sound-networks}
-use Rattle.table_rows.specs.Bytes.{rowStart}
 use Rattle.table.specs.Listed.{rankIn, entriesIn, listed, forwardingBy}
 use Rattle.table.specs.Calls.{tableChecking}
 use Rattle.table.specs.Theorems.{RankAt, GivenBy, SomeGive, ListsRows}
@@ -88,8 +87,8 @@ given-over t good table (d, limit, order, g) =
       inside = inside;
       in-free = in-free;
       rank-below = rw (← s .routers) (orders-fall n (s .well-formed) d inside limit order in-free .ranks-below);
-      destination-is = g .bytes .destination;
-      rank-is = λ u h. g .bytes .rows u (omega (arith, s .routers)) .rank-is;
+      destination-is = l .destination;
+      rank-is = l .ranks;
       entries-are = l .entries;
       walk-is = λ xs p. ap₂ (λ (e : ℕ) (es : ℕ → List Arc). walk (forwarding e es) xs p) to rows;
       route-is = λ xs u. ap₂ (λ (e : ℕ) (es : ℕ → List Arc). route (forwarding e es) xs u) to rows;
@@ -122,7 +121,7 @@ module _ {t : Topology} {table : List ℕ} (good : T (sound t)) (o : Over t tabl
   rank-reached path = o .rank-is u h .reached (o .given .in-free .all u (own-path path))
 
   pub figure-reached : Reached t table u → getD (figures t table) u 0 ≡ greatestHop (networkOf t) (o .d) (o .limit) (o .order) u
-  unfolding figureByte rankIn rowStart
+  unfolding figureByte
   figure-reached path =
       let few = sound-exact t .0 good .routers-most in
       let other : rankByte table u ≡ 255 → ⊥ = λ e. omega (arith, rank-reached path, o .rank-below u h) in
@@ -133,7 +132,7 @@ module _ {t : Topology} {table : List ℕ} (good : T (sound t)) (o : Over t tabl
     no-path path = out (rw (o .destination-is) path)
 
     pub figure-unreached : getD (figures t table) u 0 ≡ 255
-    unfolding figureByte rankIn rowStart
+    unfolding figureByte
     figure-unreached =
         figure-at ∙ rw (eq-eqb (rankByte table u) 255 (o .rank-is u h .unreached (λ m. no-path (o .given .in-free .only u m))))
 

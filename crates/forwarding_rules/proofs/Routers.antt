@@ -38,7 +38,7 @@ use Rattle.forwarding_rules.specs.Theorems.{HopsByRule, WalksEnd, WalksB
 use Rattle.forwarding_rules.specs.Theorems.Demand3.{WalkCosts}
 use Rattle.forwarding_rules.specs.Inner.{LeftByAnswer, Laws}
 use Rattle.forwarding_rules.proofs.Listed.{Over, over, reached-or, rank-reached, figure-reached, figure-unreached, row-unreached}
-use Rattle.forwarding_rules.proofs.Rules.{down-none-up, first-live-up, row-fits}
+use Rattle.forwarding_rules.proofs.Rules.{down-none-up, first-live-up}
 use Rattle.forwarding_rules.proofs.Laid.{enough, row-there, all-up, valid-sound, schedule-of}
 use Rattle.forwarding_rules.proofs.Tested.{clash}
 use Rattle.forwarding_rules.proofs.Meant.{hops-done, walks-done}
@@ -51,7 +51,7 @@ use Rattle.forwarding_rules.proofs.Systems.{systems-meet}
 -- what the calls leave that are lent the packet is by what the others answer, whatever the table
 pub left-by-answer : (t : Topology) (table : List ℕ) → LeftByAnswer (routerTable t table)
 unfolding settingPacket hoppingPacket
-left-by-answer t table = record { set-leaves = λ u p. refl; hop-leaves = λ states p. refl }
+left-by-answer t table = record { set-answers = λ u p. refl; hop-answers = λ states p. refl; set-leaves = λ u p. refl; hop-leaves = λ states p. refl }
 
 module _ (t : Topology) (good : T (sound t)) (table : List ℕ) (right : tableChecking t table ≡ answer 0 0) where
   abbrev n : Network
@@ -92,7 +92,7 @@ module _ (t : Topology) (good : T (sound t)) (table : List ℕ) (right : tableCh
     entries = entriesIn n table u
 
     none-live-up : (firstLive states entries ≡ none) ↔ NoneUp t table states u
-    none-live-up = Iff·trans (none-live states entries, down-none states entries) (down-none-up t states u table (row-fits t table o u))
+    none-live-up = Iff·trans (none-live states entries, down-none states entries) (down-none-up t states u table)
 
     -- the entry that is chosen is the first live one
     chosen-live : (a : Arc) → firstLive states entries ≡ some a → FirstLive states entries a
@@ -104,7 +104,7 @@ module _ (t : Topology) (good : T (sound t)) (table : List ℕ) (right : tableCh
     first-up : (v : ℕ) → ((a : Arc) × (firstLive states entries ≡ some a) × (a .to ≡ v)) ↔ FirstUp t table states u v
     first-up v =
         Iff·trans (λ (a, e, to). (a, chosen-live a e, to), λ (a, live, to). (a, first-live states entries a live, to))
-        (first-live-up t states u table (row-fits t table o u) v)
+        (first-live-up t states u table v)
 
   pub laws : Laws (routerTable t table)
   unfolding listed destinationIn start costOf
@@ -121,6 +121,7 @@ module _ (t : Topology) (good : T (sound t)) (table : List ℕ) (right : tableCh
         stays = λ u place a m. omega (arith, o .routers-are, o .well-formed .sound u a (arc-of u a m) .place);
         admitted = λ p place few. record { is-sound = good; station = place; hops = omega arith };
         left-by = left-by-answer t table;
+        rowless-none = λ st x none. absurd none;
         sets = λ u place. settings-answer t u .sets good place;
         sets-only = set-below;
         hops = hops-when t table right;

@@ -1,7 +1,7 @@
 -- The rule of a hop, said of the bytes of a table: the listed arcs are those to the listed places, so none of them is live exactly where no link to a
 -- listed place is up, and the first live one leads to the first listed place whose link is up. By recursion on the places.
 -- Assumes nothing.
-use Prim.Native.Nat.{ℕ, zero, suc, _+_, _*_, _<_}
+use Prim.Native.Nat.{ℕ, zero, suc, _<_}
 use mathlib.Core.List.{List, [], _∷_, _++_, append-assoc, List·Memᴰ, List·Memᴰ·head, List·Memᴰ·tail, List·Memᴰ·cases-cons, List·Memᴰ·not-nil}
 use mathlib.Core.List.{List·Memᴰ·append-cases, Memᴰ·append-left, Memᴰ·append-right}
 use mathlib.Core.Logic.{_↔_, _⊎_, inl, inr, ⊎-elim}
@@ -10,8 +10,8 @@ use mathlib.Core.Path.{_≡_, refl, sym, ap, _∙_, subst}
 use native.Mathlib.Decide.{decLt}
 use native.Mathlib.Omega.{arith}
 use lib.Dec.{eqb, eqb→eq}
-use lib.ListN.{length, getD, List·getD-eq-default}
-use Rattle.network.specs.Network.{Arc, size, arcsOf}
+use lib.ListN.{length, getD}
+use Rattle.network.specs.Network.{Arc, arcsOf}
 use Rattle.network.specs.Routing.{firstLive}
 use Rattle.network.specs.Theorems.Routing.{Up, AllDown, FirstLive}
 use Rattle.network.proofs.Tests.{eq-test}
@@ -22,10 +22,7 @@ use Rattle.topology_types.specs.Topology.{networkOf}
 use Rattle.order.proofs.Ranges.{getD-mem, mem-getD}
 use Rattle.topology.specs.Written.{joinedOver}
 use Rattle.table.specs.Listed.{placesIn, arcsTo, entriesIn}
-use Rattle.table.proofs.Bytes.{row-few}
 use Rattle.forwarding_rules.specs.Theorems.{ListsPlace, UpTo, NoneUp, FirstUp}
-use Rattle.forwarding_rules.proofs.Listed.{Over}
-use Rattle.forwarding_rules.proofs.Places.{Fits, places-long, place-at}
 
 module _ {A B : Type 0} (f : A → List B) where
   -- what stands in lists laid end to end stands in one of them
@@ -107,13 +104,12 @@ module _ (t : Topology) (states : List ℕ) (u : ℕ) where
             down = λ j h. absurd (omega arith);
           }
 
-  module _ (table : List ℕ) (fits : Fits table u) where
+  module _ (table : List ℕ) where
     lists : (v : ℕ) → List·Memᴰ v (placesIn table u) → (j : ℕ) × ListsPlace table u j v
-    lists v m = let (j, h, e) = mem-getD 0 m in let l : j < getD table (4 + 19 * u + 2) 0 = omega (arith, places-long fits) in (j, (l, sym (place-at fits j l) ∙ e))
+    lists v m = let (j, h, e) = mem-getD 0 m in (j, (h, e))
 
     listed : (j v : ℕ) → ListsPlace table u j v → List·Memᴰ v (placesIn table u)
-    listed j v (h, e) =
-        subst (λ (w : ℕ). List·Memᴰ w (placesIn table u)) (place-at fits j h ∙ e) (getD-mem (placesIn table u) j 0 (omega (arith, places-long fits)))
+    listed j v (h, e) = subst (λ (w : ℕ). List·Memᴰ w (placesIn table u)) e (getD-mem (placesIn table u) j 0 h)
 
     -- no listed arc is live exactly where no link to a listed place is up
     pub down-none-up : AllDown states (entriesIn (networkOf t) table u) ↔ NoneUp t table states u
@@ -131,12 +127,11 @@ module _ (t : Topology) (states : List ℕ) (u : ℕ) where
     unfolding entriesIn
     leads-first a f =
         let r = first-of (placesIn table u) a (first-live states (joinedOver (arcsTo (networkOf t) u) (placesIn table u)) a f) in
-        let h : r .turn < getD table (4 + 19 * u + 2) 0 = omega (arith, places-long fits, r .within) in
         record {
           turn = r .turn;
-          listed = (h, sym (place-at fits (r .turn) h) ∙ r .stands);
+          listed = (r .within, r .stands);
           live = r .live;
-          down = λ j w k (l, e) up. r .down j k (subst (UpTo t states u) (sym (place-at fits j l ∙ e)) up);
+          down = λ j w k (l, e) up. r .down j k (subst (UpTo t states u) (sym e) up);
         }
 
     -- only one place is the first whose link is up
@@ -148,7 +143,7 @@ module _ (t : Topology) (states : List ℕ) (u : ℕ) where
         step (no h) (yes k) = absurd (f .down (g .turn) w k (g .listed) (g .live))
         step (no h) (no k) =
             let e : f .turn ≡ g .turn = omega arith in
-            sym (f .listed .1) ∙ ap (λ (j : ℕ). getD table (4 + 19 * u + 3 + j) 0) e ∙ g .listed .1
+            sym (f .listed .1) ∙ ap (λ (j : ℕ). getD (placesIn table u) j 0) e ∙ g .listed .1
 
     pub first-live-up : (v : ℕ) → ((a : Arc) × FirstLive states (entriesIn (networkOf t) table u) a × (a .to ≡ v)) ↔ FirstUp t table states u v
     first-live-up v = (λ (a, f, e). subst (FirstUp t table states u) e (leads-first a f), back)
@@ -157,23 +152,3 @@ module _ (t : Topology) (states : List ℕ) (u : ℕ) where
         back g =
             ⊎-elim (λ down. absurd (down-none-up .0 down (g .turn) v (g .listed) (g .live))) (λ (a, f). (a, f, one-first (a .to) v (leads-first a f) g))
             (down-or-live states (entriesIn (networkOf t) table u))
-
--- the rows of an accepted table fit: past N there are no bytes, and a row lists at most 16 places
-pub row-fits : (t : Topology) (table : List ℕ) → Over t table → (u : ℕ) → Fits table u
-row-fits t table o u = step (decLt u (size (networkOf t)))
-  where
-    step : Dec (u < size (networkOf t)) → Fits table u
-    step (yes h) =
-        record {
-          inside = λ j l.
-              omega (
-                arith,
-                o .given .bytes .long,
-                o .given .bytes .rows u h .count,
-                row-few (networkOf t) (o .d) (o .limit) (o .given .limit-most) (o .order) u,
-              );
-        }
-    step (no h) =
-        record {
-          inside = λ j l. absurd (omega (arith, List·getD-eq-default table 0 {n = 4 + 19 * u + 2} (omega (arith, o .given .bytes .long))));
-        }

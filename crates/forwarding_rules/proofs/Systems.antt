@@ -65,6 +65,7 @@ systems-meet s l =
       ends = λ u place run sound. end s l run sound u place;
       by-hops = λ u run w e. let (place, sound) = l .walks-only u run w e in (_, hop-by-hop s l run sound u place w e);
       calls = bounded s l;
+      rowless-none = l .rowless-none;
       each-call = each-call s (l .left-by);
       in-turn = in-turn s;
     }

@@ -17,7 +17,8 @@ use Rattle.topology_types.specs.Topology.{networkOf}
 use Rattle.topology_types.specs.Outcome.{answer}
 use Rattle.topology_sound.specs.Sound.{sound}
 use Rattle.order.specs.Calls.{refusedAtFirst}
-use Rattle.table_rows.specs.Bytes.{tableLength, rowStart}
+use Rattle.table_rows.specs.Layout.{tableLength, rowStart}
+use Rattle.table.specs.Listed.{layoutOf}
 use Rattle.table.specs.Calls.{wrongBytes, tableJudging, tableChecking}
 use Rattle.table.proofs.Accepting.{starts?}
 use Rattle.forwarding_rules.specs.Schedule.{wrongStates}
@@ -111,7 +112,7 @@ module _ (t : Topology) (good : T (sound t)) (table : List ℕ) where
   unfolding tableChecking tableJudging refusedAtFirst rowStart
   kind =
       rw (as-true (sound t) good)
-      (by-tests (not (eqb (length table) (tableLength (t .routers)))) (not (starts? t table)) (length table) (wrongBytes (networkOf t) (t .routers) table))
+      (by-tests (not (eqb (length table) (tableLength (layoutOf table) (t .routers)))) (not (starts? t table)) (length table) (wrongBytes (networkOf t) (t .routers) table))
     where
       by-tests : (b c : Bool) (long : ℕ) (wrong : List ℕ) → Kind (cond b (answer 21 long) (cond c (answer 21 0) (refusedAtFirst 21 wrong (answer 0 0))))
       by-tests true c long wrong = inr (long, refl)

@@ -21,6 +21,8 @@ module _ (s : System) where
 
   -- what the calls leave that are lent the packet is by what the others answer
   pub record LeftByAnswer : Type 0 where
+    pub set-answers : (u : ℕ) (p : Packet (f .State)) → s .setting-lent u p .answer ≡ s .setting u
+    pub hop-answers : (x : f .States) (p : Packet (f .State)) → s .hopping-lent x p .answer ≡ s .hopping x p
     pub set-leaves : (u : ℕ) (p : Packet (f .State)) → s .setting-lent u p .packet ≡ packetAfterSetting p (s .setting u)
     pub hop-leaves : (x : f .States) (p : Packet (f .State)) → s .hopping-lent x p .packet ≡ packetAfterHop p (s .hopping x p)
 
@@ -40,6 +42,7 @@ module _ (s : System) where
     pub admitted : (p : Packet (f .State)) → inside (p .station) → p .hops + rank (p .station) ≤ rows → s .may-stand p
     -- a call is done where its tests pass, as forwarding does it, and only there
     pub left-by : LeftByAnswer
+    pub rowless-none : (st : f .State) (x : f .States) → s .rowless st → s .none-up x st
     pub sets : (u : ℕ) → u < s .places → s .setting u ≡ done (start (s .standing u))
     pub sets-only : (u : ℕ) (q : Packet (f .State)) → s .setting u ≡ done q → u < s .places
     pub hops : (x : f .States) (p : Packet (f .State)) → s .may-stand p → s .sound-states x → s .hopping x p ≡ done (hop f x p)

@@ -19,7 +19,7 @@ use Rattle.topology_types.specs.declared.Topology.{Topology}
 use Rattle.topology_types.specs.Outcome.{answer}
 use Rattle.topology_types.specs.Topology.{networkOf}
 use Rattle.topology_sound.specs.Sound.{sound}
-use Rattle.table.specs.Listed.{orderIn}
+use Rattle.table.specs.Listed.{destinationIn, rankIn, placesIn, orderIn}
 use Rattle.table.specs.Calls.{tableChecking}
 use Rattle.forwarding_rules.specs.declared.Packet as code
 use Rattle.forwarding_rules.specs.declared.Setting.the-variants as setting
@@ -81,15 +81,16 @@ RowsInTurn =
 abbrev pub OfAccepted : (Topology → List ℕ → Type 0) → Type 0
 OfAccepted claim = (t : Topology) → T (sound t) → (table : List ℕ) → tableChecking t table ≡ answer 0 0 → claim t table
 
--- 01, Rows and tables: the destination, the rank of a place and the places that its row lists, in a table's bytes
+-- 01, Rows and tables: the destination, the rank of a place and the places that its row lists, in a table's bytes; which bytes these are, `FieldsRead` of
+-- `table` says
 abbrev pub destinationByte : List ℕ → ℕ
-destinationByte table = getD table 1 0
+destinationByte table = destinationIn table
 
 abbrev pub rankByte : List ℕ → ℕ → ℕ
-rankByte table u = getD table (4 + 19 * u + 1) 0
+rankByte table u = rankIn table u
 
 abbrev pub ListsPlace : List ℕ → ℕ → ℕ → ℕ → Type 0
-ListsPlace table u j v = (j < getD table (4 + 19 * u + 2) 0) × (getD table (4 + 19 * u + 3 + j) 0 ≡ v)
+ListsPlace table u j v = (j < length (placesIn table u)) × (getD (placesIn table u) j 0 ≡ v)
 
 -- 01, Packet, hop and schedule: the link from u to its neighbour v is up, its byte 1
 abbrev pub UpTo : Topology → List ℕ → ℕ → ℕ → Type 0

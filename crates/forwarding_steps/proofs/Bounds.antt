@@ -9,7 +9,7 @@ use native.Mathlib.Decide.{decLt}
 use native.Mathlib.Omega.{arith}
 use borrow.Author.Tests.{eq-eqb, ne-eqb}
 use lib.Dec.{T, eqb}
-use lib.ListN.{length, getD, take, set, replicate, length-set, List·getD-append}
+use lib.ListN.{length, getD, take, set, replicate, length-set, List·getD-append, length-map}
 use lib.Seq.{getD-take}
 use Rattle.network.specs.Lists.{greatestBy}
 use Rattle.network.specs.Network.{Arc, Network, size}
@@ -33,18 +33,20 @@ use Rattle.order.specs.Calls.{orderBytes}
 use Rattle.order.proofs.Ranges.{getD-mem}
 use Rattle.order.proofs.After.{past-part}
 use Rattle.distances.proofs.Stored.{stored}
-use Rattle.table_rows.specs.Bytes.{rowStart}
-use Rattle.table.specs.Listed.{rankIn, placesIn, byRank}
+use Rattle.table_rows.specs.Layout.{rowStart}
+use Rattle.table.specs.Listed.{placesIn, byRank}
+use Rattle.table.specs.Inner.{RowOf}
 use Rattle.table.specs.Theorems.{SoundStart}
 use Rattle.table.proofs.Accepting.{its-bytes}
 use Rattle.table.proofs.Bytes.{row-few}
+use Rattle.table.proofs.Fields.{places-long}
 use Rattle.table.proofs.Lists.{places-are, held-before}
 use Rattle.table.proofs.Ordered.{rank-at, at-rank}
 use Rattle.table.proofs.Verdicts.{start-of}
 use Rattle.forwarding_rules.specs.Calls.{figure, figureByte}
 use Rattle.forwarding_rules.specs.Theorems.{rankByte}
 use Rattle.forwarding_rules.proofs.Listed.{Over}
-use Rattle.forwarding_steps.specs.Inner.{RowOf, boundOf, Bounded}
+use Rattle.forwarding_steps.specs.Inner.{boundOf, Bounded}
 
 -- the greatest over a list of what h gives
 greatest-over : {A B : Type 0} (f : A → ℕ) (g : B → ℕ) (h : A → B) (xs : List A) → ((x : A) → List·Memᴰ x xs → f x ≡ g (h x)) →
@@ -88,11 +90,17 @@ module _ (t : Topology) (good : T (sound t)) (table : List ℕ) (o : Over t tabl
   pub row-of : (u : ℕ) → u < t .routers → RowOf table u
   unfolding rowStart
   row-of u h =
-      let r = o .given .bytes .rows u (omega (arith, o .routers-are)) in
+      let many = ap (λ (vs : List ℕ). length vs) (places u h) in
       record {
-        place = omega (arith, few);
-        whole = omega (arith, o .given .bytes .long, o .routers-are);
-        few = omega (arith, r .count, row-few n (o .d) (o .limit) (o .given .limit-most) (o .order) u);
+        stands = record { place = omega (arith, few); whole = omega (arith, o .given .bytes .long, o .routers-are) };
+        few =
+            omega (
+              arith,
+              many,
+              places-long table u,
+              length-map (entries u) (λ (a : Arc). a .to),
+              row-few n (o .d) (o .limit) (o .given .limit-most) (o .order) u,
+            );
         places = λ v m.
             let (a, k, e) = Memᴰ·of-map (λ (b : Arc). b .to) (entries u) (subst (List·Memᴰ v) (places u h) m) in
             omega (arith, entry-in u a k, few);
@@ -123,10 +131,11 @@ module _ (t : Topology) (good : T (sound t)) (table : List ℕ) (o : Over t tabl
   abbrev Lower : List Rank → ℕ → Type 0
   Lower by u = (v : ℕ) → v < t .routers → rankByte table v < rankByte table u → boundOf by v ≡ figure t table v
 
-  pub bounded-at : (by : List Rank) (u : ℕ) → u < t .routers → List·Memᴰ u (o .order) → length by ≡ 64 → Lower by u → Bounded table u by
+  pub bounded-at : (by : List Rank) (u : ℕ) → u < t .routers → List·Memᴰ u (o .order) → length by ≡ 64 → Lower by u → Bounded (placesIn table u) by
   bounded-at by u h held long known =
       record {
         long = long;
+        places = row-of u h .places;
         few = λ v m.
             let (a, k, e) = Memᴰ·of-map (λ (b : Arc). b .to) (entries u) (subst (List·Memᴰ v) (places u h) m) in
             let l = entry-in u a k in
@@ -203,7 +212,7 @@ module _ (t : Topology) (good : T (sound t)) (table : List ℕ) (o : Over t tabl
       known-lower : (by : List Rank) → Known t table r by → Lower by u
       known-lower by k v l lower = k .each v l (omega (arith, turn-rank))
 
-      pub turn-bounded : (by : List Rank) → Known t table r by → Bounded table u by
+      pub turn-bounded : (by : List Rank) → Known t table r by → Bounded (placesIn table u) by
       turn-bounded by k = bounded-at by u turn-in turn-held (k .long) (known-lower by k)
 
       -- its figure stored, the figures of one rank more are known
@@ -227,7 +236,7 @@ module _ (t : Topology) (good : T (sound t)) (table : List ℕ) (o : Over t tabl
   -- where every rank is passed, the bounds are the bytes reported
   pub all-known : (r : ℕ) (by : List Rank) → Known t table r by → ((v : ℕ) → v < t .routers → List·Memᴰ v (o .order) → rankByte table v < r) →
       (v : ℕ) → v < t .routers → boundOf by v ≡ figureByte t table v
-  unfolding figureByte rankIn rowStart
+  unfolding figureByte
   all-known r by k passed v h = step (member? v (o .order))
     where
       step : Dec (List·Memᴰ v (o .order)) → boundOf by v ≡ cond (eqb (rankByte table v) 255) 255 (figure t table v)

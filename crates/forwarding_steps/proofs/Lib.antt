@@ -1,4 +1,3 @@
-pub mod Whole
 pub mod Bounds
 pub mod Next
 pub mod Steps

@@ -22,14 +22,18 @@ use Rattle.topology_types.specs.Topology.{networkOf}
 use Rattle.arcs.specs.declared.Arcs.{Arcs}
 use Rattle.arcs.specs.Inner.{slotArc}
 use Rattle.distances.proofs.Slots.{Held, sound-held, count-is, slot-sound}
-use Rattle.table.specs.Listed.{destinationIn, placesIn, entriesIn, listed, orderIn}
+use Rattle.table_rows.specs.declared.Layout.{Layout}
+use Rattle.table_rows.specs.Layout.{narrow, headerLength}
+use Rattle.topology_types.specs.Limits.{mostNextHops}
+use Rattle.table.specs.Inner.{HasRow}
+use Rattle.table.proofs.Fields.{place-one, rank-one}
+use Rattle.table.specs.Listed.{destinationIn, entryCount, placesIn, entriesIn, listed, orderIn}
 use Rattle.forwarding_rules.specs.Calls.{by}
 use Rattle.forwarding_rules.proofs.Listed.{Over, over}
 use Rattle.forwarding_steps.specs.declared.unchecked.moving.Next.{Next}
 use Rattle.forwarding_steps.specs.declared.unchecked.moving.Next.the-variants as next
-use Rattle.forwarding_steps.specs.Inner.{LinkSlots, RowOf, firstUp, nextPlace, Checked}
-use Rattle.forwarding_steps.proofs.Bounds as bounds
-use Rattle.forwarding_steps.proofs.Bounds.{entry-in}
+use Rattle.forwarding_steps.specs.Inner.{LinkSlots, firstUp, nextPlace, Checked}
+use Rattle.forwarding_steps.proofs.Bounds.{row-of, entry-in}
 use Rattle.forwarding_steps.proofs.Next.{placeOf, first-up}
 
 -- a hop that moves a packet from u, after so many hops, to v
@@ -48,13 +52,14 @@ module _ {t : Topology} {a : Arcs} {table : List ℕ} (checked : Checked t a tab
   pub few-routers : t .routers ≤ 64
   few-routers = held .most
 
-  pub table-long : 1 < length table
-  table-long = omega (arith, accepted .given .bytes .long)
+  -- the table has its header
+  pub headed : {l : Layout} → l ≡ narrow → (l ≡ narrow) × (headerLength l ≤ length table)
+  headed same = (same, omega (arith, place-one same, rank-one same, accepted .given .bytes .long))
 
   -- at d a packet is delivered
-  pub arrives : (states : List ℕ) (p : Packet ℕ) → p .station ≡ getD table 1 0 → hop (by t table) states p ≡ delivered
-  unfolding hop hopTo listed destinationIn
-  arrives states p home = rw (eq-eqb (p .station) (getD table 1 0) home)
+  pub arrives : (states : List ℕ) (p : Packet ℕ) → p .station ≡ destinationIn table → hop (by t table) states p ≡ delivered
+  unfolding hop hopTo listed
+  arrives states p home = rw (eq-eqb (p .station) (destinationIn table) home)
 
   module _ (u : ℕ) (u-in : u < t .routers) where
     listed-in : u < size (networkOf t)
@@ -75,26 +80,27 @@ module _ {t : Topology} {a : Arcs} {table : List ℕ} (checked : Checked t a tab
           numbered = λ j h. omega (arith, slot-sound (networkOf t) a (t .routers) held u u-in j h .numbered, accepted .links-are);
         }
 
-    pub row-of : RowOf table u
-    row-of = bounds.row-of t (checked .on-sound) table accepted u u-in
+    -- and the row of u
+    pub rowed : {l : Layout} → l ≡ narrow → (l ≡ narrow) × HasRow table u × (entryCount table u ≤ mostNextHops)
+    rowed same = let r = row-of t (checked .on-sound) table accepted u u-in in (same, r .stands, r .few)
 
     -- off d, by what was found first in the row over a link that is up
-    module _ (states : List ℕ) (hops : ℕ) (off : u ≡ getD table 1 0 → ⊥) (r : Next)
+    module _ (states : List ℕ) (hops : ℕ) (off : u ≡ destinationIn table → ⊥) (r : Next)
         (found : nextPlace r ≡ firstUp (a .to) (a .link) states u (getD (a .count) u 0) (placesIn table u)) where
       chosen-place : placeOf (firstLive states (entriesIn (networkOf t) table u)) ≡ nextPlace r
       chosen-place = sym (found ∙ first-up (networkOf t) a (checked .holds .out) table states u listed-in)
 
       -- a packet is dropped if there is none
       pub stops : r ≡ next.Nowhere → hop (by t table) states (record { station = u; hops = hops }) ≡ dropped
-      unfolding hop hopTo listed destinationIn nextPlace
+      unfolding hop hopTo listed nextPlace
       stops e =
           let none-live : firstLive states (entriesIn (networkOf t) table u) ≡ none =
           map-eq-none-iff (λ (b : Arc). b .to) _ .0 (chosen-place ∙ ap nextPlace e) in
-          rw (ne-eqb u (getD table 1 0) off, none-live)
+          rw (ne-eqb u (destinationIn table) off, none-live)
 
       -- and else goes there
       pub goes : (v : Place) → r ≡ next.To v → Goes t table states u hops (v .0)
-      unfolding hop hopTo listed destinationIn nextPlace
+      unfolding hop hopTo listed nextPlace
       goes v e =
           let (b, chosen, to) = map-eq-some-iff (λ (b : Arc). b .to) _ .0 (chosen-place ∙ ap nextPlace e) in
           let m = subst (List·Memᴰ b) (accepted .entries-are u) (live-mem states (entriesIn (networkOf t) table u) b chosen) in
@@ -102,7 +108,7 @@ module _ {t : Topology} {a : Arcs} {table : List ℕ} (checked : Checked t a tab
           let lower : rank (accepted .order) (v .0) < rank (accepted .order) u =
           rw (← to) (rows-sound (networkOf t) (accepted .well-formed) (accepted .d) (accepted .inside) (accepted .limit) (accepted .order) u .lower b m) in
           record {
-            hop-is = rw (ne-eqb u (getD table 1 0) off, chosen, to, add-one);
+            hop-is = rw (ne-eqb u (destinationIn table) off, chosen, to, add-one);
             inside = v-in;
             lower = rw (accepted .lists .ordered) lower;
           }

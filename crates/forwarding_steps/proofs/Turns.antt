@@ -35,9 +35,9 @@ pub record Reached (t : Topology) (table schedule : List ℕ) (s u hops at : ℕ
 
 -- at d a walk is delivered
 module _ {t : Topology} {a : Arcs} {table : List ℕ} (checked : Checked t a table) where
-  at-home : (xs : List (List ℕ)) (p : Packet ℕ) → p .station ≡ getD table 1 0 → walk (by t table) xs p ≡ delivered-at p
-  unfolding walk walkOn walkEnd listed destinationIn
-  at-home [] p home = rw (eq-eqb (p .station) (getD table 1 0) home)
+  at-home : (xs : List (List ℕ)) (p : Packet ℕ) → p .station ≡ destinationIn table → walk (by t table) xs p ≡ delivered-at p
+  unfolding walk walkOn walkEnd listed
+  at-home [] p home = rw (eq-eqb (p .station) (destinationIn table) home)
   at-home (states ∷ xs) p home = rw (arrives checked states p home)
 
 module _ {t : Topology} {a : Arcs} {table : List ℕ} (checked : Checked t a table) {schedule : List ℕ} (scheduled : Scheduled t schedule) where
@@ -56,11 +56,11 @@ module _ {t : Topology} {a : Arcs} {table : List ℕ} (checked : Checked t a tab
 
   module _ {s u hops at : ℕ} (reached : Reached t table schedule s u hops at) where
     -- at d the walk is delivered
-    pub ends : u ≡ getD table 1 0 →
+    pub ends : u ≡ destinationIn table →
         walk (by t table) (rowsIn (t .routers) (t .links) schedule) (start s) ≡ delivered-at (record { station = u; hops = hops })
     ends home = reached .rest ∙ at-home checked (drop hops (rowsIn (t .routers) (t .links) schedule)) (record { station = u; hops = hops }) home
 
-    module _ (off : u ≡ getD table 1 0 → ⊥) where
+    module _ (off : u ≡ destinationIn table → ⊥) where
       -- off d a row is left
       left : hops < rows .count
       left =

@@ -1,6 +1,6 @@
 -- What the inner calls ask of the bytes and slots that they go through, and what they make of them; of the open contracts only those of `unchecked` name
 -- it, for what was tested before and for the greatest hop counts as ranks.
--- Router u has the slots from u * mostNeighbours on, and its row stands from 4 + 19u on in the table.
+-- Router u has the slots from u * mostNeighbours on.
 -- Assumes nothing.
 use Prim.Native.Nat.{ℕ, _+_, _*_, _≤_, _<_}
 use mathlib.Core.Bool.{Bool, true, _&&_}
@@ -13,14 +13,12 @@ use Rattle.network.specs.Lists.{below, keep, any}
 use Rattle.network.specs.Routing.{up}
 use Rattle.topology_types.specs.declared.Rank.{Rank}
 use Rattle.topology_types.specs.declared.Topology.{Topology}
-use Rattle.topology_types.specs.Limits.{mostRouters, mostNeighbours, mostNextHops}
+use Rattle.topology_types.specs.Limits.{mostRouters, mostNeighbours}
 use Rattle.topology_types.specs.Outcome.{answer}
 use Rattle.topology_sound.specs.Sound.{sound}
 use Rattle.arcs.specs.declared.Arcs.{Arcs}
 use Rattle.arcs.specs.Inner.{Laid}
 use Rattle.distances.specs.Inner.{slotTo}
-use Rattle.table_rows.specs.Bytes.{rowStart}
-use Rattle.table.specs.Listed.{placesIn}
 use Rattle.table.specs.Calls.{tableChecking}
 use Rattle.forwarding_rules.specs.Schedule.{soundLength, wrongStates}
 use Rattle.forwarding_rules.specs.Calls.{figureByte}
@@ -50,21 +48,15 @@ unfoldable pub nextPlace : Next → Option ℕ
 nextPlace (next.To v) = some (v .0)
 nextPlace next.Nowhere = none
 
--- the table has the whole row of u, with at most 16 entries, each a place
-pub record RowOf (table : List ℕ) (u : ℕ) : Type 0 where
-  pub place : u < mostRouters
-  pub whole : rowStart u + 19 ≤ length table
-  pub few : getD table (rowStart u + 2) 0 ≤ mostNextHops
-  pub places : (v : ℕ) → List·Memᴰ v (placesIn table u) → v < mostRouters
-
 -- the bound of a place
 unfoldable pub boundOf : List Rank → ℕ → ℕ
 boundOf by v = getD by v (record { 0 = 0 }) .0
 
--- no bound of a place that the row of u lists is past the routers
-pub record Bounded (table : List ℕ) (u : ℕ) (by : List Rank) : Type 0 where
+-- what a row lists are places, none of whose bounds is past the routers
+pub record Bounded (row : List ℕ) (by : List Rank) : Type 0 where
   pub long : length by ≡ mostRouters
-  pub few : (v : ℕ) → List·Memᴰ v (placesIn table u) → boundOf by v < mostRouters
+  pub places : (v : ℕ) → List·Memᴰ v row → v < mostRouters
+  pub few : (v : ℕ) → List·Memᴰ v row → boundOf by v < mostRouters
 
 -- the table was checked on a sound topology, whose arcs are laid out
 pub record Checked (t : Topology) (a : Arcs) (table : List ℕ) : Type 0 where

@@ -14,8 +14,10 @@ use Rattle.stream_rules.specs.Reading.{refusal, acceptedReading, routerFault, r
 use Rattle.stream_rules.specs.Reading.{width, isEnd, ended, unless, anyRecord?, inTurn, nothingListed, reading}
 use Rattle.stream_rules.specs.Facts.{T-stream, inSequence, routers}
 use Rattle.topology.specs.Written.{joinedOver}
-use Rattle.table_rows.specs.Bytes.{rankOrNone, rowBytes, headerBytes, rowOf, rowsBytes, tableBytes, rowStart}
-use Rattle.table.specs.Listed.{destinationIn, rankIn, placesIn, arcsTo, entriesIn, listed}
+use Rattle.table_rows.specs.Layout.{rowStart, numberAt, spread}
+use Rattle.table_rows.specs.Bytes.{rankOrNone, rowBytes, headerBytes, rowOf, tableOf, tableBytes}
+use Rattle.table.specs.Listed.{destinationIn, rankIn, entryCount, placesIn, arcsTo, entriesIn, listed}
+use Rattle.table.specs.Calls.{builtTable}
 use Rattle.forwarding_rules.specs.Calls.{figure, figureByte}
 use Rattle.text.specs.Hex.{none}
 use Rattle.text.specs.Lines.{refusedWord, answerText, answerLine, wordLine}
@@ -37,8 +39,8 @@ unfolding numbersFrom below keep every any leastBy greatestBy ahead foremost ins
     linkHalves firstHalf secondHalf halves sameHalf leaves opposite linkOf
     refusal acceptedReading routerFault repeated crowded halvesFault fault withRouter withLink withLimit arrived added
     width isEnd ended unless anyRecord? inTurn nothingListed reading
-    T-stream inSequence routers joinedOver rankOrNone rowBytes headerBytes rowOf rowsBytes tableBytes rowStart
-    destinationIn rankIn placesIn arcsTo entriesIn listed figure figureByte
+    T-stream inSequence routers joinedOver spread rankOrNone rowBytes headerBytes rowOf tableOf tableBytes rowStart numberAt
+    destinationIn rankIn entryCount placesIn arcsTo entriesIn listed builtTable figure figureByte
     none refusedWord answerText answerLine wordLine lastDigits numberText
     spaced rowFields lineText tableFor lineFor linesFor allLines
     T-0 T-1 T-2 noPath itself cutOff-3 cutOff-all pair-all refusedLine printed outputBy listingOutput holds refused cutOff-stream facts

@@ -12,8 +12,10 @@ use Rattle.topology_sound.specs.Sound.{within, inLimits, wellLinked, uncrowded,
 use Rattle.topology_sound.specs.Place.{onPlace}
 use Rattle.topology.specs.Written.{joinedOver}
 use Rattle.order.specs.Facts.{answers, link, T-topology, cutOff, twoParts, pair}
-use Rattle.table_rows.specs.Bytes.{rankOrNone, rowBytes, headerBytes, rowOf, rowsBytes, tableBytes, rowStart}
-use Rattle.table.specs.Listed.{destinationIn, rankIn, placesIn, arcsTo, entriesIn, listed}
+use Rattle.table_rows.specs.Layout.{rowStart, numberAt, spread}
+use Rattle.table_rows.specs.Bytes.{rankOrNone, rowBytes, headerBytes, rowOf, tableOf, tableBytes}
+use Rattle.table.specs.Listed.{destinationIn, rankIn, entryCount, placesIn, arcsTo, entriesIn, listed}
+use Rattle.table.specs.Calls.{builtTable}
 use Rattle.table.specs.Facts.{lone, F-links, F-topology}
 use Rattle.forwarding_rules.specs.Calls.{figure, figureByte}
 use Rattle.text.specs.Hex.{none}
@@ -30,8 +32,8 @@ unfolding numbersFrom below keep every any leastBy greatestBy ahead foremost ins
     rank sortsBefore rankedBefore fullRow row longest
     turnedAway given noLink padded contents held zeros seen networkIn networkOf
     within inLimits wellLinked uncrowded isNoLink unusedZero slotted sound onPlace
-    joinedOver answers link T-topology cutOff twoParts pair rankOrNone rowBytes headerBytes rowOf rowsBytes tableBytes rowStart
-    destinationIn rankIn placesIn arcsTo entriesIn listed lone F-links F-topology figure figureByte
+    joinedOver answers link T-topology cutOff twoParts pair spread rankOrNone rowBytes headerBytes rowOf tableOf tableBytes rowStart numberAt
+    destinationIn rankIn entryCount placesIn arcsTo entriesIn listed builtTable lone F-links F-topology figure figureByte
     none lastDigits numberText spaced rowFields lineText tableFor lineFor linesFor allLines listing
     holds T-0 T-1 T-2 F-0 F-0-limited eleven eleven-10 lone-0
     noPath itself next cutOff-3 cutOff-all twoParts-0 twoParts-1 twoParts-2 twoParts-3 pair-all room facts

@@ -21,9 +21,8 @@ use Rattle.topology_sound.specs.Sound.{sound}
 use Rattle.topology_sound.proofs.Sound.{sound-networks}
 use Rattle.topology_sound.proofs.Place.{on-place-unsound, on-place-outside, on-place-next}
 use Rattle.topology.specs.Written.{joinedOver}
-use Rattle.table_rows.specs.Bytes.{rowStart}
-use Rattle.table.specs.Listed.{rankIn, placesIn}
-use Rattle.table.proofs.Lists.{places-are, no-path-row}
+use Rattle.table.specs.Listed.{rankIn, placesIn, listed}
+use Rattle.table.proofs.Lists.{no-path-row}
 use Rattle.table.proofs.Ordered.{at-rank}
 use Rattle.forwarding_rules.specs.Calls.{figureByte}
 use Rattle.forwarding_rules.proofs.Figures.{figures-exact}
@@ -34,7 +33,7 @@ use Rattle.listing_rules.specs.Listing.{tableFor, lineFor, linesFor, all
 use Rattle.listing_rules.specs.Inner.{spacedNumber, fieldsText, frontOf, frontLine, frontText, rowText}
 use Rattle.listing_rules.specs.Theorems.{NumbersSpelled, JoinsInTurn, listingLine, LineIs, LineByPath, ListsRight, ListingRefuses, ListingRight}
 use Rattle.listing_rules.proofs.Fields.{row-none, row-some, line-fields}
-use Rattle.listing_rules.proofs.Tables.{given as its-given, accepted, its-path, figure-at, hop-counts, no-rank, no-count}
+use Rattle.listing_rules.proofs.Tables.{given as its-given, accepted, lists, places, tells, its-path, no-path, figure-at, hop-counts, no-count}
 
 pub numbers-spelled : NumbersSpelled
 numbers-spelled n = record { one = one-digit n; more = more-digits n }
@@ -50,10 +49,10 @@ joined-entries [] = refl
 joined-entries (a ∷ rest) = ap (λ (l : List ℕ). spacedNumber (a .to) ++ l) (joined-entries rest)
 
 -- a line by its fields
-spread : (f : Front) (row : List ℕ) →
+line-spread : (f : Front) (row : List ℕ) →
     frontLine f row ≡ listingLine (f .destination .0) (f .router .0) (f .rank .0) (f .hops .0) (rowText row ++ (10 ∷ []))
 unfolding frontText
-spread f row = line-fields f row ∙ simp append-assoc
+line-spread f row = line-fields f row ∙ simp append-assoc
 
 module _ (t : Topology) (good : T (sound t)) (d : ℕ) (place : d < t .routers) where
   abbrev order : List ℕ
@@ -66,15 +65,9 @@ module _ (t : Topology) (good : T (sound t)) (d : ℕ) (place : d < t .routers) 
     abbrev entries : List Arc
     entries = row (networkOf t) (distances (networkOf t) d) (t .limit) order u
 
-    places : placesIn table u ≡ map (λ a. a .to) entries
-    places =
-        let s = sound-networks t good in
-        let g = its-given t good d place in
-        places-are (networkOf t) (s .well-formed) d (t .limit) (g .limit-most) order table (g .bytes) u (omega (arith, s .routers))
-
     fields : lineFor t d table u ≡ listingLine d u (rankIn table u) (figureByte t table u) (rowText (map (λ a. a .to) entries) ++ (10 ∷ []))
     unfolding lineFor frontLine
-    fields = rw (← places) (spread (frontOf d u (rankIn table u) (figureByte t table u)) (placesIn table u))
+    fields = rw (← places t good d place u h) (line-spread (frontOf d u (rankIn table u) (figureByte t table u)) (placesIn table u))
 
     empty-row : entries ≡ [] → rowText (map (λ a. a .to) entries) ≡ 32 ∷ 45 ∷ []
     empty-row e = rw e (row-none [] refl)
@@ -89,12 +82,13 @@ module _ (t : Topology) (good : T (sound t)) (d : ℕ) (place : d < t .routers) 
       held = its-given t good d place .in-free .all u path
 
       its-rank : rankIn table u ≡ rank order u
-      unfolding rankIn rowStart
-      its-rank = its-given t good d place .bytes .rows u (omega (arith, sound-networks t good .routers)) .rank-is .reached held
+      unfolding listed
+      its-rank = lists t good d place .ranks u h .reached held
 
     line-is : PathTo (networkOf t) d u → LineIs t d order table u (lineFor t d table u)
     line-is path =
-        let exact = figures-exact t good table (accepted t good d place) u h (its-path t good d place u h path) in
+        let on-table = its-path t good d place u h path in
+        let exact = figures-exact t good table (accepted t good d place) u h on-table in
         let its-figure = figure-at t good d place u h in
         let (schedule, long, (w, walked, most)) = exact .reached in
         record {
@@ -102,7 +96,7 @@ module _ (t : Topology) (good : T (sound t)) (d : ℕ) (place : d < t .routers) 
           rank-below = rw (its-rank path) (rank-in order u (held path));
           turn = rw (its-rank path) (at-rank order (its-given t good d place .in-free .once) u (held path));
           hops = figureByte t table u;
-          hops-below = hop-counts t good d place u h path;
+          hops-below = hop-counts t good d place u h on-table;
           never-passed = λ s v e. rw its-figure at (exact .never-passed s v e);
           reached = (schedule, w, walked, rw its-figure at most);
           entries = entries;
@@ -115,7 +109,8 @@ module _ (t : Topology) (good : T (sound t)) (d : ℕ) (place : d < t .routers) 
     unreached out =
         let s = sound-networks t good in
         let none = no-path-row (networkOf t) (s .well-formed) d (omega (arith, s .routers)) (its-given t good d place .in-free) (t .limit) u out in
-        rw (no-rank t good d place u h out, no-count t good d place u h out, empty-row none) at fields
+        let off = no-path t good d place u h out in
+        rw (tells t good d place u h .unranked .0 off, no-count t good d place u h off, empty-row none) at fields
 
     line-by-path : LineByPath t d order table u (lineFor t d table u)
     line-by-path = record { reached = line-is; unreached = unreached }

@@ -2,50 +2,62 @@
 -- its entries are places.
 -- Assumes nothing.
 use Prim.Native.Nat.{ℕ, _+_, _*_, _≤_, _<_}
-use mathlib.Core.List.{List, _++_, List·Memᴰ}
+use mathlib.Core.List.{List, _++_, map}
+use mathlib.Core.Logic.{⊎-elim}
 use mathlib.Core.Path.{_≡_, refl, sym, _∙_}
 use native.Mathlib.Omega.{arith}
 use lib.Dec.{T}
 use lib.ListN.{length, getD, length-append, List·getD-append}
 use Rattle.network.specs.Lists.{below}
-use Rattle.network.specs.Distance.{PathTo}
+use Rattle.network.specs.Network.{Arc}
+use Rattle.network.specs.Distance.{PathTo, distances}
 use Rattle.network.specs.Order.{shortest-path, build}
+use Rattle.network.specs.Row.{row}
 use Rattle.network.proofs.Below.{length-below, below-lt, getD-below, length-map-below}
-use Rattle.network.proofs.Pigeon.{member?}
 use Rattle.topology_types.specs.declared.Topology.{Topology}
 use Rattle.topology_types.specs.Topology.{networkOf}
 use Rattle.topology_sound.specs.Sound.{sound}
-use Rattle.topology_sound.proofs.Sound.{sound-exact}
+use Rattle.topology_sound.proofs.Sound.{sound-exact, sound-networks}
 use Rattle.topology.proofs.Joined.{joined-same}
 use Rattle.order_standings.specs.declared.Mode.the-variants as mode
 use Rattle.order.specs.Calls.{modeOf}
 use Rattle.order.proofs.Ranges.{getD-mem}
-use Rattle.table_rows.specs.Bytes.{rowStart}
-use Rattle.table.specs.Listed.{rankIn, placesIn}
-use Rattle.table.specs.Calls.{tableChecking}
-use Rattle.table.specs.Theorems.{GivenBy, ByPath}
+use Rattle.table.specs.Listed.{rankIn, placesIn, listed}
+use Rattle.table.specs.Calls.{builtTable, tableChecking}
+use Rattle.table.specs.Inner.{RowOf}
+use Rattle.table.specs.Theorems.{GivenBy, ListsRows}
 use Rattle.table.proofs.Bytes.{bytes-exact}
 use Rattle.table.proofs.Calling.{built-free}
-use Rattle.table.proofs.Lists.{rows-by-path}
-use Rattle.table.proofs.Verdicts.{table-long, tables-exact}
+use Rattle.table.proofs.Fields.{places-long}
+use Rattle.table.proofs.Lists.{tables-list, places-are}
+use Rattle.table.proofs.Verdicts.{tables-exact}
 use Rattle.forwarding_rules.specs.Calls.{figureByte, figures}
-use Rattle.forwarding_rules.specs.Theorems.{Reached}
+use Rattle.forwarding_rules.specs.Theorems.{Reached, ByRank}
 use Rattle.forwarding_rules.proofs.Listed.{Over, over, figure-unreached, ranks-tell}
 use Rattle.forwarding_rules.proofs.Figures.{figures-exact}
-use Rattle.forwarding_rules.proofs.Places.{places-long}
-use Rattle.forwarding_steps.proofs.Whole.{whole-fits}
 use Rattle.forwarding_steps.proofs.Bounds.{row-of}
 use Rattle.listing_rules.specs.Listing.{tableFor, lineFor, linesFor, allLines}
 use Rattle.listing_rules.specs.Inner.{mostListingLine, mostListingLines, RowFits, Listable, frontOf, frontLine, lineIn, tableText}
 use Rattle.listing_rules.proofs.InTurn.{joined-most}
 use Rattle.listing_rules.proofs.Fields.{line-length}
 
+-- the entries of a row are few, and each is a short number
+pub entries-fit : {table : List ℕ} {u : ℕ} → RowOf table u → RowFits (placesIn table u)
+entries-fit {table} {u} r =
+    record {
+      few = omega (arith, places-long table u, r .few);
+      small = λ i k. omega (arith, r .places _ (getD-mem (placesIn table u) i 0 k));
+    }
+
 module _ (t : Topology) (good : T (sound t)) (d : ℕ) (place : d < t .routers) where
   abbrev table : List ℕ
   table = tableFor t d
 
-  pub given : GivenBy t table d (t .limit) (build (networkOf t) d shortest-path)
-  unfolding tableFor modeOf
+  abbrev order : List ℕ
+  order = build (networkOf t) d shortest-path
+
+  pub given : GivenBy t table d (t .limit) order
+  unfolding tableFor builtTable modeOf
   given =
       let w = sound-exact t .0 good in
       record {
@@ -59,8 +71,9 @@ module _ (t : Topology) (good : T (sound t)) (d : ℕ) (place : d < t .routers) 
   pub accepted : tableChecking t table ≡ record { number = 0; at = 0 }
   accepted = tables-exact t good table .1 (d, t .limit, _, given)
 
-  pub long : length table ≡ 4 + 19 * t .routers
-  long = table-long t good (given .bytes)
+  -- what it lists
+  pub lists : ListsRows t table d (t .limit) order
+  lists = tables-list t good table d (t .limit) order given
 
   abbrev opened : Over t table
   opened = over t good table accepted
@@ -68,66 +81,42 @@ module _ (t : Topology) (good : T (sound t)) (d : ℕ) (place : d < t .routers) 
   few-routers : t .routers ≤ 64
   few-routers = sound-exact t .0 good .routers-most
 
-  entries : (u : ℕ) → u < t .routers → RowFits (placesIn table u)
-  unfolding rowStart
-  entries u h =
-      let r = row-of t good table opened u h in
-      record {
-        few = omega (arith, places-long (whole-fits r), r .few);
-        small = λ i k. omega (arith, r .places _ (getD-mem (placesIn table u) i 0 k));
-      }
-
-  -- the rank and the hop count of a place, by whether it has a path
+  -- a router's row, its entries, and its rank and hop count by whether it has a path
   module _ (u : ℕ) (h : u < t .routers) where
-    abbrev Path : Type 0
-    Path = PathTo (networkOf t) d u
+    pub row-stands : RowOf table u
+    row-stands = row-of t good table opened u h
 
-    pub its-path : Path → Reached t table u
-    its-path path = rw (given .bytes .destination) path
+    pub places : placesIn table u ≡ map (λ (a : Arc). a .to) (row (networkOf t) (distances (networkOf t) d) (t .limit) order u)
+    places =
+        let s = sound-networks t good in
+        places-are (networkOf t) (s .well-formed) d (t .limit) (given .limit-most) order table (given .bytes) u (omega (arith, s .routers))
 
-    path? : Dec Path
-    path? = step (member? u (build (networkOf t) d shortest-path))
-      where
-        step : Dec (List·Memᴰ u (build (networkOf t) d shortest-path)) → Dec Path
-        step (yes m) = yes (given .in-free .only u m)
-        step (no out) = no (λ path. out (given .in-free .all u path))
+    pub tells : ByRank t table u
+    tells = ranks-tell t good table accepted u h
 
-    by-path : ByPath t table d (build (networkOf t) d shortest-path) u
-    by-path = rows-by-path t good table d (t .limit) _ given u h
+    pub its-path : PathTo (networkOf t) d u → Reached t table u
+    unfolding listed
+    its-path path = rw (lists .destination) path
+
+    pub no-path : (PathTo (networkOf t) d u → ⊥) → Reached t table u → ⊥
+    unfolding listed
+    no-path out path = out (rw (lists .destination) at path)
 
     pub figure-at : getD (figures t table) u 0 ≡ figureByte t table u
     unfolding figures
     figure-at = getD-below (figureByte t table) (t .routers) u 0 h
 
-    pub ranks : Path → rankIn table u < t .routers
-    unfolding rankIn rowStart
-    ranks path = ranks-tell t good table accepted u h .ranked .0 (its-path path)
+    pub hop-counts : Reached t table u → figureByte t table u < t .routers
+    hop-counts path = omega (arith, figure-at, figures-exact t good table accepted u h path .at-most-rank, tells .ranked .0 path)
 
-    pub hop-counts : Path → figureByte t table u < t .routers
-    unfolding rankIn rowStart
-    hop-counts path = omega (arith, figure-at, figures-exact t good table accepted u h (its-path path) .at-most-rank, ranks path)
-
-    module _ (out : Path → ⊥) where
-      pub no-rank : rankIn table u ≡ 255
-      unfolding rankIn rowStart
-      no-rank = by-path .unreached out .no-rank
-
-      pub no-count : figureByte t table u ≡ 255
-      no-count = sym figure-at ∙ figure-unreached good opened u h (λ path. out (rw (given .bytes .destination) at path))
+    pub no-count : (Reached t table u → ⊥) → figureByte t table u ≡ 255
+    no-count out = sym figure-at ∙ figure-unreached good opened u h out
 
     rank-byte : rankIn table u < 256
-    rank-byte = step path?
-      where
-        step : Dec Path → rankIn table u < 256
-        step (yes path) = omega (arith, few-routers, ranks path)
-        step (no out) = omega (arith, no-rank out)
+    rank-byte = ⊎-elim (λ path. omega (arith, few-routers, tells .ranked .0 path)) (λ out. omega (arith, tells .unranked .0 out)) (tells .either)
 
     hops-byte : figureByte t table u < 256
-    hops-byte = step path?
-      where
-        step : Dec Path → figureByte t table u < 256
-        step (yes path) = omega (arith, few-routers, hop-counts path)
-        step (no out) = omega (arith, no-count out)
+    hops-byte = ⊎-elim (λ path. omega (arith, few-routers, hop-counts path)) (λ out. omega (arith, no-count out)) (tells .either)
 
   pub lines-length : length (linesFor t d) ≤ mostListingLines
   unfolding linesFor lineFor frontLine
@@ -142,7 +131,7 @@ module _ (t : Topology) (good : T (sound t)) (d : ℕ) (place : d < t .routers) 
         rank = rank-byte u h;
         hops = hops-byte u h;
       }
-      (entries u h)) in
+      (entries-fit (row-stands u h))) in
       omega (arith, few, length-below (t .routers), few-routers)
 
   -- the hop counts at the front of a buffer
@@ -155,17 +144,14 @@ module _ (t : Topology) (good : T (sound t)) (d : ℕ) (place : d < t .routers) 
     at-place u h = rw is (List·getD-append (figures t table) rest 0 u (omega (arith, counted))) ∙ figure-at u h
 
     pub listable : Listable table hops (t .routers) d
-    unfolding rankIn rowStart
     listable =
         record {
           destination = place;
           routers = few-routers;
-          long = long;
           counted = rw is (omega (arith, length-append (figures t table) rest, counted));
+          row = row-stands;
           rank = rank-byte;
           hop-count = λ u h. omega (arith, at-place u h, hops-byte u h);
-          entries = λ u h. row-of t good table opened u h .few;
-          row = entries;
         }
 
     pub lines : tableText table hops d (t .routers) ≡ linesFor t d

@@ -1,15 +1,14 @@
 -- What the inner functions of `report` ask of the bytes that they print, and what they make of them; of the open contracts only those of its `unchecked`
 -- name it, for the room that they ask for and the fields that `put_fields` puts.
 -- Assumes nothing.
-use Prim.Native.Nat.{ℕ, _+_, _≤_, _<_}
+use Prim.Native.Nat.{ℕ, _≤_, _<_}
 use mathlib.Core.List.{List, _∷_, _++_}
-use mathlib.Core.Path.{_≡_}
 use lib.ListN.{length, getD}
 use Rattle.network.specs.Lists.{below}
 use Rattle.topology_types.specs.Limits.{mostRouters, mostNextHops}
 use Rattle.topology.specs.Written.{joinedOver}
-use Rattle.table_rows.specs.Bytes.{rowStart, tableLength}
 use Rattle.table.specs.Listed.{rankIn, placesIn}
+use Rattle.table.specs.Inner.{RowOf}
 use Rattle.text.specs.Fields.{space}
 use Rattle.text.specs.Numbers.{numberText}
 use Rattle.listing_rules.specs.declared.Front.{Front}
@@ -64,16 +63,14 @@ pub record Small (f : Front) : Type 0 where
   pub rank : f .rank .0 < 256
   pub hops : f .hops .0 < 256
 
--- the bytes of a table for so many routers, and the hop counts by place, as far as lines are made of them
+-- a table for so many routers, and the hop counts by place, as far as lines are made of them
 pub record Listable (table hops : List ℕ) (n d : ℕ) : Type 0 where
   pub destination : d < n
   pub routers : n ≤ mostRouters
-  pub long : length table ≡ tableLength n
   pub counted : n ≤ length hops
+  pub row : (u : ℕ) → u < n → RowOf table u
   pub rank : (u : ℕ) → u < n → rankIn table u < 256
   pub hop-count : (u : ℕ) → u < n → getD hops u 0 < 256
-  pub entries : (u : ℕ) → u < n → getD table (rowStart u + 2) 0 ≤ mostNextHops
-  pub row : (u : ℕ) → u < n → RowFits (placesIn table u)
 
 -- the line of a place, and the lines of a table
 unfoldable pub lineIn : List ℕ → List ℕ → ℕ → ℕ → List ℕ

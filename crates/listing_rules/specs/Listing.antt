@@ -3,14 +3,13 @@
 use Prim.Native.Nat.{ℕ}
 use mathlib.Core.List.{List, [], _∷_, _++_, map}
 use Rattle.network.specs.Lists.{below}
-use Rattle.network.specs.Order.{shortest-path, build}
+use Rattle.network.specs.Order.{shortest-path}
 use Rattle.topology_types.specs.declared.Topology.{Topology}
 use Rattle.topology_types.specs.Outcome.{Outcome, turnedAway, given}
-use Rattle.topology_types.specs.Topology.{networkOf}
 use Rattle.topology_sound.specs.Place.{onPlace}
 use Rattle.topology.specs.Written.{joinedOver}
-use Rattle.table_rows.specs.Bytes.{tableBytes}
 use Rattle.table.specs.Listed.{rankIn, placesIn}
+use Rattle.table.specs.Calls.{builtTable}
 use Rattle.forwarding_rules.specs.Calls.{figureByte}
 use Rattle.text.specs.Fields.{space}
 use Rattle.text.specs.Lines.{newline}
@@ -33,9 +32,9 @@ unfoldable pub lineText : ℕ → ℕ → ℕ → ℕ → List ℕ → List ℕ
 lineText d u rank hops row =
     spaced (numberText d ∷ numberText u ∷ numberText rank ∷ numberText hops ∷ rowFields row) ++ (newline ∷ [])
 
--- the table of destination d in shortest-path mode: for the order that is built in that mode, and the topology's K
+-- the table of destination d in shortest-path mode
 unfoldable pub tableFor : Topology → ℕ → List ℕ
-tableFor t d = tableBytes (networkOf t) d (t .limit) (build (networkOf t) d shortest-path)
+tableFor t d = builtTable t d shortest-path
 
 -- the line of router u, by what the table lists; rank and greatest hop count are 255 where the table gives the router no rank (02, #107)
 unfoldable pub lineFor : Topology → ℕ → List ℕ → ℕ → List ℕ

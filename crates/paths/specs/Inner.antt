@@ -1,6 +1,6 @@
 -- What the functions that gather paths ask and leave; of the open contracts only those of `unchecked` name it.
 -- Assumes nothing.
-use Prim.Native.Nat.{ℕ, suc, _+_, _*_, _≤_}
+use Prim.Native.Nat.{ℕ, suc, _+_, _*_, _≤_, _<_}
 use mathlib.Core.List.{List}
 use mathlib.Core.Path.{_≡_}
 use lib.ListN.{length, getD}
@@ -11,7 +11,6 @@ use Rattle.topology_types.specs.declared.Topology.{Topology}
 use Rattle.topology_types.specs.Limits.{mostRouters}
 use Rattle.topology.specs.Written.{joinedOver}
 use Rattle.table.specs.Listed.{orderIn}
-use Rattle.forwarding_rules.specs.Theorems.{ListsPlace}
 use Rattle.text.specs.Inner.{Put}
 use Rattle.paths_rules.specs.Calls.{mostPaths, pathsOf, pathsBytes}
 use Rattle.paths_rules.specs.Theorems.{Passed}
@@ -22,10 +21,10 @@ use Rattle.paths.specs.declared.gathering.Entry.the-variants as entry
 abbrev pub mostBytes : ℕ
 mostBytes = mostRouters * mostPaths
 
--- what was read as the entry i of the row of u: the place that is listed there, or that the row's count is no more than i
-unfoldable pub Reads : List ℕ → ℕ → ℕ → Entry → Type 0
-Reads table u i (entry.To v) = ListsPlace table u i (v .0)
-Reads table u i entry.Past = getD table (4 + 19 * u + 2) 0 ≤ i
+-- what was read as the entry i of a row: the place that is listed there, or that the row has no more than i
+unfoldable pub Reads : List ℕ → ℕ → Entry → Type 0
+Reads row i (entry.To v) = (i < length row) × (getD row i 0 ≡ v .0)
+Reads row i entry.Past = length row ≤ i
 
 -- What gathering paths from a station, or through its entries, asks: it is one of a topology on which the table was checked; the moves made and the
 -- rank left make a path of at most 64 places; a count beyond 512 has stopped at 513; and there is room.

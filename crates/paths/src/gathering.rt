@@ -1,9 +1,7 @@
 // Every path from a station, gathered one behind the other: each is put over the route by which the station was reached, 64 bytes, 255 where no place is.
 use super::PATH;
 use super::PATHS;
-use table_rows::FRONT;
-use table_rows::HEADER;
-use table_rows::ROW;
+use table::unchecked::reading;
 use text::unchecked::lines;
 use topology_types::Place;
 ghost use mathlib.Core.List.{[], _∷_};
@@ -11,7 +9,6 @@ ghost use Prim.Native.Nat.{_+_, _≤_};
 ghost use lib.ListN.{length};
 ghost use Rattle.topology_types.specs.declared.Topology.{Topology};
 ghost use Rattle.topology_types.specs.Limits.{mostRouters};
-ghost use Rattle.forwarding_steps.specs.Inner.{RowOf};
 ghost use Rattle.paths_rules.specs.Calls.{mostPaths, pathsOf, pathsPast};
 ghost use Rattle.paths_rules.specs.Theorems.{Passed};
 ghost use Rattle.paths.specs.Inner.{mostBytes, Reads, Asked, PathsGathered};
@@ -22,17 +19,14 @@ enum Entry {
     Past,
 }
 
-// The entry i of a station's row.
-fn entry_of(table: &[u8], station: Place, i: usize) -> Entry
-    requires { ⌜ RowOf (now table) (station .0) ⌝ }
-    ensures { λ r. ⌜ Reads (now (table .entry)) (station .0) i r ⌝ }
+// The entry i of a row.
+fn entry_in(row: &[u8], i: usize) -> Entry
+    ensures { λ r. ⌜ Reads (now (row .entry)) i r ⌝ }
 {
-    let row = HEADER + ROW * station.0 as usize;
-    let entries = table[row + 2] as usize;
-    if entries <= i {
+    if row.len() <= i {
         return Entry::Past;
     }
-    Entry::To(Place(table[row + FRONT + i]))
+    Entry::To(Place(row[i]))
 }
 
 // A path that has come to its end; one beyond 512 is not put. Answers how many there are then.
@@ -61,7 +55,8 @@ pub(crate) fn from_station(
 {
     let mut here = route;
     here[moves] = station.0;
-    if station.0 == table[1] {
+    let home = reading::destination_in(reading::layout_of(table), table);
+    if station.0 == home.0 {
         return put_path(here, out, count);
     }
     through_entries(table, station, 0, here, moves + 1, out, count)
@@ -83,7 +78,9 @@ fn through_entries(
     if PATHS < count {
         return count;
     }
-    let Entry::To(next) = entry_of(table, station, i) else {
+    let u = station.0 as usize;
+    let row = reading::row_in(reading::layout_of(table), table, u);
+    let Entry::To(next) = entry_in(row, i) else {
         return count;
     };
     let more = from_station(table, next, route, moves, out, count);

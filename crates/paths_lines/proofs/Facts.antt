@@ -9,8 +9,10 @@ use Rattle.network.specs.Paths.{pathsAt, throughEach, pathsFrom}
 use Rattle.topology_types.specs.Topology.{noLink, padded, contents, held, seen, networkIn, networkOf}
 use Rattle.topology.specs.Written.{joinedOver}
 use Rattle.order.specs.Facts.{link, T-topology}
-use Rattle.table_rows.specs.Bytes.{rowBytes, headerBytes, rowOf, rowsBytes, tableBytes, rowStart}
-use Rattle.table.specs.Listed.{destinationIn, rankIn, placesIn, arcsTo, entriesIn, listed}
+use Rattle.table_rows.specs.Layout.{rowStart, numberAt, spread}
+use Rattle.table_rows.specs.Bytes.{rowBytes, headerBytes, rowOf, tableOf, tableBytes}
+use Rattle.table.specs.Listed.{destinationIn, rankIn, entryCount, placesIn, arcsTo, entriesIn, listed}
+use Rattle.table.specs.Calls.{builtTable}
 use Rattle.table.specs.Facts.{lone, F-links, F-topology}
 use Rattle.text.specs.Numbers.{lastDigits, numberText}
 use Rattle.listing_rules.specs.Listing.{spaced, tableFor}
@@ -27,7 +29,7 @@ unfolding numbersFrom below keep every any leastBy greatestBy ahead foremost ins
     reached shortestNextHops leadsInto ready candidate placedNeighbours preferred select continued placing build
     rank sortsBefore rankedBefore fullRow row pathsAt throughEach pathsFrom
     noLink padded contents held seen networkIn networkOf joinedOver link T-topology
-    rowBytes headerBytes rowOf rowsBytes tableBytes rowStart destinationIn rankIn placesIn arcsTo entriesIn listed lone F-links F-topology
+    rowStart numberAt spread rowBytes headerBytes rowOf tableOf tableBytes destinationIn rankIn entryCount placesIn arcsTo entriesIn listed builtTable lone F-links F-topology
     lastDigits numberText spaced tableFor eleven pathsOf twelve colon tooMany lineOf pathLine linesFrom linesTo allPaths
     holds T-0 T-1 T-2 F-first F-others lone-0 eleven-8 eleven-10 twelve-10 facts
 facts-hold = tt
@@ -39,6 +41,6 @@ unfolding numbersFrom below keep every any leastBy greatestBy ahead foremost ins
     reached shortestNextHops leadsInto ready candidate placedNeighbours preferred select continued placing build
     rank sortsBefore rankedBefore fullRow row pathsAt throughEach pathsFrom
     noLink padded contents held seen networkIn networkOf joinedOver link
-    rowBytes headerBytes rowOf rowsBytes tableBytes rowStart destinationIn rankIn placesIn arcsTo entriesIn listed
+    rowStart numberAt spread rowBytes headerBytes rowOf tableOf tableBytes destinationIn rankIn entryCount placesIn arcsTo entriesIn listed builtTable
     lastDigits numberText spaced tableFor pathsOf twelve colon tooMany lineOf pathLine linesFrom holds twelve-1
 more-hold = tt

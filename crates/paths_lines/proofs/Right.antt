@@ -12,6 +12,7 @@ use Rattle.topology_types.specs.Topology.{networkOf}
 use Rattle.topology_sound.proofs.Sound.{sound-networks}
 use Rattle.topology.specs.Written.{joinedOver}
 use Rattle.topology.proofs.Joined.{joined-same}
+use Rattle.table.proofs.Fields.{fields-read}
 use Rattle.text.specs.Lines.{answerText}
 use Rattle.text.specs.Numbers.{numberText}
 use Rattle.listing_rules.specs.Inner.{fieldsText}
@@ -55,7 +56,7 @@ lines-right t good d place u h =
       paths = right;
       up-to-512 = λ k. rw (le-ltb 512 (length (pathsOf t (tableFor t d) u)) k) (joined-same _ _ (pathsOf t (tableFor t d) u) (λ p m. path-spread d u p));
       more-than-512 = λ k. rw (lt-ltb 512 (length (pathsOf t (tableFor t d) u)) k) (too-many-spread d u);
-      from-destination = λ e. rw (paths-by-rule t good (tableFor t d) (accepted t good d place) u h .at-destination (e ∙ sym (g .bytes .destination)), e) (itself d);
+      from-destination = λ e. rw (paths-by-rule t good (tableFor t d) (accepted t good d place) u h .at-destination (e ∙ sym (fields-read (tableFor t d) .destination ∙ g .bytes .destination)), e) (itself d);
     }
 
 pub all-in-turn : AllInTurn

@@ -14,9 +14,10 @@ use Rattle.topology_sound.specs.Place.{onPlace}
 use Rattle.topology.specs.Written.{joinedOver}
 use Rattle.order.specs.Calls.{refusedAtFirst}
 use Rattle.order.specs.Facts.{answers, link, T-topology, cutOff}
-use Rattle.table_rows.specs.Bytes.{rankOrNone, rowBytes, headerBytes, rowOf, rowsBytes, tableBytes, rowStart}
-use Rattle.table.specs.Listed.{kindIn, destinationIn, countIn, limitIn, rankIn, placesIn, arcsTo, entriesIn, listed, byRank, orderIn}
-use Rattle.table.specs.Calls.{unlessRefused, soundHeader, soundRanks, differing, wrongBytes, tableJudging, tableChecking}
+use Rattle.table_rows.specs.Layout.{rowStart, numberAt, spread}
+use Rattle.table_rows.specs.Bytes.{rankOrNone, rowBytes, headerBytes, rowOf, tableOf, tableBytes}
+use Rattle.table.specs.Listed.{kindIn, destinationIn, countIn, limitIn, rankIn, entryCount, placesIn, arcsTo, entriesIn, listed, byRank, orderIn}
+use Rattle.table.specs.Calls.{unlessRefused, soundHeader, soundRanks, rightRanks, differing, rightBytes, wrongBytes, tableJudging, tableChecking}
 use Rattle.table.specs.Facts as tables
 use Rattle.table.specs.Facts.{lone, lone-table, T-table-0, T-table-free, F-links, F-topology, F-table, F-table-1, room, cut-table-0, cut-table-3}
 use Rattle.paths_rules.specs.Calls.{pathsOf, pathBytes, pathsBytes, writingPaths}
@@ -31,9 +32,9 @@ unfolding numbersFrom below keep every any leastBy insert sort member distinct s
     pathsAt throughEach pathsFrom
     firstOr turnedAway given noLink padded contents held zeros seen networkIn networkOf
     within inLimits wellLinked uncrowded isNoLink unusedZero slotted sound onPlace
-    joinedOver refusedAtFirst answers link T-topology cutOff rankOrNone rowBytes headerBytes rowOf rowsBytes tableBytes rowStart
-    kindIn destinationIn countIn limitIn rankIn placesIn arcsTo entriesIn listed byRank orderIn
-    unlessRefused soundHeader soundRanks differing wrongBytes tableJudging tableChecking
+    joinedOver refusedAtFirst answers link T-topology cutOff rankOrNone rowStart numberAt spread rowBytes headerBytes rowOf tableOf tableBytes
+    kindIn destinationIn countIn limitIn rankIn entryCount placesIn arcsTo entriesIn listed byRank orderIn
+    unlessRefused soundHeader soundRanks rightRanks differing wrongBytes rightBytes tableJudging tableChecking
     lone lone-table tables.none tables.one tables.two T-table-0 T-table-free cut-table-0 cut-table-3 F-links F-topology F-table F-table-1 room
     pathsOf pathBytes pathsBytes writingPaths writes holds one two three four five F-5 written
 written-hold = tt
@@ -46,8 +47,8 @@ unfolding numbersFrom below keep every any leastBy insert sort member distinct s
     pathsAt throughEach pathsFrom
     firstOr turnedAway given noLink padded contents held seen networkIn networkOf
     within inLimits wellLinked uncrowded isNoLink unusedZero slotted sound onPlace
-    joinedOver refusedAtFirst answers link rankOrNone rowBytes headerBytes rowOf rowsBytes tableBytes rowStart
-    kindIn destinationIn countIn limitIn rankIn placesIn arcsTo entriesIn listed byRank orderIn
-    unlessRefused soundHeader soundRanks differing wrongBytes tableJudging tableChecking
+    joinedOver refusedAtFirst answers link rankOrNone rowStart numberAt spread rowBytes headerBytes rowOf tableOf tableBytes
+    kindIn destinationIn countIn limitIn rankIn entryCount placesIn arcsTo entriesIn listed byRank orderIn
+    unlessRefused soundHeader soundRanks rightRanks differing wrongBytes rightBytes tableJudging tableChecking
     pathsOf pathBytes pathsBytes writingPaths writes holds twelve twelve-table
 most-hold = (tt, tt)

@@ -1,13 +1,13 @@
 -- Routers that forward by an accepted table are network's, since the destinations and the entries are the same; so the rule for network's paths is the
 -- rule for the table's.
 -- Assumes nothing.
-use Prim.Native.Nat.{ℕ, _+_, _*_, _<_}
-use mathlib.Core.List.{List, map, List·Memᴰ}
+use Prim.Native.Nat.{ℕ, _<_}
+use mathlib.Core.List.{List, [], map, List·Memᴰ}
 use mathlib.Core.Path.{_≡_, sym, ap, _∙_, subst, fun-ext}
 use native.Mathlib.Decide.{decLt}
 use native.Mathlib.Omega.{arith}
 use lib.Dec.{T}
-use lib.ListN.{getD, List·getD-eq-default}
+use lib.ListN.{length, List·getD-eq-default, drop-of-length-le}
 use Rattle.network.specs.Network.{Arc, Network, size}
 use Rattle.network.specs.Distance.{distances}
 use Rattle.network.specs.Row.{rank, row}
@@ -25,9 +25,9 @@ use Rattle.topology_types.specs.Outcome.{answer}
 use Rattle.topology_sound.specs.Sound.{sound}
 use Rattle.topology_sound.proofs.Sound.{sound-exact}
 use Rattle.topology.specs.Written.{joinedOver}
-use Rattle.table_rows.specs.Bytes.{rowStart}
 use Rattle.table.specs.Listed.{destinationIn, placesIn, entriesIn, listed, forwardingBy}
 use Rattle.table.specs.Calls.{tableChecking}
+use Rattle.table.proofs.Fields.{fields-read}
 use Rattle.table.proofs.Lists.{places-are}
 use Rattle.forwarding_rules.specs.Calls.{by}
 use Rattle.forwarding_rules.specs.Theorems.{rankByte}
@@ -49,7 +49,7 @@ module _ (t : Topology) (good : T (sound t)) (table : List ℕ) (right : tableCh
   rows u = row n (distances n (o .d)) (o .limit) (o .order) u
 
   -- what holds for its destination and rows holds for what the table lists
-  pub carried : (claim : ℕ → (ℕ → List Arc) → Type 0) → claim (o .d) rows → claim (getD table 1 0) (entriesIn n table)
+  pub carried : (claim : ℕ → (ℕ → List Arc) → Type 0) → claim (o .d) rows → claim (destinationIn table) (entriesIn n table)
   carried claim x = subst (λ (d : ℕ). claim d (entriesIn n table)) (sym (o .destination-is)) (subst (claim (o .d)) (sym (fun-ext (o .entries-are))) x)
 
   pub law : Lawful (routers n (o .d) (o .limit) (o .order)) (rank (o .order)) (λ states. T (validStates n states))
@@ -57,18 +57,21 @@ module _ (t : Topology) (good : T (sound t)) (table : List ℕ) (right : tableCh
 
   -- the places that a row lists are those of its entries; past N there are none
   pub places : (u : ℕ) → placesIn table u ≡ map (λ a. a .to) (entriesIn n table u)
-  unfolding placesIn rowStart entriesIn joinedOver
+  unfolding entriesIn joinedOver
   places u = step (decLt u (size n))
     where
       step : Dec (u < size n) → placesIn table u ≡ map (λ a. a .to) (entriesIn n table u)
       step (yes h) =
           places-are n (o .well-formed) (o .d) (o .limit) (o .given .limit-most) (o .order) table (o .given .bytes) u h
           ∙ ap (map (λ (a : Arc). a .to)) (sym (o .entries-are u))
-      step (no h) = rw (List·getD-eq-default table 0 {n = 4 + 19 * u + 2} (omega (arith, o .given .bytes .long)))
+      step (no h) =
+          let long : length (placesIn table u) ≡ 0 = fields-read table .entries u ∙ List·getD-eq-default table 0 (omega (arith, o .given .bytes .long)) in
+          let none : placesIn table u ≡ [] = drop-of-length-le (placesIn table u) {i = 0} (omega arith) in
+          rw none
 
   module _ (u : ℕ) (inside : u < t .routers) where
     pub rule : PathRule (by t table) (t .routers) u
-    unfolding listed destinationIn
+    unfolding listed
     rule =
         carried (λ d es. PathRule (forwarding d es) (t .routers) u)
         (paths-by-rule (routers n (o .d) (o .limit) (o .order)) (rank (o .order)) _ law (t .routers) u (omega (arith, o .rank-below u inside)))

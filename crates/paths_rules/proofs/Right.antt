@@ -1,4 +1,4 @@
--- The paths over what an accepted table lists are network's for its order and K, its entries being the bytes of its rows; so what is proved of those
+-- The paths over what an accepted table lists are network's for its order and K, its entries leading to the places of its rows; so what is proved of those
 -- holds here. The schedule of a path is network's valid rows laid end to end.
 -- Assumes nothing.
 use Prim.Native.Nat.{ℕ, suc, pred, _+_, _*_, _<_}
@@ -19,7 +19,7 @@ use Rattle.topology_types.specs.declared.Topology.{Topology}
 use Rattle.topology_types.specs.Topology.{networkOf}
 use Rattle.topology_types.specs.Outcome.{answer}
 use Rattle.topology_sound.specs.Sound.{sound}
-use Rattle.table.specs.Listed.{destinationIn, entriesIn, listed}
+use Rattle.table.specs.Listed.{entriesIn, listed}
 use Rattle.table.specs.Calls.{tableChecking}
 use Rattle.forwarding_rules.specs.Schedule.{rowsIn}
 use Rattle.forwarding_rules.specs.Calls.{done, by, figures, walking}
@@ -40,13 +40,13 @@ module _ (t : Topology) (good : T (sound t)) (table : List ℕ) (right : tableCh
   x = o t good table right
 
   -- an entry of network's row is listed, and what is listed is such an entry
-  to-byte : (v : ℕ) (a : Arc) → List·Memᴰ a (rows t good table right v) → (j : ℕ) × ListsPlace table v j (a .to)
-  to-byte v a m = entries.listed t good table right v a (rw (x .entries-are v) m)
+  to-place : (v : ℕ) (a : Arc) → List·Memᴰ a (rows t good table right v) → (j : ℕ) × ListsPlace table v j (a .to)
+  to-place v a m = entries.listed t good table right v a (rw (x .entries-are v) m)
 
   to-entry : (v j w : ℕ) → ListsPlace table v j w → (a : Arc) × List·Memᴰ a (rows t good table right v) × (a .to ≡ w)
   to-entry v j w l = let f = entries.turn t good table right v j w l in (f .arc, rw (x .entries-are v) at (f .among), f .to)
 
-  -- where two paths part by network's rows they part by the bytes
+  -- where two paths part by network's rows they part by the places listed
   sooner : (p q : List ℕ) → Earlier (routers n (x .d) (x .limit) (x .order)) p q → Sooner table p q
   sooner p q e =
       let at : entriesIn n table (e .station) ≡ e .before ++ (e .sooner ∷ e .between ++ (e .later ∷ e .behind)) = x .entries-are (e .station) ∙ e .listed in
@@ -71,7 +71,7 @@ module _ (t : Topology) (good : T (sound t)) (table : List ℕ) (right : tableCh
   module _ (u : ℕ) where
     -- the list is network's
     same : pathsOf t table u ≡ everyPath n (x .d) (x .limit) (x .order) u
-    unfolding pathsOf listed destinationIn
+    unfolding pathsOf listed
     same =
         rw (x .routers-are)
         (carried t good table right
@@ -86,7 +86,7 @@ module _ (t : Topology) (good : T (sound t)) (table : List ℕ) (right : tableCh
           starts = r .starts;
           steps = λ before v w after e.
               let (a, m, to) = r .steps before v w after e in
-              subst (λ (y : ℕ). (j : ℕ) × ListsPlace table v j y) to (to-byte v a m);
+              subst (λ (y : ℕ). (j : ℕ) × ListsPlace table v j y) to (to-place v a m);
           ends = rw (x .destination-is) (r .ends);
         }
 
@@ -115,7 +115,7 @@ module _ (t : Topology) (good : T (sound t)) (table : List ℕ) (right : tableCh
       figure-is = figure-reached good x u place
 
       visited-is : (xs : List (List ℕ)) → visited (by t table) xs u ≡ visited (routers n (x .d) (x .limit) (x .order)) xs u
-      unfolding listed destinationIn
+      unfolding listed
       visited-is xs =
           carried t good table right (λ d es. visited (forwarding d es) xs u ≡ visited (routers n (x .d) (x .limit) (x .order)) xs u) refl
 

@@ -1,4 +1,4 @@
--- The rule for paths is network's, its entries being the bytes of the table's rows, turn by turn.
+-- The rule for paths is network's, its entries leading to the places of the table's rows, turn by turn.
 -- Assumes nothing.
 use Prim.Native.Nat.{ℕ, suc}
 use mathlib.Core.List.{List, _++_}
@@ -11,7 +11,7 @@ use Rattle.topology_types.specs.declared.Topology.{Topology}
 use Rattle.topology_types.specs.Topology.{networkOf}
 use Rattle.topology_types.specs.Outcome.{answer}
 use Rattle.topology_sound.specs.Sound.{sound}
-use Rattle.table.specs.Listed.{destinationIn, entriesIn, listed}
+use Rattle.table.specs.Listed.{entriesIn, listed}
 use Rattle.table.specs.Calls.{tableChecking}
 use Rattle.forwarding_rules.specs.Calls.{by}
 use Rattle.paths_rules.specs.Calls.{pathsOf, pathsPast}
@@ -22,7 +22,7 @@ use Rattle.paths_rules.proofs.Entries.{Turn, turn, none-past}
 module _ (t : Topology) (good : T (sound t)) (table : List ℕ) (right : tableChecking t table ≡ answer 0 0) (u : ℕ)
     (r : network.PathRule (by t table) (t .routers) u) where
   by-rule : PathRule t table u
-  unfolding pathsOf pathsPast listed destinationIn
+  unfolding pathsOf pathsPast listed
   by-rule =
       record {
         at-destination = λ e. r .at-home (eq-test e);

@@ -13,6 +13,7 @@ use Rattle.network.specs.Theorems.Paths.{visited}
 use Rattle.topology_types.specs.declared.Topology.{Topology}
 use Rattle.topology_types.specs.Outcome.{answer}
 use Rattle.topology_sound.specs.Sound.{sound}
+use Rattle.table.specs.Listed.{placesIn}
 use Rattle.table.specs.Calls.{tableChecking}
 use Rattle.forwarding_rules.specs.Schedule.{rowsIn}
 use Rattle.forwarding_rules.specs.Calls.{done, by, figures, walking}
@@ -25,7 +26,7 @@ pub record PathRule (t : Topology) (table : List ℕ) (u : ℕ) : Type 0 where
   pub at-destination : u ≡ destinationByte table → pathsOf t table u ≡ (u ∷ []) ∷ []
   pub elsewhere : u ≢ destinationByte table → pathsOf t table u ≡ map (λ p. u ∷ p) (pathsPast t table u 0)
   pub entry : (i v : ℕ) → ListsPlace table u i v → pathsPast t table u i ≡ pathsOf t table v ++ pathsPast t table u (suc i)
-  pub past : (i : ℕ) → getD table (4 + 19 * u + 2) 0 ≤ i → pathsPast t table u i ≡ []
+  pub past : (i : ℕ) → length (placesIn table u) ≤ i → pathsPast t table u i ≡ []
 
 abbrev pub PathsByRule : Type 0
 PathsByRule = OfAccepted (λ t table. (u : ℕ) → u < t .routers → PathRule t table u)

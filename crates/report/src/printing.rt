@@ -3,11 +3,9 @@ use super::unchecked::fields::put_fields;
 use super::unchecked::fields::put_place;
 use super::unchecked::fields::put_rank;
 use listing_rules::Front;
+use table::unchecked::reading;
 use table_rows::ENTRIES;
-use table_rows::FRONT;
-use table_rows::HEADER;
-use table_rows::ROW;
-use table_rows::TABLE;
+use table_rows::Layout;
 use text::unchecked::lines;
 use topology_types::Place;
 use topology_types::ROUTERS;
@@ -16,8 +14,8 @@ ghost use mathlib.Core.Path.{_≡_};
 ghost use Prim.Native.Nat.{_+_, _*_, _≤_, _<_};
 ghost use lib.ListN.{length, getD};
 ghost use Rattle.topology_types.specs.Limits.{mostRouters};
-ghost use Rattle.table_rows.specs.Bytes.{rowStart};
-ghost use Rattle.table.specs.Listed.{rankIn};
+ghost use Rattle.table.specs.Listed.{layoutOf, rankIn};
+ghost use Rattle.table.specs.Inner.{HasRow};
 ghost use Rattle.text.specs.Inner.{Put};
 ghost use Rattle.listing_rules.specs.Inner.{mostListingLine, mostListingLines, rowText, frontOf, frontText, frontLine, RowFits, Small, Listable, tableText};
 
@@ -31,12 +29,6 @@ pub(crate) fn room_for_lines() -> [u8; LINES]
     ensures { λ r. ⌜ mostListingLines ≡ length r ⌝ }
 {
     [0; LINES]
-}
-
-pub(crate) fn room_for_table() -> [u8; TABLE]
-    ensures { λ r. ⌜ 1220 ≡ length r ⌝ }
-{
-    [0; TABLE]
 }
 
 pub(crate) fn room_for_hops() -> [u8; ROUTERS]
@@ -78,13 +70,13 @@ fn put_line(out: &mut [u8], at: usize, front: Front, row: &[u8]) -> usize
     end + 1
 }
 
-// The fields before its row of the line of the router at u, by the table's bytes and the hop counts by place.
-fn front_of<'a>(table: &'a [u8], hops: &'a [u8], destination: Place, u: usize) -> Front
-    requires { ⌜ (u < mostRouters) × (u < length (now hops)) × (rowStart u + 1 < length (now table)) ⌝ }
+// The fields before its row of the line of the router at u, by the table and the hop counts by place.
+fn front_of<'a>(l: Layout, table: &'a [u8], hops: &'a [u8], destination: Place, u: usize) -> Front
+    requires { ⌜ (l ≡ layoutOf (now table)) × HasRow (now table) u × (u < length (now hops)) ⌝ }
     ensures { λ r. ⌜ r ≡ frontOf (destination .0) u (rankIn (now (table .entry)) u) (getD (now (hops .entry)) u 0) ⌝ }
 {
     let router = Place(u as u8);
-    let rank = Rank(table[HEADER + ROW * u + 1]);
+    let rank = reading::rank_in(l, table, u);
     let bound = Rank(hops[u]);
     Front {
         destination: destination,
@@ -106,14 +98,12 @@ pub(crate) fn put_table<'a, 'b>(
     requires { ⌜ Listable (now table) (now hops) n (destination .0) × (at + mostListingLine * n ≤ length (now out)) ⌝ }
     ensures { λ r. ⌜ Put (now (out .entry)) at (tableText (now (table .entry)) (now (hops .entry)) (destination .0) n) r (now (out .exit)) ⌝ }
 {
+    let l = reading::layout_of(table);
     let mut end = at;
     let mut u: usize = 0;
     while u < n {
-        let start = HEADER + ROW * u;
-        let first = start + FRONT;
-        let last = first + table[start + 2] as usize;
-        let front = front_of(table, hops, destination, u);
-        end = put_line(out, end, front, &table[first..last]);
+        let front = front_of(l, table, hops, destination, u);
+        end = put_line(out, end, front, reading::row_in(l, table, u));
         u += 1;
     }
     end

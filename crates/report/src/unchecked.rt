@@ -4,8 +4,6 @@ pub mod fields;
 use super::printing;
 use arcs::Arcs;
 use order::Mode;
-use table_rows::HEADER;
-use table_rows::ROW;
 use topology_types::Place;
 use topology_types::Topology;
 ghost use Prim.Native.Nat.{_+_, _*_, _≤_, _<_};
@@ -22,13 +20,12 @@ pub fn put_lines(t: Topology, a: Arcs, destination: Place, out: &mut [u8], at: u
     requires { ⌜ T (sound t) × Laid t a × (destination .0 < t .routers) × (at + mostListingLines ≤ length (now out)) ⌝ }
     ensures { λ r. ⌜ Put (now (out .entry)) at (linesFor t (destination .0)) r (now (out .exit)) ⌝ }
 {
-    let n = t.routers;
-    let length = HEADER + ROW * n;
-    let mut table = printing::room_for_table();
-    table::unchecked::build(t, a, destination, Mode::ShortestPath, &mut table);
+    let built = table::unchecked::build(t, a, destination, Mode::ShortestPath);
+    let bytes = built.bytes;
+    let length = built.length;
     let mut hops = printing::room_for_hops();
-    forwarding::unchecked::greatest_hops(t, &table[..length], &mut hops);
-    printing::put_table(out, at, &table[..length], &hops, n, destination)
+    forwarding::unchecked::greatest_hops(t, &bytes[..length], &mut hops);
+    printing::put_table(out, at, &bytes[..length], &hops, t.routers, destination)
 }
 
 // The lines of all destinations, into the first bytes of the slice; answers how many bytes they are.

@@ -4,12 +4,8 @@
 use arcs::Arcs;
 use libc::STDOUT_FILENO;
 use order::Mode;
-use table_rows::HEADER;
-use table_rows::ROW;
-use table_rows::TABLE;
 use topology::Place;
 use topology::Topology;
-ghost use mathlib.Core.Path.{_≡_};
 ghost use Prim.Native.Nat.{_≤_, _<_};
 ghost use lib.Dec.{T};
 ghost use lib.ListN.{length};
@@ -17,20 +13,13 @@ ghost use Rattle.topology_sound.specs.Sound.{sound};
 ghost use Rattle.arcs.specs.Inner.{Laid};
 ghost use Rattle.paths_lines.specs.Inner.{mostPathLines};
 
-// An array that comes out of a function is known by what the function ensures.
-fn room() -> [u8; TABLE]
-    ensures { λ r. ⌜ 1220 ≡ length r ⌝ }
-{
-    [0; TABLE]
-}
-
 // Writes the lines of a destination, start by start, by place; answers whether that went well.
 fn write_to(t: Topology, a: Arcs, destination: Place, out: &mut [u8]) -> bool
     requires { ⌜ T (sound t) × Laid t a × (destination .0 < t .routers) × (mostPathLines ≤ length (now out)) ⌝ }
 {
-    let length = HEADER + ROW * t.routers;
-    let mut table = room();
-    table::unchecked::build(t, a, destination, Mode::ShortestPath, &mut table);
+    let built = table::unchecked::build(t, a, destination, Mode::ShortestPath);
+    let table = built.bytes;
+    let length = built.length;
     let mut u: usize = 0;
     while u < t.routers {
         let end = paths_lines::unchecked::put_lines(

@@ -28,9 +28,10 @@ use Rattle.topology_sound.specs.Theorems.{SoundNetwork}
 use Rattle.topology_sound.proofs.Sound.{sound-exact, sound-networks}
 use Rattle.order.specs.Calls.{orderBytes}
 use Rattle.order.proofs.Ranges.{keep-none, none-passes, keep-first, first-passes}
-use Rattle.table_rows.specs.Bytes.{rankOrNone, rowStart}
+use Rattle.table_rows.specs.Layout.{rowStart, numberAt}
+use Rattle.table_rows.specs.Bytes.{rankOrNone}
 use Rattle.table.specs.Listed.{kindIn, destinationIn, countIn, limitIn, rankIn, byRank, orderIn, inShortestPathMode}
-use Rattle.table.specs.Calls.{soundHeader, soundRanks, differing}
+use Rattle.table.specs.Calls.{soundHeader, soundRanks, differing, rightRanks}
 use Rattle.table.specs.Theorems.{SoundStart, RanksOrdered, RanksInBytes}
 use Rattle.table.proofs.Ordered.{as-byte, kept, ordered, begins}
 
@@ -66,7 +67,7 @@ module _ (t : Topology) (is-sound : T (sound t)) where
 
   module _ (table : List ℕ) where
     pub its-bytes : (order : List ℕ) → SoundStart t table order → byRank (t .routers) table ≡ orderBytes (t .routers) order
-    unfolding rankIn rowStart
+    unfolding rankIn rowStart numberAt
     its-bytes order s =
         its-ranks _ (s .destination) order (s .in-free) table (λ u h. as-byte order u (getD table (4 + 19 * u + 1) 0) .0 (s .ranks u h))
 
@@ -76,7 +77,7 @@ module _ (t : Topology) (is-sound : T (sound t)) where
 
     -- the destination of a sound header is a place
     pub header-place : T (soundHeader (t .routers) table) → getD table 1 0 < t .routers
-    unfolding soundHeader kindIn destinationIn countIn
+    unfolding soundHeader kindIn destinationIn countIn numberAt
     header-place h =
         let d = getD table 1 0 in
         let count = t .routers in
@@ -86,7 +87,7 @@ module _ (t : Topology) (is-sound : T (sound t)) where
 
     -- and its K is at most 16
     pub header-limit : T (soundHeader (t .routers) table) → getD table 3 0 ≤ 16
-    unfolding soundHeader limitIn within
+    unfolding soundHeader limitIn within numberAt
     header-limit h =
         let limit = getD table 3 0 in
         let count = t .routers in
@@ -94,7 +95,7 @@ module _ (t : Topology) (is-sound : T (sound t)) where
         leb→le limit 16 (both (leb 1 limit) (leb limit mostNextHops) limits .1)
 
     pub starts : T (starts? t table) → SoundStart t table (orderIn (t .routers) table)
-    unfolding soundHeader soundRanks kindIn destinationIn countIn limitIn rankIn rowStart within
+    unfolding soundHeader soundRanks rightRanks kindIn destinationIn countIn limitIn rankIn rowStart within numberAt
     starts h =
         let count = t .routers in
         let d = getD table 1 0 in
@@ -119,7 +120,7 @@ module _ (t : Topology) (is-sound : T (sound t)) where
         }
 
     pub start-passes : (order : List ℕ) → SoundStart t table order → T (starts? t table)
-    unfolding soundHeader soundRanks kindIn destinationIn countIn limitIn rankIn rowStart within
+    unfolding soundHeader soundRanks rightRanks kindIn destinationIn countIn limitIn rankIn rowStart within numberAt
     start-passes order s =
         let count = t .routers in
         let d = getD table 1 0 in
@@ -136,7 +137,7 @@ module _ (t : Topology) (is-sound : T (sound t)) where
         (λ u m. eq-test (as-byte order u (getD table (4 + 19 * u + 1) 0) .0 (s .ranks u (below-lt count m)))))))
 
 pub ranks-ordered : RanksOrdered
-unfolding inShortestPathMode destinationIn
+unfolding inShortestPathMode destinationIn numberAt
 ranks-ordered t is-sound table order s =
     let n = sound-networks t is-sound in
     let same = its-order t is-sound table order s in (

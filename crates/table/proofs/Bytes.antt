@@ -17,7 +17,10 @@ use Rattle.network.proofs.Below.{length-below}
 use Rattle.topology_types.specs.Topology.{padded}
 use Rattle.topology_sound.proofs.Stores.{getD-number}
 use Rattle.topology.specs.Written.{joinedOver}
-use Rattle.table_rows.specs.Bytes.{rankOrNone, rowBytes, headerBytes, rowOf, rowsBytes, tableBytes}
+use Rattle.table_rows.specs.Layout.{narrow, spread}
+use Rattle.table_rows.specs.Bytes.{rankOrNone, headerBytes, rowOf, tableOf, tableBytes}
+use Rattle.table_rows.proofs.Layouts.{bytewise, row-is}
+use Rattle.table_rows.proofs.Putting.{row-wide}
 use Rattle.table.specs.Theorems.{RowAt, TableIs, BytesExact}
 use Rattle.table.proofs.Ordered.{as-byte}
 
@@ -47,7 +50,7 @@ module _ (n : Network) (d limit : ℕ) (few : limit ≤ 16) (order : List ℕ) w
   places u = map (λ (a : Arc). a .to) (entries u)
 
   abbrev bytes : ℕ → List ℕ
-  bytes u = rowOf n (distances n d) limit order u
+  bytes u = rowOf narrow (rankOrNone order) entries u
 
   abbrev table : List ℕ
   table = tableBytes n d limit order
@@ -59,25 +62,30 @@ module _ (n : Network) (d limit : ℕ) (few : limit ≤ 16) (order : List ℕ) w
   places-long : (u : ℕ) → length (places u) ≡ length (entries u)
   places-long u = length-map (entries u) (λ (a : Arc). a .to)
 
-  row-wide : (u : ℕ) → length (bytes u) ≡ 19
-  unfolding rowOf rowBytes padded
-  row-wide u = simp (length-append, length-replicate) (omega (arith, row-few u, places-long u))
+  -- the bytes of the row of u, one by one
+  abbrev plain : ℕ → List ℕ
+  plain u = 17 ∷ rankOrNone order u ∷ length (places u) ∷ padded 255 16 (places u)
+
+  row-plain : (u : ℕ) → bytes u ≡ plain u
+  unfolding rowOf
+  row-plain u = row-is narrow bytewise (rankOrNone order u) (places u)
 
   table-long : length table ≡ 4 + 19 * size n
-  unfolding tableBytes headerBytes rowsBytes
-  table-long = omega (arith, joined-long bytes 19 row-wide (below (size n)), length-below (size n))
+  unfolding tableBytes tableOf headerBytes spread
+  table-long = omega (arith, joined-long bytes 19 (row-wide narrow (rankOrNone order) entries row-few) (below (size n)), length-below (size n))
 
   -- byte k of the row of u
-  row-at : (u k i : ℕ) → i ≡ 4 + (19 * u + k) → u < size n → k < 19 → getD table i 0 ≡ getD (bytes u) k 0
-  unfolding tableBytes headerBytes rowsBytes
+  row-at : (u k i : ℕ) → i ≡ 4 + (19 * u + k) → u < size n → k < 19 → getD table i 0 ≡ getD (plain u) k 0
+  unfolding tableBytes tableOf headerBytes spread
   row-at u k i e h l =
       ap (λ (j : ℕ). getD table j 0) e
-      ∙ getD-append-add (headerBytes d (size n) limit) (rowsBytes n (distances n d) limit order) (19 * u + k) 0
-      ∙ joined-at bytes 19 row-wide (below (size n)) u k 0 (rw length-below h) l
+      ∙ getD-append-add (headerBytes narrow d (size n) limit) (joinedOver bytes (below (size n))) (19 * u + k) 0
+      ∙ joined-at bytes 19 (row-wide narrow (rankOrNone order) entries row-few) (below (size n)) u k 0 (rw length-below h) l
       ∙ ap (λ (v : ℕ). getD (bytes v) k 0) (getD-number (size n) u h)
+      ∙ ap (λ (r : List ℕ). getD r k 0) (row-plain u)
 
   row-holds : (u : ℕ) → u < size n → RowAt n d limit order table u
-  unfolding rowOf rowBytes padded
+  unfolding padded
   row-holds u h =
       record {
         kind = row-at u 0 _ (omega arith) h (omega arith);
@@ -94,7 +102,7 @@ module _ (n : Network) (d limit : ℕ) (few : limit ≤ 16) (order : List ℕ) w
       }
 
   pub holds : TableIs n d limit order table
-  unfolding tableBytes headerBytes
+  unfolding tableBytes tableOf headerBytes spread
   holds =
       record {
         long = table-long;

@@ -34,11 +34,12 @@ use Rattle.order.proofs.Answers.{is-0}
 use Rattle.order.proofs.Decided.{judged, first-there, none-there, ranks-below}
 use Rattle.order.proofs.Orders.{exact, checks}
 use Rattle.order.proofs.Reached.{accepted-long}
-use Rattle.table_rows.specs.Bytes.{rankOrNone, rowStart, tableLength}
+use Rattle.table_rows.specs.Layout.{rowStart, tableLength, numberAt}
+use Rattle.table_rows.specs.Bytes.{rankOrNone}
 use Rattle.table_rows.specs.Inner.{Fillable}
 use Rattle.table_rows.proofs.RankBytes.{accepted-ranked}
-use Rattle.table.specs.Listed.{destinationIn, rankIn, byRank, orderIn}
-use Rattle.table.specs.Calls.{soundHeader, soundRanks, differing, wrongBytes, tableJudging}
+use Rattle.table.specs.Listed.{layoutOf, destinationIn, rankIn, byRank, orderIn}
+use Rattle.table.specs.Calls.{soundHeader, soundRanks, differing, wrongBytes, tableJudging, rightBytes, rightRanks}
 use Rattle.table.specs.Inner.{firstWrong}
 use Rattle.table.specs.Theorems.{TableIs}
 use Rattle.table.proofs.Ordered.{long, as-byte}
@@ -107,7 +108,7 @@ module _ (t : Topology) (is-sound : T (sound t)) (d : ℕ) (place : d < t .route
         (rw same acc, rw same are)
 
     pub ranks-fail : (judging t d mode.Free (byRank (t .routers) table) .number ≡ 0 → ⊥) → T (soundRanks (networkOf t) (t .routers) table) → ⊥
-    unfolding soundRanks modeOf
+    unfolding soundRanks rightRanks modeOf
     ranks-fail other h =
         let facts = sound-networks t is-sound in
         let count = t .routers in
@@ -122,7 +123,7 @@ module _ (t : Topology) (is-sound : T (sound t)) (d : ℕ) (place : d < t .route
 pub ranks-same : (t : Topology) → T (sound t) → (table other : List ℕ) (d limit : ℕ) → destinationIn table ≡ d →
     d < t .routers → Accepted (networkOf t) d free (orderIn (t .routers) table) → TableIs (networkOf t) d limit (orderIn (t .routers) table) other →
     soundRanks (networkOf t) (t .routers) table ≡ every (λ u. eqb (rankIn table u) (rankIn other u)) (below (t .routers))
-unfolding soundRanks rankIn rowStart
+unfolding soundRanks rightRanks rankIn rowStart numberAt
 ranks-same t is-sound table other d limit e place acc is =
     let facts = sound-networks t is-sound in
     let formed = orderIn (t .routers) table in
@@ -137,31 +138,31 @@ pub begins-with : (count : ℕ) (xs table : List ℕ) → take count xs ≡ byRa
 begins-with count xs table e = omega (arith, length-take count xs, ap length e, long count table)
 
 module _ (t : Topology) (table : List ℕ) where
-  pub wrong-length : (length table ≡ tableLength (t .routers) → ⊥) → answer 21 (length table) ≡ tableJudging t table
+  pub wrong-length : (length table ≡ tableLength (layoutOf table) (t .routers) → ⊥) → answer 21 (length table) ≡ tableJudging t table
   unfolding tableJudging
-  wrong-length other = rw (ne-eqb (length table) (tableLength (t .routers)) other)
+  wrong-length other = rw (ne-eqb (length table) (tableLength (layoutOf table) (t .routers)) other)
 
   offsets-below : (x : ℕ) → List·Memᴰ x (wrongBytes (networkOf t) (t .routers) table) → x < length table
-  unfolding wrongBytes differing below
+  unfolding wrongBytes rightBytes differing below
   offsets-below x m = ranks-below _ 0 (length table) (length table) (omega arith) x m
 
-  module _ (long : length table ≡ tableLength (t .routers)) where
+  module _ (long : length table ≡ tableLength (layoutOf table) (t .routers)) where
     pub wrong-start : (T (starts? t table) → ⊥) → answer 21 0 ≡ tableJudging t table
     unfolding tableJudging
-    wrong-start out = rw (eq-eqb (length table) (tableLength (t .routers)) long, as-false (starts? t table) out)
+    wrong-start out = rw (eq-eqb (length table) (tableLength (layoutOf table) (t .routers)) long, as-false (starts? t table) out)
 
     module _ (start : T (starts? t table)) (r : ℕ) (found : r ≡ firstOr (length table) (wrongBytes (networkOf t) (t .routers) table)) where
       pub wrong-byte : r < length table → answer 21 r ≡ tableJudging t table
       unfolding tableJudging
       wrong-byte h =
-          rw (eq-eqb (length table) (tableLength (t .routers)) long, as-true (starts? t table) start)
+          rw (eq-eqb (length table) (tableLength (layoutOf table) (t .routers)) long, as-true (starts? t table) start)
           (first-there (wrongBytes (networkOf t) (t .routers) table) (length table) r 21 (answer 0 0) found h)
 
       pub none-wrong : length table ≤ r → answer 0 0 ≡ tableJudging t table
       unfolding tableJudging refusedAtFirst
       none-wrong h =
           rw (
-            eq-eqb (length table) (tableLength (t .routers)) long,
+            eq-eqb (length table) (tableLength (layoutOf table) (t .routers)) long,
             as-true (starts? t table) start,
             none-there (wrongBytes (networkOf t) (t .routers) table) (length table) r offsets-below found h,
           )

@@ -13,9 +13,10 @@ use Rattle.topology_sound.specs.Place.{onPlace}
 use Rattle.topology.specs.Written.{joinedOver}
 use Rattle.order.specs.Calls.{modeOf, reachedCount, wrongRanks, ranksAfter, unreadyRanks, refusedAtFirst, judging, checking}
 use Rattle.order.specs.Facts.{answers, link, twoCosts, T-topology, cutOff, twoParts}
-use Rattle.table_rows.specs.Bytes.{rankOrNone, rowBytes, headerBytes, rowOf, rowsBytes, tableBytes, rowStart}
+use Rattle.table_rows.specs.Layout.{rowStart, numberAt, spread}
+use Rattle.table_rows.specs.Bytes.{rankOrNone, rowBytes, headerBytes, rowOf, tableOf, tableBytes}
 use Rattle.table.specs.Listed.{kindIn, destinationIn, countIn, limitIn, rankIn, byRank, orderIn, inShortestPathMode}
-use Rattle.table.specs.Calls.{unlessRefused, filling, soundHeader, soundRanks, differing, wrongBytes, tableJudging, tableChecking}
+use Rattle.table.specs.Calls.{unlessRefused, filling, soundHeader, soundRanks, differing, wrongBytes, tableJudging, tableChecking, rightBytes, rightRanks}
 use Rattle.table.specs.Facts.{holds, lone, slope, F-links, F-topology, F-falling, none, one, two, room}
 use Rattle.table.specs.Facts.{filled, checked, formed, FilledHold, CheckedHold, FormedHold}
 use Rattle.table.specs.Facts.{lone-table, T-table-0, T-table-1, T-table-2, T-table-free, F-table, F-table-1, F-table-falling}
@@ -29,7 +30,7 @@ unfolding numbersFrom below keep every any leastBy insert sort member distinct s
     turnedAway given noLink padded contents held zeros seen networkIn networkOf
     within inLimits wellLinked uncrowded isNoLink unusedZero slotted sound onPlace
     joinedOver modeOf reachedCount wrongRanks ranksAfter unreadyRanks refusedAtFirst judging checking answers link twoCosts T-topology cutOff twoParts
-    rankOrNone rowBytes headerBytes rowOf rowsBytes tableBytes rowStart unlessRefused filling
+    rankOrNone spread rowBytes headerBytes rowOf tableOf tableBytes rowStart numberAt unlessRefused filling
     holds lone slope F-links F-topology F-falling none one two room filled
     lone-table T-table-0 T-table-1 T-table-2 T-table-free F-table F-table-1 F-table-falling slope-table-0 slope-table-2
     cut-table-0 cut-table-free cut-table-3 parts-table-0 parts-table-2
@@ -43,8 +44,8 @@ unfolding numbersFrom below keep every any leastBy insert sort member distinct s
     firstOr noLink padded contents held zeros seen networkIn networkOf
     within inLimits wellLinked uncrowded isNoLink unusedZero slotted sound
     joinedOver refusedAtFirst answers link twoCosts T-topology cutOff twoParts
-    rankOrNone rowBytes headerBytes rowOf rowsBytes tableBytes rowStart
-    kindIn destinationIn countIn limitIn rankIn byRank orderIn soundHeader soundRanks differing wrongBytes tableChecking tableJudging
+    rankOrNone spread rowBytes headerBytes rowOf tableOf tableBytes rowStart numberAt
+    kindIn destinationIn countIn limitIn rankIn byRank orderIn soundHeader soundRanks rightRanks differing wrongBytes rightBytes tableChecking tableJudging
     holds lone slope F-links F-topology F-falling none one two checked
     lone-table T-table-0 T-table-1 T-table-2 T-table-free F-table F-table-1 F-table-falling slope-table-0 slope-table-2 slope-turned
     cut-table-0 cut-table-free cut-table-3 parts-table-0 parts-table-2
@@ -56,7 +57,7 @@ unfolding numbersFrom below keep every any leastBy member distinct sameNumbers
     absent distanceIn through of-distance.atFirst round rounds distances
     reached leadsInto shortestNextHops ready candidate candidatesInTurn holdsEachOnce firstIs othersInTurn accepted
     firstOr noLink padded contents held seen networkIn networkOf link twoCosts T-topology cutOff twoParts
-    rowStart destinationIn rankIn byRank orderIn inShortestPathMode
+    rowStart numberAt destinationIn rankIn byRank orderIn inShortestPathMode
     holds slope none one two T-table-0 T-table-free F-table slope-table-0 slope-table-2 formed
     cut-table-0 cut-table-free cut-table-3 parts-table-2
 formed-hold = tt

@@ -25,7 +25,7 @@ use Rattle.topology_types.specs.Outcome.{answer}
 use Rattle.topology_types.specs.Topology.{networkOf}
 use Rattle.topology_sound.specs.Sound.{sound}
 use Rattle.topology_sound.proofs.Sound.{sound-exact, sound-networks}
-use Rattle.table_rows.specs.Bytes.{rowStart}
+use Rattle.table_rows.specs.Layout.{rowStart, numberAt}
 use Rattle.table.specs.Listed.{destinationIn, rankIn, fallingRank, entriesIn, listed, orderIn}
 use Rattle.table.specs.Calls.{tableChecking}
 use Rattle.table.specs.Theorems.{GivenBy, TableFalls, AcceptedFall}
@@ -94,7 +94,7 @@ module _ (t : Topology) (good : T (sound t)) (table : List ℕ) (right : tableCh
 
   module _ (u : ℕ) (place : u < t .routers) where
     rank-held : List·Memᴰ u order → fallingRank (t .routers) table u ≡ rank order u
-    unfolding rankIn rowStart
+    unfolding rankIn rowStart numberAt
     rank-held m =
         omega (
           arith,
@@ -105,7 +105,7 @@ module _ (t : Topology) (good : T (sound t)) (table : List ℕ) (right : tableCh
         )
 
     rank-unheld : (List·Memᴰ u order → ⊥) → fallingRank (t .routers) table u ≡ pred (t .routers)
-    unfolding rankIn rowStart
+    unfolding rankIn rowStart numberAt
     rank-unheld out =
         omega (
           arith,
@@ -133,7 +133,7 @@ module _ (t : Topology) (good : T (sound t)) (table : List ℕ) (right : tableCh
       step (no past) = omega (arith, past-places (t .routers) table u past, routers-are)
 
   table-falls : TableFalls t table
-  unfolding destinationIn
+  unfolding destinationIn numberAt
   table-falls =
       let acc = in-mode (given .in-free) in
       record {

@@ -9,7 +9,7 @@ use borrow.Author.Tests.{ne-eqb, le-ltb}
 use lib.Dec.{T}
 use lib.ListN.{length, take}
 use lib.Seq.{drop-length}
-use Rattle.network.specs.Order.{free}
+use Rattle.network.specs.Order.{free, build}
 use Rattle.network.specs.Theorems.Order.{Accepted}
 use Rattle.topology_types.specs.declared.Topology.{Topology}
 use Rattle.topology_types.specs.Outcome.{answer, turnedAway, given}
@@ -23,10 +23,11 @@ use Rattle.order.specs.Theorems.{upToN}
 use Rattle.order.proofs.Orders.{part-is, checks}
 use Rattle.order.proofs.Verdicts.{checks-each}
 use Rattle.table_rows.specs.Bytes.{tableBytes}
-use Rattle.table.specs.Calls.{unlessRefused, filling}
-use Rattle.table.specs.Theorems.{FillsWell, FillRefuses, TableIs, GivenBy, limitSetTo, GivenIsFilled}
+use Rattle.table.specs.Calls.{unlessRefused, filling, builtTable}
+use Rattle.table.specs.Theorems.{BuiltGiven, FillsWell, FillRefuses, TableIs, GivenBy, limitSetTo, GivenIsFilled}
 use Rattle.table.proofs.Bytes.{bytes-exact}
 use Rattle.table.proofs.Verdicts.{table-long, tables-exact}
+use Rattle.table.proofs.Calling.{built-free}
 
 module _ (t : Topology) (d : ℕ) (order : List ℕ) where
   -- the bytes that filling writes for the reached routers in their order
@@ -47,6 +48,10 @@ module _ (t : Topology) (d : ℕ) (order : List ℕ) where
         in-free = a;
         bytes = stated s;
       }
+
+pub built-given : BuiltGiven
+unfolding builtTable
+built-given t s d place m = gives t d (build (networkOf t) d (modeOf m)) s place (built-free t s d place m)
 
 -- once checking the order's bytes answers 0, the table of its reached ranks is given
 goes-on : (t : Topology) (d : ℕ) (bytes : List ℕ) → checking t d mode.Free bytes ≡ answer 0 0 → (buffer : List ℕ) →

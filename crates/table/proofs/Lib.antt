@@ -1,3 +1,4 @@
+pub mod Fields
 pub mod Facts
 pub mod Bytes
 pub mod Ordered

@@ -9,9 +9,9 @@ use native.Mathlib.Decide.{decLt}
 use native.Mathlib.Omega.{arith}
 use borrow.Author.Tests.{eq-eqb, ne-eqb}
 use lib.Dec.{eqb}
-use lib.ListN.{length, getD, take, drop, length-map, length-drop, List·getD-eq-default}
-use lib.Seq.{length-take-le, getD-take, getD-drop, ext-getD, take-nil}
-use Rattle.network.specs.Lists.{Pairwise, nothing, then, keep, sort}
+use lib.ListN.{length, getD, length-map, List·getD-eq-default}
+use lib.Seq.{ext-getD, take-nil}
+use Rattle.network.specs.Lists.{Pairwise, nothing, then, numbersFrom, below, keep, sort}
 use Rattle.network.specs.Network.{Arc, Network, size, arcsOf, WellFormed}
 use Rattle.network.specs.Distance.{PathTo, distances}
 use Rattle.network.specs.Order.{free}
@@ -27,10 +27,10 @@ use Rattle.network.proofs.Falling.{orders-fall, rows-unreached}
 use Rattle.topology_types.specs.Topology.{networkOf}
 use Rattle.topology_sound.proofs.Sound.{sound-networks}
 use Rattle.topology.specs.Written.{joinedOver}
-use Rattle.table_rows.specs.Bytes.{rowStart}
-use Rattle.table.specs.Listed.{destinationIn, rankIn, placesIn, arcsTo, entriesIn, listed, forwardingBy, orderIn}
+use Rattle.table_rows.specs.Layout.{rowStart, numberAt}
+use Rattle.table.specs.Listed.{destinationIn, rankIn, entryCount, placesIn, arcsTo, entriesIn, listed, forwardingBy, orderIn}
 use Rattle.table.specs.Theorems.{TableIs, TablesList, RowsByPath, AcceptedList, TablesCarry}
-use Rattle.table.proofs.Bytes.{row-few}
+use Rattle.table.proofs.Fields.{fields-read}
 use Rattle.table.proofs.Accepting.{ranks-ordered}
 use Rattle.table.proofs.Verdicts.{start-of, accepted-given}
 
@@ -77,22 +77,16 @@ module _ (n : Network) (wf : WellFormed n) (d limit : ℕ) (few : limit ≤ 16) 
 
   -- the places that the row of u lists
   pub places-are : (u : ℕ) → u < size n → placesIn table u ≡ map place (entries u)
-  unfolding placesIn rowStart
   places-are u h =
       let r = is .rows u h in
-      let count = length (entries u) in
-      let listed = take count (drop (4 + 19 * u + 3) table) in
-      let long : length listed ≡ count =
-      length-take-le count _ (omega (arith, length-drop (4 + 19 * u + 3) table, is .long, row-few n d limit few order u)) in
-      rw (r .count)
-      (ext-getD 0 listed (map place (entries u)) (long ∙ sym (length-map (entries u) place))
-      (λ j l.
-      let here : j < count = omega arith in
-      getD-take count (drop (4 + 19 * u + 3) table) j 0 here ∙ getD-drop (4 + 19 * u + 3) table j 0 ∙ r .entry j here))
+      let f = fields-read table in
+      let long : length (placesIn table u) ≡ length (entries u) = f .entries u ∙ r .count in
+      ext-getD 0 (placesIn table u) (map place (entries u)) (long ∙ sym (length-map (entries u) place))
+      (λ j l. f .entry u j l ∙ r .entry j (omega (arith, long)))
 
   -- past N there are no bytes
   none-past : (u : ℕ) → size n ≤ u → placesIn table u ≡ []
-  unfolding placesIn rowStart
+  unfolding placesIn entryCount rowStart below numbersFrom
   none-past u past = rw (List·getD-eq-default table 0 {n = 4 + 19 * u + 2} (omega (arith, is .long)))
 
   entries-are : d < size n → (u : ℕ) → entriesIn n table u ≡ entries u
@@ -111,7 +105,7 @@ forwarding : ℕ → (ℕ → List Arc) → Forwarding
 forwarding d rows = forwardingBy (record { destination = d; rank = λ u. 0; entries = rows })
 
 pub tables-list : TablesList
-unfolding listed forwarding destinationIn rankIn rowStart
+unfolding listed forwarding destinationIn rankIn rowStart numberAt
 tables-list t good table d limit order g =
     let n = networkOf t in
     let s = sound-networks t good in

@@ -20,9 +20,10 @@ use Rattle.topology_types.specs.Outcome.{answer}
 use Rattle.topology_sound.specs.Sound.{sound}
 use Rattle.topology_sound.proofs.Sound.{sound-networks}
 use Rattle.order.specs.Calls.{refusedAtFirst}
-use Rattle.table_rows.specs.Bytes.{tableBytes, rowStart}
+use Rattle.table_rows.specs.Layout.{rowStart, numberAt}
+use Rattle.table_rows.specs.Bytes.{tableBytes}
 use Rattle.table.specs.Listed.{destinationIn, limitIn}
-use Rattle.table.specs.Calls.{wrongBytes, differing, tableJudging, tableChecking}
+use Rattle.table.specs.Calls.{wrongBytes, differing, tableJudging, tableChecking, rightBytes}
 use Rattle.table.specs.Theorems.{TableIs, GivenBy, SomeGive, SoundStart, WrongTableAt, by-length, by-start, by-byte}
 use Rattle.table.specs.Theorems.{TablesExact, OnlyOneGives, TableChecked, TablesEach, AcceptedGiven}
 use Rattle.table.proofs.Bytes.{bytes-exact}
@@ -55,7 +56,7 @@ module _ (t : Topology) (table : List ℕ) where
 
     module _ (order : List ℕ) (s : SoundStart t table order) where
       its-wrong : wrongBytes (networkOf t) (t .routers) table ≡ differing table (itsBytes order)
-      unfolding wrongBytes destinationIn limitIn
+      unfolding wrongBytes rightBytes destinationIn limitIn numberAt
       its-wrong = rw (its-order t is-sound table order s)
 
       its-long : length (itsBytes order) ≡ 4 + 19 * t .routers

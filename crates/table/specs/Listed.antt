@@ -1,10 +1,10 @@
 -- What a table lists, read from its bytes (01, Rows and tables): destination, and by place the rank and the entries, each with its arc.
 -- Assumes nothing.
-use Prim.Native.Nat.{ℕ, pred, min, _+_}
+use Prim.Native.Nat.{ℕ, pred, min, _+_, _*_}
 use mathlib.Core.Bool.{Bool, cond}
 use mathlib.Core.List.{List, map}
 use lib.Dec.{eqb, ltb}
-use lib.ListN.{getD, take, drop}
+use lib.ListN.{getD}
 use Rattle.network.specs.Lists.{below, keep}
 use Rattle.network.specs.Network.{Arc, Network, size, arcsOf}
 use Rattle.network.specs.Order.{shortest-path, accepted}
@@ -12,27 +12,37 @@ use Rattle.network.specs.Forwarding.{Forwarding}
 use Rattle.network.specs.Routing.{routersBy}
 use Rattle.topology_types.specs.Outcome.{firstOr}
 use Rattle.topology.specs.Written.{joinedOver}
-use Rattle.table_rows.specs.Bytes.{rowStart}
+use Rattle.table_rows.specs.declared.Layout.{Layout}
+use Rattle.table_rows.specs.Layout.{narrow, limitAt, countAt, frontLength, rowStart, numberAt}
+
+-- the layout of a table, by its kind: there is one, and a table of any other kind is refused
+abbrev pub layoutOf : List ℕ → Layout
+layoutOf table = narrow
 
 -- 01, Rows and tables: the header's kind, destination, router count and K
 unfoldable pub kindIn : List ℕ → ℕ
 kindIn table = getD table 0 0
 
 unfoldable pub destinationIn : List ℕ → ℕ
-destinationIn table = getD table 1 0
+destinationIn table = numberAt (layoutOf table .place) table 1
 
 unfoldable pub countIn : List ℕ → ℕ
-countIn table = getD table 2 0
+countIn table = numberAt (layoutOf table .rank) table (1 + layoutOf table .place)
 
 unfoldable pub limitIn : List ℕ → ℕ
-limitIn table = getD table 3 0
+limitIn table = getD table (limitAt (layoutOf table)) 0
 
--- 01, Rows and tables: the rank of the place u, and the places that its row lists, as many as the row's count says
+-- 01, Rows and tables: the rank of the place u, how many entries its row has, and the places that it lists, as many as that
 unfoldable pub rankIn : List ℕ → ℕ → ℕ
-rankIn table u = getD table (rowStart u + 1) 0
+rankIn table u = numberAt (layoutOf table .rank) table (rowStart (layoutOf table) u + 1)
+
+unfoldable pub entryCount : List ℕ → ℕ → ℕ
+entryCount table u = getD table (rowStart (layoutOf table) u + countAt (layoutOf table)) 0
 
 unfoldable pub placesIn : List ℕ → ℕ → List ℕ
-placesIn table u = take (getD table (rowStart u + 2) 0) (drop (rowStart u + 3) table)
+placesIn table u =
+    map (λ j. numberAt (layoutOf table .place) table (rowStart (layoutOf table) u + frontLength (layoutOf table) + layoutOf table .place * j))
+    (below (entryCount table u))
 
 -- 02, #107: the rank of u by which ranks fall along the rows, for every u. 255, no rank, counts as N - 1, which no router with a path has as its rank
 -- where another has none; past the places it is N.

@@ -1,14 +1,14 @@
 -- What is proved of tables as bytes: what filling writes, which tables are accepted, what each answer means, and what an accepted table lists.
 -- Assumes nothing.
-use Prim.Native.Nat.{ℕ, _+_, _*_, _≤_, _<_}
-use mathlib.Core.List.{List, List·Memᴰ, map}
+use Prim.Native.Nat.{ℕ, _+_, _*_, _/_, _%_, _≤_, _<_}
+use mathlib.Core.List.{List, List·Memᴰ, [], _∷_, map}
 use mathlib.Core.Logic.{_↔_, _≢_}
 use mathlib.Core.Path.{_≡_}
 use lib.Dec.{T}
 use lib.ListN.{length, getD, take, drop}
 use Rattle.network.specs.Network.{Arc, Network, size}
 use Rattle.network.specs.Distance.{PathTo, distances}
-use Rattle.network.specs.Order.{shortest-path, free}
+use Rattle.network.specs.Order.{shortest-path, free, build}
 use Rattle.network.specs.Row.{rank, row}
 use Rattle.network.specs.Routing.{routers}
 use Rattle.network.specs.Theorems.Order.{Accepted}
@@ -17,12 +17,46 @@ use Rattle.topology_types.specs.declared.Topology.{Topology}
 use Rattle.topology_types.specs.Outcome.{answer, turnedAway}
 use Rattle.topology_types.specs.Topology.{networkOf}
 use Rattle.topology_sound.specs.Sound.{sound}
+use Rattle.order_standings.specs.declared.Mode.{Mode}
 use Rattle.order_standings.specs.declared.Mode.the-variants as mode
-use Rattle.order.specs.Calls.{checking}
+use Rattle.order.specs.Calls.{modeOf, checking}
 use Rattle.order.specs.Theorems.{upToN}
+use Rattle.table_rows.specs.Layout.{narrow, tableLength, numberAt, spread}
 use Rattle.table_rows.specs.Bytes.{tableBytes}
-use Rattle.table.specs.Listed.{destinationIn, fallingRank, entriesIn, listed, forwardingBy, byRank, orderIn, inShortestPathMode}
-use Rattle.table.specs.Calls.{filling, tableChecking}
+use Rattle.table.specs.Listed.{layoutOf, kindIn, destinationIn, countIn, limitIn, rankIn, entryCount, placesIn}
+use Rattle.table.specs.Listed.{fallingRank, entriesIn, listed, forwardingBy, byRank, orderIn, inShortestPathMode}
+use Rattle.table.specs.Calls.{filling, tableChecking, builtTable}
+
+-- 01, Rows and tables: what is read of a table, byte by byte. A header has 4 bytes, kind, destination, router count and K; a row has 19, kind, rank, count and
+-- 16 places; so a table for N routers has 4 + 19N.
+pub record FieldsAre (table : List ℕ) : Type 0 where
+  pub layout : layoutOf table ≡ record { kind = 16; rows = 17; place = 1; rank = 1 }
+  pub kind : kindIn table ≡ getD table 0 0
+  pub destination : destinationIn table ≡ getD table 1 0
+  pub count : countIn table ≡ getD table 2 0
+  pub limit-is : limitIn table ≡ getD table 3 0
+  pub rank-is : (u : ℕ) → rankIn table u ≡ getD table (4 + 19 * u + 1) 0
+  pub count-is : (u : ℕ) → entryCount table u ≡ getD table (4 + 19 * u + 2) 0
+  pub entries : (u : ℕ) → length (placesIn table u) ≡ getD table (4 + 19 * u + 2) 0
+  pub entry : (u j : ℕ) → j < length (placesIn table u) → getD (placesIn table u) j 0 ≡ getD table (4 + 19 * u + 3 + j) 0
+  pub long : (routers : ℕ) → tableLength (layoutOf table) routers ≡ 4 + 19 * routers
+
+abbrev pub FieldsRead : Type 0
+FieldsRead = (table : List ℕ) → FieldsAre table
+
+-- 01, Rows and tables: of a table in this layout 4 + 19N bytes, whatever they are
+abbrev pub LengthRight : Type 0
+LengthRight = (routers : ℕ) → tableLength narrow routers ≡ 4 + 19 * routers
+
+-- 01, Topology stream: numbers are big-endian, in one byte or two
+pub record NumberAt (bytes : List ℕ) (at n : ℕ) : Type 0 where
+  pub one : numberAt 1 bytes at ≡ getD bytes at 0
+  pub two : numberAt 2 bytes at ≡ getD bytes at 0 * 256 + getD bytes (at + 1) 0
+  pub put-one : spread 1 n ≡ n ∷ []
+  pub put-two : spread 2 n ≡ n / 256 ∷ n % 256 ∷ []
+
+abbrev pub NumbersRight : Type 0
+NumbersRight = (bytes : List ℕ) (at n : ℕ) → NumberAt bytes at n
 
 -- 02, #107: the rank byte of the place u: its rank in the order, which holds the reached routers, and 255 where the order does not hold it
 pub record RankAt (order : List ℕ) (u byte : ℕ) : Type 0 where
@@ -72,6 +106,12 @@ abbrev pub FillsWell : Type 0
 FillsWell =
     (t : Topology) → T (sound t) → (d : ℕ) → d < t .routers → (order : List ℕ) → Accepted (networkOf t) d free order →
     (buffer : List ℕ) → 4 + 19 * t .routers ≤ length buffer → FilledWell t d order buffer
+
+-- The table for the order that is built in a mode is one that this order and the topology's K give.
+abbrev pub BuiltGiven : Type 0
+BuiltGiven =
+    (t : Topology) → T (sound t) → (d : ℕ) → d < t .routers → (m : Mode) →
+    GivenBy t (builtTable t d (modeOf m)) d (t .limit) (build (networkOf t) d (modeOf m))
 
 -- 01, Refusals, 14, 15, 17 to 20 and 24: what filling refuses, where it points, and that it leaves the buffer as it was. All but 24 are those of
 -- checking the order in free mode, which `order` spells out (`ChecksEach`); all else is `FillsWell`.

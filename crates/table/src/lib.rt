@@ -1,7 +1,7 @@
 // Tables (01, Rows and tables): filled for an order, and checked.
 use order::Mode;
-use table_rows::HEADER;
-use table_rows::ROW;
+use table_rows::NARROW;
+use table_rows::unchecked::layout;
 use topology_types::Answer;
 use topology_types::Place;
 use topology_types::Topology;
@@ -27,7 +27,7 @@ pub fn fill(t: Topology, destination: Place, order: &[u8], out: &mut [u8]) -> An
     if proposed.number != 0 {
         return proposed;
     }
-    let needed = HEADER + ROW * n;
+    let needed = layout::row_start(NARROW, n);
     if out.len() < needed {
         return Answer {
             number: 24,

@@ -1,7 +1,6 @@
-// Reading a table's bytes: its header, and where it differs from another.
-use table_rows::HEADER;
-use table_rows::ROW;
-use table_rows::TABLE;
+// A table's header, and where it differs from another.
+use super::unchecked::reading;
+use table_rows::Layout;
 use topology_types::NEXT_HOPS;
 ghost use mathlib.Core.Path.{_≡_};
 ghost use Prim.Native.Nat.{_≤_};
@@ -10,27 +9,27 @@ ghost use lib.ListN.{length};
 ghost use Rattle.network.specs.Lists.{below, every};
 ghost use Rattle.topology_types.specs.Outcome.{firstOr};
 ghost use Rattle.topology_types.specs.Limits.{mostRouters};
-ghost use Rattle.table_rows.specs.Bytes.{tableLength};
-ghost use Rattle.table.specs.Listed.{rankIn};
+ghost use Rattle.table_rows.specs.Layout.{headerLength, tableLength};
+ghost use Rattle.table.specs.Listed.{layoutOf, rankIn};
 ghost use Rattle.table.specs.Calls.{soundHeader, differing};
 
-// Whether the header is sound for n routers: kind 16, destination below n, count n, K from 1 to 16.
-pub(crate) fn header_is_sound(n: usize, table: &[u8]) -> bool
-    requires { ⌜ 4 ≤ length (now table) ⌝ }
+// Whether the header is sound for n routers: the layout's kind, destination below n, count n, K from 1 to 16.
+pub(crate) fn header_is_sound(n: usize, l: Layout, table: &[u8]) -> bool
+    requires { ⌜ (l ≡ layoutOf (now table)) × (headerLength l ≤ length (now table)) ⌝ }
     ensures { λ r. ⌜ r ≡ soundHeader n (now (table .entry)) ⌝ }
 {
-    if table[0] != 16 {
+    if table[0] != l.kind {
         return false;
     }
-    let destination = table[1] as usize;
+    let destination = reading::destination_in(l, table).0 as usize;
     if n <= destination {
         return false;
     }
-    let count = table[2] as usize;
+    let count = reading::count_in(l, table);
     if count != n {
         return false;
     }
-    let limit = table[3];
+    let limit = reading::limit_in(l, table);
     if limit < 1 {
         return false;
     }
@@ -40,22 +39,16 @@ pub(crate) fn header_is_sound(n: usize, table: &[u8]) -> bool
     true
 }
 
-// Room for the longest table. An array that comes out of a function is known by what the function ensures.
-pub(crate) fn room_for_table() -> [u8; TABLE]
-    ensures { λ r. ⌜ 1220 ≡ length r ⌝ }
-{
-    [0; TABLE]
-}
-
-// Whether two tables for n routers have the same rank bytes.
-pub(crate) fn ranks_agree(n: usize, table: &[u8], other: &[u8]) -> bool
-    requires { ⌜ (n ≤ mostRouters) × (tableLength n ≤ length (now table)) × (tableLength n ≤ length (now other)) ⌝ }
+// Whether two tables for n routers have the same ranks.
+pub(crate) fn ranks_agree(n: usize, l: Layout, table: &[u8], other: &[u8]) -> bool
+    requires { ⌜ (n ≤ mostRouters) × (l ≡ layoutOf (now table)) × (l ≡ layoutOf (now other)) × (tableLength (layoutOf (now table)) n ≤ length (now table)) × (tableLength (layoutOf (now other)) n ≤ length (now other)) ⌝ }
     ensures { λ r. ⌜ r ≡ every (λ u. eqb (rankIn (now (table .entry)) u) (rankIn (now (other .entry)) u)) (below n) ⌝ }
 {
     let mut u: usize = 0;
     while u < n {
-        let at = HEADER + ROW * u + 1;
-        if table[at] != other[at] {
+        let rank = reading::rank_in(l, table, u);
+        let right = reading::rank_in(l, other, u);
+        if rank.0 != right.0 {
             return false;
         }
         u += 1;

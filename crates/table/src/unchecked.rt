@@ -1,39 +1,41 @@
 // For callers that have tested the topology and laid out its arcs.
-use super::reading;
+pub mod reading;
+
+use super::reading as tests;
 use arcs::Arcs;
 use order::Mode;
-use table_rows::HEADER;
-use table_rows::ROW;
+use table_rows::NARROW;
+use table_rows::TABLE;
+use table_rows::unchecked::layout;
 use topology_types::Answer;
 use topology_types::Place;
 use topology_types::ROUTERS;
 use topology_types::Topology;
-ghost use mathlib.Core.List.{_++_};
 ghost use mathlib.Core.Path.{_≡_};
 ghost use Prim.Native.Nat.{_≤_, _<_};
 ghost use lib.Dec.{T};
-ghost use lib.ListN.{length, take, drop};
-ghost use Rattle.network.specs.Order as «said-order»;
+ghost use lib.ListN.{length, take};
 ghost use Rattle.topology_types.specs.Limits.{mostRouters};
 ghost use Rattle.topology_types.specs.Topology.{networkOf};
 ghost use Rattle.topology_sound.specs.Sound.{sound};
 ghost use Rattle.arcs.specs.Inner.{Laid};
 ghost use Rattle.order.specs.Calls.{modeOf};
-ghost use Rattle.table_rows.specs.Bytes.{tableBytes, tableLength};
-ghost use Rattle.table.specs.Listed.{byRank};
-ghost use Rattle.table.specs.Calls.{tableJudging};
+ghost use Rattle.table_rows.specs.Layout.{tableLength};
+ghost use Rattle.table.specs.Listed.{layoutOf, byRank};
+ghost use Rattle.table.specs.Calls.{tableJudging, builtTable};
 ghost use Rattle.table.specs.Inner.{Started, firstWrong};
 
 // The order that the ranks form, in the first n entries; 255 at a rank that no place has. The lowest place of a rank comes last, and stands.
 pub fn order_of(n: usize, table: &[u8]) -> [u8; ROUTERS]
-    requires { ⌜ (n ≤ mostRouters) × (length (now table) ≡ tableLength n) ⌝ }
+    requires { ⌜ (n ≤ mostRouters) × (length (now table) ≡ tableLength (layoutOf (now table)) n) ⌝ }
     ensures { λ r. ⌜ take n r ≡ byRank n (now (table .entry)) ⌝ }
 {
+    let l = reading::layout_of(table);
     let mut order = [255u8; ROUTERS];
     let mut u = n;
     while 0 < u {
         u -= 1;
-        let rank = table[HEADER + ROW * u + 1] as usize;
+        let rank = reading::rank_in(l, table, u).0 as usize;
         if rank < n {
             order[rank] = u as u8;
         }
@@ -54,15 +56,16 @@ fn first_wrong(
 {
     let n = t.routers;
     let length = table.len();
-    let destination = Place(table[1]);
-    let limit = table[3];
+    let l = reading::layout_of(table);
+    let destination = reading::destination_in(l, table);
+    let limit = reading::limit_in(l, table);
     let reached = order::unchecked::reached_count(&ds, n);
-    let mut room = reading::room_for_table();
+    let mut room = layout::room_for_table();
     table_rows::unchecked::fill(t, a, ds, destination, limit, &order[..reached], &mut room);
-    if !reading::ranks_agree(n, table, &room[..length]) {
+    if !tests::ranks_agree(n, l, table, &room[..length]) {
         return 0;
     }
-    reading::first_difference(table, &room[..length])
+    tests::first_difference(table, &room[..length])
 }
 
 // Whether a table is accepted: refusal 21.
@@ -72,16 +75,17 @@ pub fn check(t: Topology, a: Arcs, table: &[u8]) -> Answer
 {
     let n = t.routers;
     let length = table.len();
-    if length != HEADER + ROW * n {
+    let l = reading::layout_of(table);
+    if length != layout::row_start(l, n) {
         return Answer {
             number: 21,
             at: length,
         };
     }
-    if !reading::header_is_sound(n, table) {
+    if !tests::header_is_sound(n, l, table) {
         return Answer { number: 21, at: 0 };
     }
-    let destination = Place(table[1]);
+    let destination = reading::destination_in(l, table);
     let order = order_of(n, table);
     let ds = distances::unchecked::to(&a.count, &a.to, &a.back, n, destination);
     let proposed = order::unchecked::judge(t, a, ds, destination, Mode::Free, &order[..n]);
@@ -98,10 +102,16 @@ pub fn check(t: Topology, a: Arcs, table: &[u8]) -> Answer
     Answer { number: 0, at: 0 }
 }
 
-// The table of the destination for the order that is built in the mode and the topology's K, into the first bytes of the slice.
-pub fn build(t: Topology, a: Arcs, destination: Place, mode: Mode, out: &mut [u8])
-    requires { ⌜ T (sound t) × Laid t a × (destination .0 < t .routers) × (tableLength (t .routers) ≤ length (now out)) ⌝ }
-    ensures { λ _. ⌜ now (out .exit) ≡ tableBytes (networkOf t) (destination .0) (t .limit) («said-order».build (networkOf t) (destination .0) (modeOf mode)) ++ drop (tableLength (t .routers)) (now (out .entry)) ⌝ }
+// A table, in the first bytes of an array.
+pub struct Built {
+    pub bytes: [u8; TABLE],
+    pub length: usize,
+}
+
+// The table of the destination for the order that is built in the mode and the topology's K.
+pub fn build(t: Topology, a: Arcs, destination: Place, mode: Mode) -> Built
+    requires { ⌜ T (sound t) × Laid t a × (destination .0 < t .routers) ⌝ }
+    ensures { λ r. ⌜ (r .length ≤ length (r .bytes)) × (take (r .length) (r .bytes) ≡ builtTable t (destination .0) (modeOf mode)) ⌝ }
 {
     let n = t.routers;
     let ds = distances::unchecked::to(&a.count, &a.to, &a.back, n, destination);
@@ -119,5 +129,16 @@ pub fn build(t: Topology, a: Arcs, destination: Place, mode: Mode, out: &mut [u8
         &mut order,
     );
     let reached = order::unchecked::reached_count(&ds, n);
-    table_rows::unchecked::fill(t, a, ds, destination, t.limit, &order[..reached], out);
+    let mut bytes = layout::room_for_table();
+    table_rows::unchecked::fill(
+        t,
+        a,
+        ds,
+        destination,
+        t.limit,
+        &order[..reached],
+        &mut bytes,
+    );
+    let length = layout::row_start(NARROW, n);
+    Built { bytes, length }
 }

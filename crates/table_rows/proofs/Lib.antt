@@ -1,3 +1,4 @@
+pub mod Layouts
 pub mod Carrying
 pub mod SlotKeys
 pub mod Padding

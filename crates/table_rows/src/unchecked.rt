@@ -1,7 +1,8 @@
 // For callers that have tested the topology, the destination and the order, and have laid out the arcs and the distances.
+pub mod layout;
+
 use super::ENTRIES;
-use super::HEADER;
-use super::ROW;
+use super::NARROW;
 use super::sorting;
 use super::writing;
 use arcs::Arcs;
@@ -13,7 +14,8 @@ ghost use mathlib.Core.Path.{_≡_};
 ghost use Prim.Native.Nat.{_≤_};
 ghost use lib.ListN.{length, drop};
 ghost use Rattle.topology_types.specs.Topology.{networkOf};
-ghost use Rattle.table_rows.specs.Bytes.{tableBytes, tableLength};
+ghost use Rattle.table_rows.specs.Layout.{narrow, tableLength};
+ghost use Rattle.table_rows.specs.Bytes.{tableBytes};
 ghost use Rattle.table_rows.specs.Inner.{Fillable};
 
 // The table for the destination, the next-hop limit and an order, into the first bytes of the slice. The order is the ranked places alone, without the 255s
@@ -27,14 +29,14 @@ pub fn fill(
     order: &[u8],
     out: &mut [u8],
 )
-    requires { ⌜ Fillable t a ds (destination .0) limit (now order) × (tableLength (t .routers) ≤ length (now out)) ⌝ }
-    ensures { λ _. ⌜ now (out .exit) ≡ tableBytes (networkOf t) (destination .0) limit (now (order .entry)) ++ drop (tableLength (t .routers)) (now (out .entry)) ⌝ }
+    requires { ⌜ Fillable t a ds (destination .0) limit (now order) × (tableLength narrow (t .routers) ≤ length (now out)) ⌝ }
+    ensures { λ _. ⌜ now (out .exit) ≡ tableBytes (networkOf t) (destination .0) limit (now (order .entry)) ++ drop (tableLength narrow (t .routers)) (now (out .entry)) ⌝ }
 {
     let n = t.routers;
     let most = limit as usize;
     let ranks = order::unchecked::ranks_of(order);
     let weights = sorting::weights_of(&t.id, &ds, n);
-    writing::put_header(out, destination, n as u8, limit);
+    writing::put_header(out, NARROW, destination, n as u8, limit);
     let mut keys = [0u64; ENTRIES];
     let mut u: usize = 0;
     while u < n {
@@ -42,7 +44,14 @@ pub fn fill(
         let found = sorting::sort_keys(&mut keys, &a.to, &a.cost, &weights, ranks, u, arcs);
         let count = if found < most { found } else { most };
         let rank = ranks.by[u];
-        writing::put_row(out, HEADER + ROW * u, rank, &keys, count);
+        writing::put_row(
+            out,
+            layout::row_start(NARROW, u),
+            NARROW,
+            rank,
+            &keys,
+            count,
+        );
         u += 1;
     }
 }

@@ -6,10 +6,9 @@ use native.Mathlib.Omega.{arith}
 use borrow.Author.Needs.{needs}
 use borrow.Author.Tests.{not-false}
 use lib.Dec.{T}
-use lib.ListN.{length}
+use lib.ListN.{length, length-map}
 use Rattle.topology_sound.specs.Sound.{sound}
 use Rattle.topology_sound.proofs.Sound.{sound-exact}
-use Rattle.table_rows.specs.Bytes.{rowStart}
 use Rattle.bench_timing.proofs.all_tables.Statement.{statement}
 use Rattle.bench_timing.proofs.all_tables.Tie as tie
 
@@ -26,26 +25,20 @@ passed c = rw (sym (c .before .is-sound .ensures) ∙ not-false _ (c .if1 .left)
 of-requires : tie.Need-of-requires Inv-loop μ-loop
 of-requires c κs = passed c
 
-cast-t13 : tie.Need-cast-t13 Inv-loop μ-loop
-cast-t13 c = omega (arith, sound-exact _ .0 (passed (c .before .before .before .before .before)) .routers-most)
+cast-t12 : tie.Need-cast-t12 Inv-loop μ-loop
+cast-t12 c = omega (arith, sound-exact _ .0 (passed (c .before .before .before .before)) .routers-most)
 
 build-requires : tie.Need-build-requires Inv-loop μ-loop
-unfolding rowStart
 build-requires c κs =
-    let s = passed (c .before .before .before .before .before .before) in (
-      s,
-      c .before .before .before .before .before .of .ensures,
-      c .before .before .if2 .taken,
-      omega (arith, c .before .room .ensures, sound-exact _ .0 s .routers-most),
-    )
+    (passed (c .before .before .before .before), c .before .before .before .of .ensures, c .if2 .taken)
 
--- the room is as long as it was
-long : (c : tie.After-build Inv-loop μ-loop) → length (c .build .last .1 .1 .1 .1 .0) ≡ 1220
-long c = c .build .kept .1 .1 .1 .1 .0 ∙ sym (c .before .before .room .ensures)
+-- how long the array is, as owning it tells
+long : (c : tie.After-build Inv-loop μ-loop) → length (c .build .result .bytes) ≡ 1220
+long c = rw length-map at (c .build .ok .1 .1 .0 .1 .0 .1)
 
 with-bytes-requires : tie.Need-with-bytes-requires Inv-loop μ-loop
 with-bytes-requires c κs =
-    (c .before .before .before .before .before .before .before .loop .inv .1, omega (arith, long (c .before .before)), omega arith, omega arith)
+    let b : tie.After-build Inv-loop μ-loop = c .before .before in (b .before .before .before .loop .inv .1, omega (arith, long b), omega arith, omega arith)
 
 pub all-tables-spec : {M : Type 1} → statement M
 all-tables-spec =
@@ -57,9 +50,7 @@ all-tables-spec =
     (λ c. search needs)
     of-requires
     (λ c. search needs)
-    (λ c κs. search needs)
-    cast-t13
-    (λ c. c .before .room .ensures)
+    cast-t12
     build-requires
     (λ c. sym (long (c .before .before)))
     with-bytes-requires

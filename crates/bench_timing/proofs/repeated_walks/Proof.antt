@@ -1,4 +1,4 @@
--- `bench_timing::repeated_walks` meets its contract. The turns are counted; the table is a part of its room, and the schedule of its own.
+-- `bench_timing::repeated_walks` meets its contract. The turns are counted; the table stands in what was built, and the schedule in its room.
 -- Assumes nothing.
 use Prim.Native.Nat.{_≤_, _<_, _-_}
 use mathlib.Core.Logic.{⊎-elim}
@@ -24,51 +24,47 @@ abbrev μ-loop : tie.MeasureT-loop
 passed : (c : tie.Else1 Inv-loop μ-loop) → T (sound (c .before .before .args .t))
 passed c = rw (sym (c .before .is-sound .ensures) ∙ not-false _ (c .if1 .left)) tt
 
-put-table-requires : tie.Need-put-table-requires Inv-loop μ-loop
-put-table-requires c κs = (passed (c .before .before), c .before .room .ensures)
-
--- the room is as long as it was
-long : (c : tie.After-put-table Inv-loop μ-loop) → length (c .put-table .last .1 .0) ≡ 1220
-long c = c .put-table .kept .1 .0 ∙ sym (c .before .before .room .ensures)
-
-mul-length : tie.Need-mul-length Inv-loop μ-loop
-mul-length c = omega (arith, sound-exact _ .0 (passed (c .before .before .before .before .before)) .routers-most)
-
-add-length : tie.Need-add-length Inv-loop μ-loop
-add-length c = omega (arith, sound-exact _ .0 (passed (c .before .before .before .before .before)) .routers-most)
+first-table-requires : tie.Need-first-table-requires Inv-loop μ-loop
+first-table-requires c κs = passed c
 
 sub-most : tie.Need-sub-most Inv-loop μ-loop
-sub-most c = omega (arith, sound-exact _ .0 (passed (c .before .before .before .before .before .before)) .routers-least)
+sub-most c = omega (arith, sound-exact _ .0 (passed (c .before .before .before)) .routers-least)
 
 mul-rows : tie.Need-mul-rows Inv-loop μ-loop
-mul-rows c = omega (arith, sound-exact _ .0 (passed (c .before .before .before .before .before .before .before)) .routers-most)
+mul-rows c = omega (arith, sound-exact _ .0 (passed (c .before .before .before .before)) .routers-most)
 
 -- ten times 63 rows at most
 few : (c : tie.Joined2 Inv-loop μ-loop) → c .if2 .rows ≤ 630
 few c =
-    let most = sound-exact _ .0 (passed (c .before .before .before .before .before .before .before)) .routers-most in
+    let most = sound-exact _ .0 (passed (c .before .before .before .before)) .routers-most in
     ⊎-elim (λ w. omega (arith, most)) (λ w. omega (arith, most)) (c .if2 .came)
 
 put-schedule-requires : tie.Need-put-schedule-requires Inv-loop μ-loop
 put-schedule-requires c κs =
-    (few (c .before .before), sound-exact _ .0 (passed (c .before .before .before .before .before .before .before .before .before)) .links-most, c .before .room-for-schedule .ensures)
+    let rows : tie.Joined2 Inv-loop μ-loop = c .before .before in
+    (few rows, sound-exact _ .0 (passed (rows .before .before .before .before)) .links-most, c .before .room-for-schedule .ensures)
 
 -- the schedule's room is as long as it was
 long-schedule : (c : tie.After-put-schedule Inv-loop μ-loop) → length (c .put-schedule .last .1 .1 .0) ≡ 161280
 long-schedule c = c .put-schedule .kept .1 .1 .0 ∙ sym (c .before .before .room-for-schedule .ensures)
 
+-- from a turn back to the schedule, and to the table
+abbrev scheduled : tie.In-loop Inv-loop μ-loop → tie.After-put-schedule Inv-loop μ-loop
+scheduled c = c .before .before .before
+
+abbrev built : tie.In-loop Inv-loop μ-loop → tie.After-first-table Inv-loop μ-loop
+built c = scheduled c .before .before .before .before .before .before
+
 array-share-prefix-bytes : tie.Need-array-share-prefix-bytes Inv-loop μ-loop
-array-share-prefix-bytes c =
-    let put = c .before .before .before .before .before .before .before .before .before .before in
-    omega (arith, long put, sound-exact _ .0 (passed (put .before .before .before)) .routers-most)
+array-share-prefix-bytes c = built c .first-table .ensures
 
 array-share-prefix-schedule : tie.Need-array-share-prefix-schedule Inv-loop μ-loop
-array-share-prefix-schedule c =
-    let put = c .before .before .before .before in omega (arith, long-schedule put, put .put-schedule .ensures)
+array-share-prefix-schedule c = let put = scheduled (c .before) in omega (arith, long-schedule put, put .put-schedule .ensures)
 
 all-walks-requires : tie.Need-all-walks-requires Inv-loop μ-loop
 all-walks-requires c κs =
-    (sound-exact _ .0 (passed (c .before .before .before .before .before .before .before .before .before .before .before .before .before .before .before)) .routers-most, c .before .before .before .loop .inv .1)
+    let turn : tie.In-loop Inv-loop μ-loop = c .before .before in
+    (sound-exact _ .0 (passed (built turn .before)) .routers-most, turn .before .loop .inv .1)
 
 pub repeated-walks-spec : {M : Type 1} → statement M
 repeated-walks-spec =
@@ -78,11 +74,7 @@ repeated-walks-spec =
     μ-loop
     (λ c κs. search needs)
     (λ c. search needs)
-    (λ c κs. search needs)
-    (λ c. c .before .room .ensures)
-    put-table-requires
-    mul-length
-    add-length
+    first-table-requires
     sub-most
     mul-rows
     (λ c κs. search needs)

@@ -14,7 +14,7 @@ use Rattle.stream_rules.specs.Reading.{reading}
 use Rattle.order_standings.specs.declared.Mode.{Mode}
 use Rattle.order.specs.Calls.{building}
 use Rattle.order.specs.Facts.{answers}
-use Rattle.table_rows.specs.Bytes.{tableLength}
+use Rattle.table_rows.specs.Layout.{narrow, tableLength}
 use Rattle.table.specs.Listed.{placesIn}
 use Rattle.table.specs.Calls.{filling}
 use Rattle.table.specs.Facts.{room}
@@ -63,7 +63,7 @@ endsSo (dropped station hops) (refused number at) = false
 
 -- on from the topology, by filling the table for an order
 unfoldable pub byTable : Topology → ℕ → List ℕ → (List ℕ → Bool) → Bool
-byTable t d order next = wrote (filling t d order (room (tableLength (t .routers)))) next
+byTable t d order next = wrote (filling t d order (room (tableLength narrow (t .routers)))) next
 
 -- on from the order that was built
 unfoldable pub byOrder : Topology → ℕ → Expected → List ℕ → Bool

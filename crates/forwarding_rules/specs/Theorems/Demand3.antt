@@ -73,6 +73,8 @@ module _ (s : System) where
 
   -- What one call does to the packet, and to where it was last set: it leaves the packet that the call's contract says, and a refused one changes nothing.
   pub record CallRule (p : Packet State) (last : ℕ) : Type 0 where
+    pub set-answers : (u : ℕ) → s .setting-lent u p .answer ≡ s .setting u
+    pub hop-answers : (x : States) → s .hopping-lent x p .answer ≡ s .hopping x p
     pub set-leaves : (u : ℕ) → afterOne s (set-at u) p ≡ s .setting-lent u p .packet
     pub hop-leaves : (x : States) → afterOne s (hop-under x) p ≡ s .hopping-lent x p .packet
     pub sets : (u : ℕ) (q : Packet State) → s .setting u ≡ done q → (afterOne s (set-at u) p ≡ q) × (setAfter s (set-at u) last ≡ u)
@@ -113,6 +115,7 @@ module _ (s : System) where
     pub ends : (u : ℕ) → u < s .places → (run : s .Run) → s .sound-run run → WalkEnds u run
     pub by-hops : (u : ℕ) (run : s .Run) (w : Walk State) → s .walking u run ≡ done w →
         (cost : ℕ) × ByHops run (record { station = s .standing u; hops = 0 }) w cost
+    pub rowless-none : (st : State) (x : States) → s .rowless st → s .none-up x st
     pub calls : CallsBounded
     pub each-call : (p : Packet State) (last : ℕ) → CallRule p last
     pub in-turn : (p : Packet State) (last : ℕ) → InTurn p last

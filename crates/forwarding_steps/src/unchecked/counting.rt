@@ -1,7 +1,5 @@
 // The greatest hop counts, from the lowest rank up.
-use table_rows::FRONT;
-use table_rows::HEADER;
-use table_rows::ROW;
+use table::unchecked::reading;
 use topology_types::Place;
 use topology_types::ROUTERS;
 use topology_types::Rank;
@@ -14,27 +12,24 @@ ghost use lib.ListN.{length, drop};
 ghost use Rattle.network.specs.Lists.{below, greatestBy};
 ghost use Rattle.topology_types.specs.Limits.{mostRouters};
 ghost use Rattle.topology_sound.specs.Sound.{sound};
-ghost use Rattle.table.specs.Listed.{placesIn};
 ghost use Rattle.table.specs.Calls.{tableChecking};
-ghost use Rattle.forwarding_steps.specs.Inner.{RowOf, boundOf, Bounded, FiguresIn};
+ghost use Rattle.forwarding_steps.specs.Inner.{boundOf, Bounded, FiguresIn};
 
 // The greatest hop count of every place, as far as it is known: a hop bound is a rank, 255 where a place has none (02, #107).
 pub struct Bounds {
     pub by: [Rank; ROUTERS],
 }
 
-// One more than the greatest of the entries of a station's row, 0 if there is none.
-fn greatest_of(table: &[u8], bounds: Bounds, station: Place) -> Rank
-    requires { ⌜ RowOf (now table) (station .0) × Bounded (now table) (station .0) (bounds .by) ⌝ }
-    ensures { λ r. ⌜ r .0 ≡ greatestBy (λ v. suc (boundOf (bounds .by) v)) (placesIn (now (table .entry)) (station .0)) ⌝ }
+// One more than the greatest of the entries of a row, 0 if there is none.
+fn greatest_of(row: &[u8], bounds: Bounds) -> Rank
+    requires { ⌜ Bounded (now row) (bounds .by) ⌝ }
+    ensures { λ r. ⌜ r .0 ≡ greatestBy (λ v. suc (boundOf (bounds .by) v)) (now (row .entry)) ⌝ }
 {
-    let u = station.0 as usize;
-    let row = HEADER + ROW * u;
     let mut best = Rank(0);
-    let mut i = table[row + 2] as usize;
+    let mut i = row.len();
     while 0 < i {
         i -= 1;
-        let entry = Place(table[row + FRONT + i]);
+        let entry = Place(row[i]);
         let v = entry.0 as usize;
         let bound = bounds.by[v];
         let longer = Rank(bound.0 + 1);
@@ -51,6 +46,7 @@ pub fn bounds_of(t: Topology, table: &[u8]) -> Bounds
     requires { ⌜ T (sound t) × (tableChecking t (now table) ≡ record { number = 0; at = 0 }) ⌝ }
     ensures { λ r. ⌜ FiguresIn t (now (table .entry)) r ⌝ }
 {
+    let l = reading::layout_of(table);
     let order = table::unchecked::order_of(t.routers, table);
     let mut by = [Rank(255); ROUTERS];
     let mut rank: usize = 0;
@@ -60,7 +56,7 @@ pub fn bounds_of(t: Topology, table: &[u8]) -> Bounds
         if u == 255 {
             return Bounds { by: by };
         }
-        by[u] = greatest_of(table, Bounds { by: by }, place);
+        by[u] = greatest_of(reading::row_in(l, table, u), Bounds { by: by });
         rank += 1;
     }
     Bounds { by: by }

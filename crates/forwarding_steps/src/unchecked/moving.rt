@@ -4,9 +4,7 @@ use arcs::SLOTS;
 use forwarding_rules::Hopped;
 use forwarding_rules::Packet;
 use forwarding_rules::Walked;
-use table_rows::FRONT;
-use table_rows::HEADER;
-use table_rows::ROW;
+use table::unchecked::reading;
 use topology_types::NEIGHBOURS;
 use topology_types::Place;
 use topology_types::Topology;
@@ -15,10 +13,9 @@ ghost use Prim.Native.Nat.{_<_};
 ghost use lib.ListN.{length};
 ghost use Rattle.network.specs.Lists.{below, any};
 ghost use Rattle.network.specs.Forwarding as network;
-ghost use Rattle.table.specs.Listed.{placesIn};
 ghost use Rattle.forwarding_rules.specs.Schedule.{rowsIn};
 ghost use Rattle.forwarding_rules.specs.Calls.{done, by, packetIn, hopSays, walkSays};
-ghost use Rattle.forwarding_steps.specs.Inner.{LinkSlots, RowOf, slotUp, firstUp, nextPlace, Checked, Scheduled};
+ghost use Rattle.forwarding_steps.specs.Inner.{LinkSlots, slotUp, firstUp, nextPlace, Checked, Scheduled};
 
 // Where a packet goes next, if anywhere.
 pub(crate) enum Next {
@@ -54,22 +51,20 @@ fn is_up<'a, 'b>(
 
 // The first entry of a station's row whose link is up.
 pub(crate) fn next_of<'a, 'b, 'c>(
-    table: &'a [u8],
+    row: &'a [u8],
     to: &'b [u8; SLOTS],
     link: &'b [u8; SLOTS],
     states: &'c [u8],
     station: Place,
     count: usize,
 ) -> Next
-    requires { ⌜ LinkSlots (now link) (length (now states)) (station .0) count × RowOf (now table) (station .0) ⌝ }
-    ensures { λ r. ⌜ nextPlace r ≡ firstUp (now (to .entry)) (now (link .entry)) (now (states .entry)) (station .0) count (placesIn (now (table .entry)) (station .0)) ⌝ }
+    requires { ⌜ LinkSlots (now link) (length (now states)) (station .0) count ⌝ }
+    ensures { λ r. ⌜ nextPlace r ≡ firstUp (now (to .entry)) (now (link .entry)) (now (states .entry)) (station .0) count (now (row .entry)) ⌝ }
 {
     let u = station.0 as usize;
-    let row = HEADER + ROW * u;
-    let entries = table[row + 2] as usize;
     let mut i: usize = 0;
-    while i < entries {
-        let entry = Place(table[row + FRONT + i]);
+    while i < row.len() {
+        let entry = Place(row[i]);
         if is_up(to, link, states, u, count, entry) {
             return Next::To(entry);
         }
@@ -83,13 +78,16 @@ pub fn hop_by(t: Topology, a: Arcs, table: &[u8], states: &[u8], packet: Packet)
     requires { ⌜ Checked t a (now table) × (packet .station .0 < t .routers) × (packet .hops < t .routers) × (length (now states) ≡ t .links) ⌝ }
     ensures { λ r. ⌜ hopSays r ≡ done (network.hop (by t (now (table .entry))) (now (states .entry)) (packetIn packet)) ⌝ }
 {
+    let l = reading::layout_of(table);
     let station = packet.station;
-    if station.0 == table[1] {
+    let home = reading::destination_in(l, table);
+    if station.0 == home.0 {
         return Hopped::Delivered;
     }
     let u = station.0 as usize;
+    let row = reading::row_in(l, table, u);
     let count = a.count[u] as usize;
-    let Next::To(place) = next_of(table, &a.to, &a.link, states, station, count) else {
+    let Next::To(place) = next_of(row, &a.to, &a.link, states, station, count) else {
         return Hopped::Dropped;
     };
     Hopped::Moved(Packet {
@@ -104,15 +102,17 @@ pub fn walk_by(t: Topology, a: Arcs, table: &[u8], start: Place, schedule: &[u8]
     ensures { λ r. ⌜ walkSays r
         ≡ done (network.walk (by t (now (table .entry))) (rowsIn (t .routers) (t .links) (now (schedule .entry))) (network.start (start .0))) ⌝ }
 {
-    let home = Place(table[1]);
+    let l = reading::layout_of(table);
+    let home = reading::destination_in(l, table);
     let mut station = start;
     let mut hops: u8 = 0;
     let mut at: usize = 0;
     while station.0 != home.0 {
         let end = at + t.links;
         let u = station.0 as usize;
+        let row = reading::row_in(l, table, u);
         let count = a.count[u] as usize;
-        let Next::To(place) = next_of(table, &a.to, &a.link, &schedule[at..end], station, count)
+        let Next::To(place) = next_of(row, &a.to, &a.link, &schedule[at..end], station, count)
         else {
             return Walked::Dropped(Packet {
                 station: station,

@@ -1,16 +1,14 @@
 -- The first bytes are the destination's table, in every turn of the loop, and the lines of a start fit.
 -- Assumes nothing.
-use Prim.Native.Nat.{_+_, _*_, _-_, _≤_}
-use mathlib.Core.Path.{_≡_, refl, sym, ap, _∙_}
+use Prim.Native.Nat.{_-_, _≤_}
+use mathlib.Core.Path.{_≡_, refl, sym, _∙_}
 use native.Mathlib.Omega.{arith}
 use lib.ListN.{length, take}
-use lib.Seq.{take-at, length-take-le}
+use lib.Seq.{length-take-le}
 use Rattle.topology_sound.proofs.Sound.{sound-exact}
 use Rattle.order.specs.Calls.{modeOf}
-use Rattle.table_rows.specs.Bytes.{rowStart}
 use Rattle.listing_rules.specs.Listing.{tableFor}
 use Rattle.listing_rules.proofs.InTurn.{put-length}
-use Rattle.listing_rules.proofs.Tables.{long}
 use Rattle.paths_lines.specs.Inner.{Toward}
 use Rattle.paths_lines.proofs.From.{lines-length}
 use borrow.Author.Needs.{needs}
@@ -18,34 +16,25 @@ use Rattle.routes.proofs.write_to.Statement.{statement}
 use Rattle.routes.proofs.write_to.Tie as tie
 
 abbrev Inv-loop : tie.InvT-loop
-Inv-loop t destination out₀ size table u₀ out u = (u ≤ t .routers) × (length out ≡ length out₀)
+Inv-loop t destination out₀ table size u₀ out u = (u ≤ t .routers) × (length out ≡ length out₀)
 
 abbrev μ-loop : tie.MeasureT-loop
-μ-loop t destination out₀ size table u₀ out u = t .routers - u
+μ-loop t destination out₀ table size u₀ out u = t .routers - u
 
 build-requires : tie.Need-build-requires Inv-loop μ-loop
-unfolding rowStart
-build-requires c κs =
-    let pre = c .before .before .before .before .pre in
-    (pre .0, pre .1, pre .2, omega (arith, sound-exact _ .0 (pre .0) .routers-most, c .before .room .ensures))
+build-requires c κs = let pre = c .before .pre in (pre .0, pre .1, pre .2)
 
 -- the table that was built
 module _ (c : tie.After-build Inv-loop μ-loop) where
   abbrev start : tie.Start Inv-loop μ-loop
-  start = c .before .before .before .before .before
+  start = c .before .before
 
   most : start .args .t .routers ≤ 64
   most = sound-exact _ .0 (start .pre .0) .routers-most
 
-  size : length (tableFor (start .args .t) (start .args .destination .0)) ≡ 4 + 19 * start .args .t .routers
-  size = long (start .args .t) (start .pre .0) _ (start .pre .2)
-
-  all : length (c .build .last .1 .1 .1 .1 .0) ≡ 1220
-  all = c .build .kept .1 .1 .1 .1 .0 ∙ sym (c .before .before .room .ensures)
-
-  front : take (4 + 19 * start .args .t .routers) (c .build .last .1 .1 .1 .1 .0) ≡ tableFor (start .args .t) (start .args .destination .0)
+  front : take (c .build .result .length) (c .build .result .bytes) ≡ tableFor (start .args .t) (start .args .destination .0)
   unfolding tableFor modeOf
-  front = ap (take (4 + 19 * start .args .t .routers)) (c .build .ensures) ∙ take-at _ _ _ size
+  front = c .build .ensures .1
 
 -- the start of a turn
 module _ (c : tie.Then1 Inv-loop μ-loop) where
@@ -53,16 +42,16 @@ module _ (c : tie.Then1 Inv-loop μ-loop) where
   built = c .before .before .before .before
 
   toward : let s = start built .args in
-      Toward (s .t) (take (4 + 19 * s .t .routers) (built .build .last .1 .1 .1 .1 .0)) (s .destination .0) (c .before .before .loop .u)
+      Toward (s .t) (take (built .build .result .length) (built .build .result .bytes)) (s .destination .0) (c .before .before .loop .u)
   toward =
       let pre = start built .pre in
       record { good = pre .0; destination = pre .2; start = c .if1 .taken; listed = front built }
 
 array-share-prefix-table : tie.Need-array-share-prefix-table Inv-loop μ-loop
-array-share-prefix-table c = omega (arith, all (built c), most (built c))
+array-share-prefix-table c = omega (arith, built c .build .ensures .0)
 
 slice-aggregate-put-lines : tie.Need-slice-aggregate-put-lines Inv-loop μ-loop
-slice-aggregate-put-lines c = let b = built (c .before) in sym (ap length (front b) ∙ size b)
+slice-aggregate-put-lines c = sym (length-take-le _ _ (built (c .before) .build .ensures .0))
 
 put-lines-requires : tie.Need-put-lines-requires Inv-loop μ-loop
 put-lines-requires c κs =
@@ -94,10 +83,6 @@ write-to-spec =
     (tie.spec
     Inv-loop
     μ-loop
-    (λ c. omega (arith, sound-exact _ .0 (c .before .before .pre .0) .routers-most))
-    (λ c. omega (arith, sound-exact _ .0 (c .before .before .pre .0) .routers-most))
-    (λ c κs. search needs)
-    (λ c. search needs)
     build-requires
     (λ c. (omega arith, refl))
     array-share-prefix-table

@@ -21,8 +21,10 @@ use Rattle.order.specs.Inner.{Measured}
 use Rattle.order.proofs.Turn.{counts-reached}
 use Rattle.order.proofs.Decided.{judged}
 use Rattle.distances.proofs.Slots.{laid-out}
-use Rattle.table_rows.specs.Bytes.{tableBytes, rowStart}
+use Rattle.table_rows.specs.Layout.{rowStart}
+use Rattle.table_rows.specs.Bytes.{tableBytes}
 use Rattle.table_rows.specs.Inner.{Fillable}
+use Rattle.table_rows.proofs.Layouts.{readable}
 use Rattle.table.specs.Calls.{unlessRefused, filling}
 use Rattle.table.proofs.Bytes.{bytes-exact}
 use Rattle.table.proofs.Calling.{let-through, in-free, free-long, fillable}
@@ -108,22 +110,30 @@ module _ (c : tie.Else2) where
       let s = passed (arcs c .before) .0 in
       table-long (a .t) s (bytes-exact (networkOf (a .t)) (a .destination .0) (a .t .limit) (sound-exact (a .t) .0 s .limit-most) _ _ .0 refl)
 
+-- what is needed is how long the table is
+needed : (c : tie.After-row-start) → c .row-start .result ≡ 4 + 19 * args (arcs (c .before) .before) .args .t .routers
+unfolding rowStart
+needed c = c .row-start .ensures
+
 returns-3 : tie.Need-returns-3
 unfolding filling unlessRefused given turnedAway
-returns-3 c = rw (whole (c .before), long (c .before), lt-ltb _ _ (c .if3 .taken))
+returns-3 c = rw (whole (c .before .before), long (c .before .before), ← needed (c .before), lt-ltb _ _ (c .if3 .taken))
 
 -- from the count of the reached ranks back to the last test
 abbrev tested : tie.After-reached-count → tie.Else3
 tested c = c .before .before
 
-reach : (c : tie.After-reached-count) → let a = args (arcs (tested c .before) .before) .args in
-    c .reached-count .result ≡ reachedCount (networkOf (a .t)) (a .destination .0)
-reach c = c .reached-count .ensures ∙ counts-reached (measured (tested c .before .before .before .before))
+abbrev judgedWell : tie.After-reached-count → tie.Else2
+judgedWell c = tested c .before .before
 
-part-long : (c : tie.After-reached-count) → let a = args (arcs (tested c .before) .before) .args in
+reach : (c : tie.After-reached-count) → let a = args (arcs (judgedWell c) .before) .args in
+    c .reached-count .result ≡ reachedCount (networkOf (a .t)) (a .destination .0)
+reach c = c .reached-count .ensures ∙ counts-reached (measured (judgedWell c .before .before .before))
+
+part-long : (c : tie.After-reached-count) → let a = args (arcs (judgedWell c) .before) .args in
     length (take (c .reached-count .result) (now (a .order))) ≡ c .reached-count .result
 part-long c =
-    let e = tested c .before in
+    let e = judgedWell c in
     let o = arcs e in
     let order = now (args (o .before) .args .order) in
     ap (λ (k : ℕ). length (take k order)) (reach c) ∙ free-long _ (passed (o .before) .0) _ (passed (o .before) .1) (part-free e) ∙ sym (reach c)
@@ -132,7 +142,7 @@ fill-requires : tie.Need-fill-requires
 unfolding rowStart
 fill-requires c κs =
     let r = c .before .before in
-    let e = tested r .before in
+    let e = judgedWell r in
     let o = arcs e in
     let (s, place) = passed (o .before) in (
       subst
@@ -142,7 +152,7 @@ fill-requires c κs =
           (take k (now (args (o .before) .args .order))))
           (sym (reach r))
           (fillable _ s _ place (o .of .ensures) (measured (e .before .before .before) .settled) (sound-exact _ .0 s .limit-most) (part-free e)),
-      tested r .if3 .left,
+      omega (arith, needed (tested r .before), tested r .if3 .left),
     )
 
 returns-4 : tie.Need-returns-4
@@ -151,7 +161,7 @@ returns-4 c =
     let f = c .before .before in
     let r = f .before .before .before in
     let b = tested r in
-    rw (f .fill .ensures, reach r, whole (b .before), long (b .before), le-ltb _ _ (b .if3 .left))
+    rw (f .fill .ensures, reach r, whole (b .before .before), long (b .before .before), ← needed (b .before), le-ltb _ _ (b .if3 .left))
 
 pub fill-spec : {M : Type 1} → statement M
 fill-spec =
@@ -163,10 +173,9 @@ fill-spec =
     to-requires
     (λ c κs. measured c)
     returns-2
-    (λ c. omega (arith, few c))
-    (λ c. omega (arith, few c))
+    (λ c κs. (readable, few c))
     returns-3
-    (λ c κs. few (c .before .before))
+    (λ c κs. few (c .before .before .before))
     (λ c. sym (part-long (c .before)))
     fill-requires
     (λ c. search needs)

@@ -3,7 +3,7 @@
 use Prim.Native.Nat.{ℕ, _+_, _-_, _≤_, _<_}
 use mathlib.Core.Bool.{Bool}
 use mathlib.Core.List.{List}
-use mathlib.Core.Path.{_≡_, sym}
+use mathlib.Core.Path.{_≡_, sym, _∙_}
 use native.Mathlib.Decide.{ℕ-discrete}
 use native.Mathlib.Omega.{arith}
 use borrow.Author.Needs.{needs}
@@ -12,16 +12,16 @@ use Rattle.network.specs.Lists.{below, every}
 use Rattle.network.proofs.Below.{mem-below, below-lt}
 use Rattle.network.proofs.Lists.{every-all, all-every}
 use Rattle.network.proofs.Tests.{as-true, as-false, eq-test}
-use Rattle.table_rows.specs.Bytes.{rowStart}
 use Rattle.table.specs.Listed.{rankIn}
+use Rattle.table.proofs.Fields.{row-within}
 use Rattle.table.proofs.reading.ranks_agree.Statement.{statement}
 use Rattle.table.proofs.reading.ranks_agree.Tie as tie
 
 abbrev Inv-loop : tie.InvT-loop
-Inv-loop n table other u₀ u = (u ≤ n) × ((v : ℕ) → v < u → rankIn table v ≡ rankIn other v)
+Inv-loop n l table other u₀ u = (u ≤ n) × ((v : ℕ) → v < u → rankIn table v ≡ rankIn other v)
 
 abbrev μ-loop : tie.MeasureT-loop
-μ-loop n table other u₀ u = n - u
+μ-loop n l table other u₀ u = n - u
 
 -- whether the rank bytes of a place agree
 abbrev same? : List ℕ → List ℕ → ℕ → Bool
@@ -30,40 +30,54 @@ same? table other v = eqb (rankIn table v) (rankIn other v)
 loop-holds : tie.Need-loop-holds Inv-loop μ-loop
 loop-holds c = (omega arith, λ v h. absurd (omega arith))
 
-reads-table : tie.Need-shared-slice-read-if1 Inv-loop μ-loop
-unfolding rowStart
-reads-table c = omega (arith, c .before .before .before .pre .1, c .before .loop-test .taken)
+-- the row of a place passed stands in both
+abbrev start : tie.In-loop Inv-loop μ-loop → tie.Start Inv-loop μ-loop
+start c = c .before .before .before .before
 
-reads-other : tie.Need-shared-slice-read-if1-2 Inv-loop μ-loop
-unfolding rowStart
-reads-other c = omega (arith, c .before .before .before .before .pre .2, c .before .before .loop-test .taken)
+rank-in-requires : tie.Need-rank-in-requires Inv-loop μ-loop
+rank-in-requires c κs =
+    let s = start c in (s .pre .1, row-within _ (s .args .n) _ (s .pre .0) (c .loop-test .taken) (s .pre .3))
+
+rank-in-requires-2 : tie.Need-rank-in-requires-2 Inv-loop μ-loop
+rank-in-requires-2 c κs =
+    let s = start (c .before) in (s .pre .2, row-within _ (s .args .n) _ (s .pre .0) (c .before .loop-test .taken) (s .pre .4))
+
+-- what was read of the two
+abbrev read : tie.After-struct-known2 Inv-loop μ-loop → tie.After-rank-in2 Inv-loop μ-loop
+read c = c .before .before
 
 returns : tie.Need-returns Inv-loop μ-loop
-unfolding rankIn rowStart
 returns c =
-    let at = c .before .before .before .before .loop in
-    let args = c .before .before .before .before .before .args in
+    let r = read (c .before) in
+    let i : tie.In-loop Inv-loop μ-loop = r .before .before in
+    let args = start i .args in
     let all? = every (same? (args .table .now) (args .other .now)) (below (args .n)) in
     sym
     (as-false all?
     (λ t.
     c .if1 .taken
-    (eqb→eq _ _
-    (every-all (same? (args .table .now) (args .other .now)) (below (args .n)) t (at .u) (mem-below (c .before .before .before .loop-test .taken))))))
+    (r .before .rank-in .ensures
+    ∙ eqb→eq _ _ (every-all (same? (args .table .now) (args .other .now)) (below (args .n)) t (i .before .loop .u) (mem-below (i .loop-test .taken)))
+    ∙ sym (r .rank-in2 .ensures))))
 
 loop-again : tie.Need-loop-again Inv-loop μ-loop
-unfolding rankIn rowStart
-loop-again c = (omega (arith, c .before .before .before .loop-test .taken), λ v h. so-far v (ℕ-discrete v (c .before .before .before .before .loop .u)) h)
+loop-again c = (omega (arith, i .loop-test .taken), λ v h. so-far v (ℕ-discrete v (i .before .loop .u)) h)
   where
-    so-far : (v : ℕ) → Dec (v ≡ c .before .before .before .before .loop .u) → v < c .before .before .before .before .loop .u + 1 →
-        rankIn (c .before .before .before .before .before .args .table .now) v ≡ rankIn (c .before .before .before .before .before .args .other .now) v
-    so-far v (yes e) h = rw e (c .if1 .left)
-    so-far v (no apart) h = c .before .before .before .before .loop .inv .1 v (omega arith)
+    r : tie.After-rank-in2 Inv-loop μ-loop
+    r = read (c .before)
+
+    i : tie.In-loop Inv-loop μ-loop
+    i = r .before .before
+
+    so-far : (v : ℕ) → Dec (v ≡ i .before .loop .u) → v < i .before .loop .u + 1 →
+        rankIn (start i .args .table .now) v ≡ rankIn (start i .args .other .now) v
+    so-far v (yes e) h = rw e (sym (r .before .rank-in .ensures) ∙ c .if1 .left ∙ r .rank-in2 .ensures)
+    so-far v (no apart) h = i .before .loop .inv .1 v (omega arith)
 
 returns-2 : tie.Need-returns-2 Inv-loop μ-loop
 returns-2 c =
     let at = c .before .loop in
-    let args = c .before .before .args in
+    let args = c .before .before .before .before .args in
     sym
     (as-true (every (same? (args .table .now) (args .other .now)) (below (args .n)))
     (all-every (same? (args .table .now) (args .other .now)) (below (args .n)) (λ v m. eq-test (at .inv .1 v (omega (arith, below-lt (args .n) m))))))
@@ -75,13 +89,10 @@ ranks-agree-spec =
     Inv-loop
     μ-loop
     loop-holds
-    (λ c. omega (arith, c .before .before .pre .0, c .loop-test .taken))
-    (λ c. omega (arith, c .before .before .pre .0, c .loop-test .taken))
-    (λ c. omega (arith, c .before .before .pre .0, c .loop-test .taken))
-    reads-table
-    reads-other
+    rank-in-requires
+    rank-in-requires-2
     returns
-    (λ c. omega (arith, c .before .before .before .loop-test .taken, c .before .before .before .before .before .pre .0))
+    (λ c. let i : tie.In-loop Inv-loop μ-loop = read (c .before) .before .before in omega (arith, i .loop-test .taken, start i .pre .0))
     (λ c. search needs)
     loop-again
     returns-2)

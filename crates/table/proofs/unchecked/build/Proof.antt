@@ -1,11 +1,11 @@
 -- `table::unchecked::build` meets its contract: the order that is built is accepted in free mode, so its table can be filled.
 -- Assumes nothing.
-use Prim.Native.Nat.{_-_, _≤_}
-use mathlib.Core.List.{append-assoc}
+use Prim.Native.Nat.{ℕ, _-_, _≤_}
+use mathlib.Core.List.{List, _++_, append-assoc}
 use mathlib.Core.Path.{_≡_, refl, sym, ap, _∙_}
 use native.Mathlib.Omega.{arith}
 use borrow.Author.Needs.{needs}
-use lib.ListN.{length, take, drop, replicate, length-take}
+use lib.ListN.{length, take, drop, replicate, length-append, length-take}
 use lib.Seq.{take-at}
 use Rattle.network.specs.Order.{free, build}
 use Rattle.network.specs.Theorems.Order.{Accepted}
@@ -17,17 +17,22 @@ use Rattle.order.specs.Inner.{Lent, Measured}
 use Rattle.order.specs.Calls.{modeOf, reachedCount, orderBytes}
 use Rattle.order.proofs.Turn.{settled-serve, counts-reached}
 use Rattle.order.proofs.Orders.{few-reached}
+use Rattle.table_rows.specs.Layout.{rowStart}
+use Rattle.table_rows.proofs.Layouts.{readable}
+use Rattle.table.specs.Calls.{builtTable}
+use Rattle.table.proofs.Bytes.{bytes-exact}
+use Rattle.table.proofs.Verdicts.{table-long}
 use Rattle.table.proofs.Calling.{free-long, fillable, built-free}
 use Rattle.table.proofs.unchecked.build.Statement.{statement}
 use Rattle.table.proofs.unchecked.build.Tie as tie
 
 to-requires : tie.Need-to-requires
 to-requires c κs =
-    let s : tie.Start = c .before .before .before .before .before in ((_, laid-out _ _ (s .pre .0) (s .pre .1)), s .pre .2)
+    let s : tie.Start = c .before .before .before .before in ((_, laid-out _ _ (s .pre .0) (s .pre .1)), s .pre .2)
 
 -- from the distances back to the start, and what they are
 abbrev start : tie.After-to → tie.Start
-start c = c .before .before .before .before .before .before
+start c = c .before .before .before .before .before
 
 settled : (c : tie.After-to) → let a = start c .args in Settled (networkOf (a .t1)) (a .destination .0) (c .to .result)
 settled c = c .to .ensures _ (laid-out _ _ (start c .pre .0) (start c .pre .1))
@@ -97,18 +102,32 @@ module _ (c : tie.After-reached-count) where
       )
 
 slice-aggregate-fill : tie.Need-slice-aggregate-fill
-slice-aggregate-fill c = let r = c .before in sym (ap length (front r) ∙ long r)
+slice-aggregate-fill c = let r = c .before .before in sym (ap length (front r) ∙ long r)
 
 fill-requires : tie.Need-fill-requires
+unfolding rowStart
 fill-requires c κs =
-    let r = c .before .before in
+    let r = c .before .before .before in
     let s = start (gone (built r)) in (
       rw (front r) (fillable _ (s .pre .0) _ (s .pre .2) (s .pre .1) (settled (gone (built r))) (sound-exact _ .0 (s .pre .0) .limit-most) (free-order r)),
-      s .pre .3,
+      omega (arith, sound-exact _ .0 (s .pre .0) .routers-most, c .before .before .room-for-table .ensures),
     )
 
+-- bytes in front of others
+in-front : (bytes rest : List ℕ) {out : List ℕ} {k : ℕ} → out ≡ bytes ++ rest → length bytes ≡ k → (k ≤ length out) × (take k out ≡ bytes)
+in-front bytes rest {out} {k} e long = (omega (arith, ap length e, length-append bytes rest), ap (take k) e ∙ take-at bytes rest k long)
+
+-- the table stands in front, and is as long as a table for so many routers
 returns : tie.Need-returns
-returns c = let r = c .before .before .before .before .before in rw (← front r) (c .before .before .fill .ensures)
+unfolding builtTable
+returns c =
+    let f : tie.After-fill = c .before .before in
+    let r = f .before .before .before .before in
+    let s = start (gone (built r)) in
+    let t = s .args .t1 in
+    let sound-so = s .pre .0 in
+    let its = bytes-exact (networkOf t) (s .args .destination .0) (t .limit) (sound-exact t .0 sound-so .limit-most) _ _ .0 refl in
+    in-front _ _ (rw (front r) at (f .fill .ensures)) (table-long t sound-so its ∙ unfold rowStart in sym (c .row-start .ensures))
 
 pub build-spec : {M : Type 1} → statement M
 build-spec =
@@ -118,8 +137,10 @@ build-spec =
     (λ c. search needs)
     build-requires
     (λ c κs. let s = start (gone (c .before .before)) in sound-exact _ .0 (s .pre .0) .routers-most)
-    all
+    (λ c κs. search needs)
+    (λ c. all (c .before))
     slice-aggregate-fill
-    fill-requires
     (λ c. search needs)
+    fill-requires
+    (λ c κs. (readable, sound-exact _ .0 (start (gone (built (c .before .before .before .before .before))) .pre .0) .routers-most))
     returns)

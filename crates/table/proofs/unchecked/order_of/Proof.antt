@@ -16,8 +16,8 @@ use Rattle.network.proofs.Below.{getD-below, length-map-below}
 use Rattle.topology_types.specs.Outcome.{firstOr}
 use Rattle.order.proofs.Runs.{down-none, down-more, down-all}
 use Rattle.distances.proofs.Stored.{stored}
-use Rattle.table_rows.specs.Bytes.{rowStart}
 use Rattle.table.specs.Listed.{rankIn, byRank}
+use Rattle.table.proofs.Fields.{row-within}
 use Rattle.table.proofs.unchecked.order_of.Statement.{statement}
 use Rattle.table.proofs.unchecked.order_of.Tie as tie
 
@@ -26,31 +26,25 @@ abbrev first-with : List ℕ → ℕ → List ℕ → ℕ
 first-with table r us = firstOr 255 (keep (λ u. eqb (rankIn table u) r) us)
 
 abbrev Inv-loop : tie.InvT-loop
-Inv-loop n table order₀ u₀ order u =
+Inv-loop n table l order₀ u₀ order u =
     (u ≤ n) × (length order ≡ 64) × ((r : ℕ) → r < n → getD order r 0 ≡ first-with table r (numbersFrom u (n - u)))
 
 abbrev μ-loop : tie.MeasureT-loop
-μ-loop n table order₀ u₀ order u = u
+μ-loop n table l order₀ u₀ order u = u
 
 loop-holds : tie.Need-loop-holds Inv-loop μ-loop
 unfolding keep firstOr
-loop-holds c = (omega arith, refl, λ r h. rw (down-none) (getD-replicate {A = ℕ} 64 r 255 0 (omega (arith, c .pre .0))))
+loop-holds c = (omega arith, refl, λ r h. rw (down-none) (getD-replicate {A = ℕ} 64 r 255 0 (omega (arith, c .before .before .pre .0))))
 
-mul-rank : tie.Need-mul-rank Inv-loop μ-loop
-mul-rank c = omega (arith, c .before .before .pre .0, c .before .loop .inv .0)
+-- the row of each place stands in the table
+abbrev start : tie.In-loop Inv-loop μ-loop → tie.Start Inv-loop μ-loop
+start c = c .before .before .before .before
 
-add-rank : tie.Need-add-rank Inv-loop μ-loop
-add-rank c = omega (arith, c .before .before .pre .0, c .before .loop .inv .0)
-
-add-rank-2 : tie.Need-add-rank-2 Inv-loop μ-loop
-add-rank-2 c = omega (arith, c .before .before .pre .0, c .before .loop .inv .0)
-
-shared-slice-read-rank : tie.Need-shared-slice-read-rank Inv-loop μ-loop
-unfolding rowStart
-shared-slice-read-rank c = omega (arith, c .before .before .before .pre .1, c .before .before .loop .inv .0)
-
-cast-rank : tie.Need-cast-rank Inv-loop μ-loop
-cast-rank c = omega (arith, c .shared-slice-known .given (4 + 19 * (c .before .before .loop .u - 1) + 1))
+rank-in-requires : tie.Need-rank-in-requires Inv-loop μ-loop
+rank-in-requires c κs =
+    let s = start c in
+    let same = c .before .before .layout-of .ensures in
+    (same, row-within _ (s .args .n) _ (s .pre .0) (omega (arith, c .loop-test .taken, c .before .loop .inv .0)) (omega (arith, s .pre .1)))
 
 -- a place more in front
 with-more : (table : List ℕ) (r u : ℕ) (us : List ℕ) → first-with table r (u ∷ us) ≡ cond (eqb (rankIn table u) r) u (first-with table r us)
@@ -63,37 +57,38 @@ with-more table r u us = cases (eqb (rankIn table u) r)
     cases false = refl
 
 loop-again : tie.Need-loop-again Inv-loop μ-loop
-unfolding rankIn rowStart
 loop-again c =
-    let at = c .before .before .before in
-    let n = at .before .args .n in
-    let table = at .before .args .table .now in
+    let i : tie.In-loop Inv-loop μ-loop = c .before .before .before in
+    let at = i .before in
+    let n = start i .args .n in
+    let table = start i .args .table .now in
     let u = at .loop .u - 1 in
     let passed = numbersFrom (at .loop .u) (n - at .loop .u) in
-    let h = c .before .before .loop-test .taken in (
+    let h = i .loop-test .taken in (
       omega (arith, at .loop .inv .0),
       simp length-set (at .loop .inv .1),
-      stored (λ r x. r < n → x ≡ first-with table r (numbersFrom u (n - u))) (at .loop .order) (rankIn table u) u 0
-          (omega (arith, at .loop .inv .1, at .before .pre .0))
+      rw (c .before .before .rank-in .ensures)
+          (stored (λ r x. r < n → x ≡ first-with table r (numbersFrom u (n - u))) (at .loop .order) (rankIn table u) u 0
+          (omega (arith, at .loop .inv .1, start i .pre .0, c .if1 .taken, c .before .before .rank-in .ensures))
           (λ k. rw (down-more (at .loop .u) n h (at .loop .inv .0), with-more table (rankIn table u) u passed, eq-eqb (rankIn table u) (rankIn table u) refl))
           (λ r apart k.
           rw (down-more (at .loop .u) n h (at .loop .inv .0), with-more table r u passed, ne-eqb (rankIn table u) r (λ e. apart (sym e)))
-          (at .loop .inv .2 r k)),
+          (at .loop .inv .2 r k))),
     )
 
 loop-again-2 : tie.Need-loop-again-2 Inv-loop μ-loop
-unfolding rankIn rowStart
 loop-again-2 c =
-    let at = c .before .before .before in
-    let n = at .before .args .n in
-    let table = at .before .args .table .now in
+    let i : tie.In-loop Inv-loop μ-loop = c .before .before .before in
+    let at = i .before in
+    let n = start i .args .n in
+    let table = start i .args .table .now in
     let u = at .loop .u - 1 in
     let passed = numbersFrom (at .loop .u) (n - at .loop .u) in
-    let h = c .before .before .loop-test .taken in (
+    let h = i .loop-test .taken in (
       omega (arith, at .loop .inv .0),
       at .loop .inv .1,
       λ r k.
-          rw (down-more (at .loop .u) n h (at .loop .inv .0), with-more table r u passed, ne-eqb (rankIn table u) r (λ e. omega (arith, c .if1 .left)))
+          rw (down-more (at .loop .u) n h (at .loop .inv .0), with-more table r u passed, ne-eqb (rankIn table u) r (λ e. omega (arith, c .if1 .left, c .before .before .rank-in .ensures)))
           (at .loop .inv .2 r k),
     )
 
@@ -101,9 +96,9 @@ returns : tie.Need-returns Inv-loop μ-loop
 unfolding byRank
 returns c =
     let at = c .before .loop in
-    let n = c .before .before .args .n in
-    let table = c .before .before .args .table .now in
-    let long : length (take n (at .order)) ≡ n = length-take-le n (at .order) (omega (arith, at .inv .1, c .before .before .pre .0)) in
+    let n = c .before .before .before .before .args .n in
+    let table = c .before .before .before .before .args .table .now in
+    let long : length (take n (at .order)) ≡ n = length-take-le n (at .order) (omega (arith, at .inv .1, c .before .before .before .before .pre .0)) in
     ext-getD 0 _ _ (long ∙ sym (length-map-below _ n))
     (λ r h. let k : r < n = omega arith in
     getD-take n (at .order) r 0 k
@@ -115,13 +110,11 @@ order-of-spec =
     (tie.spec
     Inv-loop
     μ-loop
+    (λ c κs. search needs)
     loop-holds
     (λ c. search needs)
-    mul-rank
-    add-rank
-    add-rank-2
-    shared-slice-read-rank
-    cast-rank
+    rank-in-requires
+    (λ c. search needs)
     (λ c. search needs)
     (λ c. search needs)
     (λ c. search needs)

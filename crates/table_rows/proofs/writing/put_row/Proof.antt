@@ -11,8 +11,8 @@ use lib.Seq.{take-all}
 use Rattle.topology_types.specs.Topology.{padded}
 use Rattle.topology.specs.Inner.{over}
 use Rattle.topology.proofs.Over.{over-none, over-two, over-next, over-over}
-use Rattle.table_rows.specs.Bytes.{rowBytes}
 use Rattle.table_rows.specs.Inner.{placeInKey}
+use Rattle.table_rows.proofs.Layouts.{row-is}
 use Rattle.table_rows.proofs.Padding.{named, entries-length, entry-used, entry-unused, begun-length, begun-next}
 use Rattle.table_rows.proofs.writing.put_row.Statement.{statement}
 use Rattle.table_rows.proofs.writing.put_row.Tie as tie
@@ -27,13 +27,13 @@ abbrev μ-loop : tie.MeasureT-loop
 -- where the loop begins, the front is put
 module _ (c : tie.At-loop Inv-loop μ-loop) where
   abbrev front : List ℕ
-  front = let args = c .before .args in set (set (set (args .out .now) (args .at) 17) (args .at + 1) (args .rank .0)) (args .at + 2) (args .count)
+  front = let args = c .before .args in set (set (set (args .out .now) (args .at) (args .l .rows)) (args .at + 1) (args .rank .0)) (args .at + 2) (args .count)
 
   abbrev row : List ℕ
   row = padded 255 16 (map placeInKey (take (c .before .args .count) (c .before .args .keys .now)))
 
   long : length row ≡ 16
-  long = entries-length _ _ (c .before .pre .1) (c .before .pre .0)
+  long = entries-length _ _ (c .before .pre .2) (c .before .pre .1)
 
   fits : c .before .args .at + 3 + length row ≤ length front
   fits = simp (length-set, long) (omega arith)
@@ -50,22 +50,22 @@ loop-again c =
     let pre = l .before .pre in
     let next = begun-next (front l) (l .before .args .at + 3) (row l) (fits l) (l .loop .i) (l .loop .inv .1) in
     let inside : l .loop .i < length (row l) = omega (arith, long l) in
-    ⊎-elim (λ w. (omega arith, w .2 ∙ next _ inside (sym (entry-used (l .before .args .keys .now) _ (pre .1) (pre .0) _ (w .0 .taken)))))
-    (λ w. (omega arith, w .1 ∙ next _ inside (sym (entry-unused (l .before .args .keys .now) _ (pre .1) (pre .0) _ (w .0 .left) (c .before .loop-test .taken)))))
+    ⊎-elim (λ w. (omega arith, w .2 ∙ next _ inside (sym (entry-used (l .before .args .keys .now) _ (pre .2) (pre .1) _ (w .0 .taken)))))
+    (λ w. (omega arith, w .1 ∙ next _ inside (sym (entry-unused (l .before .args .keys .now) _ (pre .2) (pre .1) _ (w .0 .left) (c .before .loop-test .taken)))))
     (c .if1 .came)
 
 same-length : tie.Need-same-length Inv-loop μ-loop
 same-length c = same (c .before)
 
 returns : tie.Need-returns Inv-loop μ-loop
-unfolding rowBytes
 returns c =
     let l = c .before in
     let a = l .before .args in
-    let bytes : List ℕ = 17 ∷ a .rank .0 ∷ a .count ∷ [] in
+    let kind = a .l .rows in
+    let bytes : List ℕ = kind ∷ a .rank .0 ∷ a .count ∷ [] in
     let put : front l ≡ over (a .out .now) (a .at) bytes =
-    rw (over-two (a .out .now) (a .at) 17 (a .rank .0) (omega arith)) (over-next (a .out .now) (a .at) (17 ∷ a .rank .0 ∷ []) (a .count) (a .at + 2) refl (omega arith)) in
-    rw (named (a .keys .now) (a .count) (l .before .pre .1) (l .before .pre .0))
+    rw (over-two (a .out .now) (a .at) kind (a .rank .0) (omega arith)) (over-next (a .out .now) (a .at) (kind ∷ a .rank .0 ∷ []) (a .count) (a .at + 2) refl (omega arith)) in
+    rw (row-is (a .l) (l .before .pre .0), named (a .keys .now) (a .count) (l .before .pre .2) (l .before .pre .1))
     (l .loop .inv .1 ∙ rw (take-all (l .loop .i) (row l) (omega (arith, long l)), put) (over-over (a .out .now) (a .at) bytes (row l) (a .at + 3) refl (omega arith)))
 
 pub put-row-spec : {M : Type 1} → statement M
