@@ -281,7 +281,8 @@ pub record ByRank (t : Topology) (table : List ℕ) (u : ℕ) : Type 0 where
 abbrev pub RanksTell : Type 0
 RanksTell = OfAccepted (λ t table. (u : ℕ) → u < t .routers → ByRank t table u)
 
--- Demand 3, entire: its claims (Demand3), of every sound topology and every table accepted on it.
+-- Demand 3, entire: its claims (Demand3), of every sound topology and every table accepted on it; that the figures are those that the call reports is
+-- `FiguresReported`.
 abbrev pub TablesMeet : Type 0
 TablesMeet = OfAccepted (λ t table. Claims (routerTable t table))
 

@@ -51,8 +51,8 @@ walkOn p delivered rest = delivered-at p
 walkOn p dropped rest = dropped-at p
 walkOn p (moved q) rest = rest q
 
--- 01, Packet, hop and schedule: where no row of states is left the packet is at d, or it is dropped, since the row of its station is empty and no states
--- could leave anything to choose; else the walk is not finished
+-- 01, Packet, hop and schedule: where no row of states is left the packet is at d, or it is dropped where the row of its station is empty, for what is chosen
+-- stands in the row (`Lawful`); else the walk is not finished
 unfoldable pub walkEnd : {S E : Type 0} → Packet S → Bool → List E → Walk S
 walkEnd p true entries = delivered-at p
 walkEnd p false [] = dropped-at p

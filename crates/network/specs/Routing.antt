@@ -45,7 +45,7 @@ routersBy d rows =
 abbrev pub routers : Network → ℕ → ℕ → List ℕ → Forwarding
 routers n d limit order = routersBy d (row n (distances n d) limit order)
 
--- 01, Packet, hop and schedule: the greatest hop count of u, as it is computed, 0 where u has no path to d
+-- 01, Packet, hop and schedule: the greatest hop count of u, as it is computed, over any rows and under an order; where ranks fall, 0 if u has no path to d
 abbrev pub greatestHopBy : Network → ℕ → (ℕ → List Arc) → ℕ → ℕ
 greatestHopBy n d rows u = longest (routersBy d rows) (size n) u
 
@@ -56,7 +56,7 @@ greatestHop n d limit order u = greatestHopBy n d (row n (distances n d) limit o
 unfoldable pub greatestHops : Network → ℕ → ℕ → List ℕ → List ℕ
 greatestHops n d limit order = map (greatestHop n d limit order) (below (size n))
 
--- 02, 103: every path from u to d, each as the places that it goes by
+-- 02, 103: every path from u to d down any rows, and under an order, each as the places that it goes by
 abbrev pub everyPathBy : Network → ℕ → (ℕ → List Arc) → ℕ → List (List ℕ)
 everyPathBy n d rows u = pathsFrom (routersBy d rows) (size n) u
 

@@ -240,7 +240,7 @@ TablesCarry =
     (t : Topology) → T (sound t) → (table : List ℕ) → tableChecking t table ≡ answer 0 0 →
     claim (networkOf t) (getD table 1 0) (getD table 3 0) (orderIn (t .routers) table)
 
--- What an accepted table lists are rows along whose entries ranks fall, so that every theorem of `network` on such rows holds of it, whatever its kind.
+-- What an accepted table lists are rows along whose entries ranks fall, so that every theorem of `network` on such rows holds of it.
 -- Every router with a path but the destination has an entry, in shortest-path mode a shortest next hop first. The rank of a router with a path is its
 -- row's.
 pub record TableFalls (t : Topology) (table : List ℕ) : Type 0 where
