@@ -29,18 +29,11 @@ unfolding writingPaths turnedAway
 returns c = on-place-refused _ _ _ (c .before .before .refused-at .ensures) _ _ (c .if1 .taken)
 
 -- the topology is sound, and the start is one of its places
-module _ (c : tie.Else1) where
-  abbrev args : tie.Start
-  args = c .before .before .before .before .before
+abbrev args : tie.Else1 → tie.Start
+args c = c .before .before .before .before .before
 
-  passed : T (sound (args .args .t)) × (args .args .start .0 < args .args .t .routers)
-  passed = on-place-passed _ _ _ (c .before .before .refused-at .ensures) (c .if1 .left)
-
-of-requires : tie.Need-of-requires
-of-requires c κs = passed c .0
-
-check-requires : tie.Need-check-requires
-check-requires c κs = (passed (c .before) .0, c .of .ensures)
+passed : (c : tie.Else1) → T (sound (args c .args .t)) × (args c .args .start .0 < args c .args .t .routers)
+passed c = on-place-passed _ _ _ (c .before .before .refused-at .ensures) (c .if1 .left)
 
 -- what judging the table answered is what checking it answers
 verdict : (c : tie.After-check) → let a = args (c .before .before) .args in c .check .result ≡ tableChecking (a .t) (now (a .table))
@@ -123,8 +116,8 @@ write-spec =
     (tie.spec
     (λ c κs. search needs)
     returns
-    of-requires
-    check-requires
+    (λ c κs. passed c .0)
+    (λ c κs. (passed (c .before) .0, c .of .ensures))
     returns-2
     (λ c κs. search needs)
     (λ c. search needs)
