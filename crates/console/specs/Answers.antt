@@ -3,143 +3,86 @@
 use Prim.Native.Nat.{ℕ}
 use mathlib.Core.Bool.{cond}
 use mathlib.Core.List.{List, [], _∷_}
+use mathlib.Core.Option.{Option, none, some}
 use lib.Dec.{leb}
 use lib.ListN.{length, take}
+use Rattle.topology_types.specs.declared.Topology.{Topology}
 use Rattle.text.specs.Fields.{asks}
-use Rattle.console_held.specs.Requests.{Held, Answered, unchanged, noRequest, setWord, readIn, importIn, loadIn, loadPacketIn, setIn, hopIn}
-use Rattle.console_replies.specs.Calls.{writeIn, buildIn, checkOrderIn, fillIn, checkTable, greatestIn, walkIn, listIn, oldStreamIn, coverageOf, pathsIn, teIn}
-use Rattle.console.specs.declared.answers.Request.{Request}
-use Rattle.console.specs.declared.answers.Request.the-variants as request
+use Rattle.console_held.specs.Questions.{placeField, hopsField, modeField, roomField, bytesField, Question, questionOf}
+use Rattle.console_held.specs.Requests.{Held, Answered, unchanged, noRequest, readBy, importBy, loadBy, loadPacketBy, settingBy, hopBy}
+use Rattle.console_replies.specs.Calls.{writeBy, orderBy, checkOrderBy, fillBy, checkTableBy, countBy, walkBy, listBy, oldStreamBy, coverageBy, pathsBy, teBy}
 
--- `topology`
-unfoldable pub topologyWord : List ℕ
-topologyWord = 116 ∷ 111 ∷ 112 ∷ 111 ∷ 108 ∷ 111 ∷ 103 ∷ 121 ∷ []
-
--- `write`
-unfoldable pub writeWord : List ℕ
-writeWord = 119 ∷ 114 ∷ 105 ∷ 116 ∷ 101 ∷ []
-
--- `order`
-unfoldable pub orderWord : List ℕ
-orderWord = 111 ∷ 114 ∷ 100 ∷ 101 ∷ 114 ∷ []
-
--- `check-order`
-unfoldable pub checkOrderWord : List ℕ
-checkOrderWord = 99 ∷ 104 ∷ 101 ∷ 99 ∷ 107 ∷ 45 ∷ 111 ∷ 114 ∷ 100 ∷ 101 ∷ 114 ∷ []
-
--- `fill`
-unfoldable pub fillWord : List ℕ
-fillWord = 102 ∷ 105 ∷ 108 ∷ 108 ∷ []
-
--- `load-table`
-unfoldable pub loadTableWord : List ℕ
-loadTableWord = 108 ∷ 111 ∷ 97 ∷ 100 ∷ 45 ∷ 116 ∷ 97 ∷ 98 ∷ 108 ∷ 101 ∷ []
-
--- `check-table`
-unfoldable pub checkTableWord : List ℕ
-checkTableWord = 99 ∷ 104 ∷ 101 ∷ 99 ∷ 107 ∷ 45 ∷ 116 ∷ 97 ∷ 98 ∷ 108 ∷ 101 ∷ []
-
--- `greatest`
-unfoldable pub greatestWord : List ℕ
-greatestWord = 103 ∷ 114 ∷ 101 ∷ 97 ∷ 116 ∷ 101 ∷ 115 ∷ 116 ∷ []
-
--- `load-packet`
-unfoldable pub loadPacketWord : List ℕ
-loadPacketWord = 108 ∷ 111 ∷ 97 ∷ 100 ∷ 45 ∷ 112 ∷ 97 ∷ 99 ∷ 107 ∷ 101 ∷ 116 ∷ []
-
--- `hop`
-unfoldable pub hopWord : List ℕ
-hopWord = 104 ∷ 111 ∷ 112 ∷ []
-
--- `walk`
-unfoldable pub walkWord : List ℕ
-walkWord = 119 ∷ 97 ∷ 108 ∷ 107 ∷ []
-
--- `listing`
-unfoldable pub listingWord : List ℕ
-listingWord = 108 ∷ 105 ∷ 115 ∷ 116 ∷ 105 ∷ 110 ∷ 103 ∷ []
-
--- `old-stream`
-unfoldable pub oldStreamWord : List ℕ
-oldStreamWord = 111 ∷ 108 ∷ 100 ∷ 45 ∷ 115 ∷ 116 ∷ 114 ∷ 101 ∷ 97 ∷ 109 ∷ []
-
--- `coverage`
-unfoldable pub coverageWord : List ℕ
-coverageWord = 99 ∷ 111 ∷ 118 ∷ 101 ∷ 114 ∷ 97 ∷ 103 ∷ 101 ∷ []
-
--- `paths`
-unfoldable pub pathsWord : List ℕ
-pathsWord = 112 ∷ 97 ∷ 116 ∷ 104 ∷ 115 ∷ []
-
--- `import`
-unfoldable pub importWord : List ℕ
-importWord = 105 ∷ 109 ∷ 112 ∷ 111 ∷ 114 ∷ 116 ∷ []
-
--- `te`
-unfoldable pub teWord : List ℕ
-teWord = 116 ∷ 101 ∷ []
-
--- A request's first word, and the number of fields after it.
+-- A request's first word, the kinds of the fields after it, and what it answers, with what is held and what is asked.
 pub record Form : Type 0 where
   pub word : List ℕ
-  pub fields : ℕ
-  pub request : Request
+  pub kinds : List ℕ
+  pub answer : Held → Question → Answered
 
+unfoldable pub form : List ℕ → List ℕ → (Held → Question → Answered) → Form
+form word kinds answer = record { word = word; kinds = kinds; answer = answer }
+
+-- a request that leaves what is held
+unfoldable pub kept : (Topology → List ℕ → Question → List ℕ) → Held → Question → Answered
+kept reply h q = unchanged h (reply (h .topology) (h .table) q)
+
+-- each with its line above it
 unfoldable pub forms : List Form
 forms =
-    record { word = topologyWord; fields = 1; request = request.Topology } ∷
-    record { word = writeWord; fields = 1; request = request.Write } ∷
-    record { word = orderWord; fields = 3; request = request.Order } ∷
-    record { word = checkOrderWord; fields = 3; request = request.CheckOrder } ∷
-    record { word = fillWord; fields = 3; request = request.Fill } ∷
-    record { word = loadTableWord; fields = 1; request = request.LoadTable } ∷
-    record { word = checkTableWord; fields = 0; request = request.CheckTable } ∷
-    record { word = greatestWord; fields = 1; request = request.Greatest } ∷
-    record { word = loadPacketWord; fields = 2; request = request.LoadPacket } ∷
-    record { word = setWord; fields = 1; request = request.Set } ∷
-    record { word = hopWord; fields = 1; request = request.Hop } ∷
-    record { word = walkWord; fields = 2; request = request.Walk } ∷
-    record { word = listingWord; fields = 2; request = request.Listing } ∷
-    record { word = oldStreamWord; fields = 2; request = request.OldStream } ∷
-    record { word = coverageWord; fields = 0; request = request.Coverage } ∷
-    record { word = pathsWord; fields = 2; request = request.Paths } ∷
-    record { word = importWord; fields = 1; request = request.Import } ∷
-    record { word = teWord; fields = 1; request = request.Te } ∷ []
+    -- `topology STREAM`
+    form (116 ∷ 111 ∷ 112 ∷ 111 ∷ 108 ∷ 111 ∷ 103 ∷ 121 ∷ []) (bytesField ∷ []) readBy ∷
+    -- `write ROOM`
+    form (119 ∷ 114 ∷ 105 ∷ 116 ∷ 101 ∷ []) (roomField ∷ []) (kept writeBy) ∷
+    -- `order D MODE ROOM`
+    form (111 ∷ 114 ∷ 100 ∷ 101 ∷ 114 ∷ []) (placeField ∷ modeField ∷ roomField ∷ []) (kept orderBy) ∷
+    -- `check-order D MODE ORDER`
+    form (99 ∷ 104 ∷ 101 ∷ 99 ∷ 107 ∷ 45 ∷ 111 ∷ 114 ∷ 100 ∷ 101 ∷ 114 ∷ []) (placeField ∷ modeField ∷ bytesField ∷ []) (kept checkOrderBy) ∷
+    -- `fill D ORDER ROOM`
+    form (102 ∷ 105 ∷ 108 ∷ 108 ∷ []) (placeField ∷ bytesField ∷ roomField ∷ []) (kept fillBy) ∷
+    -- `load-table TABLE`
+    form (108 ∷ 111 ∷ 97 ∷ 100 ∷ 45 ∷ 116 ∷ 97 ∷ 98 ∷ 108 ∷ 101 ∷ []) (bytesField ∷ []) loadBy ∷
+    -- `check-table`
+    form (99 ∷ 104 ∷ 101 ∷ 99 ∷ 107 ∷ 45 ∷ 116 ∷ 97 ∷ 98 ∷ 108 ∷ 101 ∷ []) [] (kept checkTableBy) ∷
+    -- `greatest ROOM`
+    form (103 ∷ 114 ∷ 101 ∷ 97 ∷ 116 ∷ 101 ∷ 115 ∷ 116 ∷ []) (roomField ∷ []) (kept countBy) ∷
+    -- `load-packet STATION HOPS`
+    form (108 ∷ 111 ∷ 97 ∷ 100 ∷ 45 ∷ 112 ∷ 97 ∷ 99 ∷ 107 ∷ 101 ∷ 116 ∷ []) (placeField ∷ hopsField ∷ []) loadPacketBy ∷
+    -- `set START`
+    form (115 ∷ 101 ∷ 116 ∷ []) (placeField ∷ []) settingBy ∷
+    -- `hop STATES`
+    form (104 ∷ 111 ∷ 112 ∷ []) (bytesField ∷ []) hopBy ∷
+    -- `walk START SCHEDULE`
+    form (119 ∷ 97 ∷ 108 ∷ 107 ∷ []) (placeField ∷ bytesField ∷ []) (kept walkBy) ∷
+    -- `listing D ROOM`
+    form (108 ∷ 105 ∷ 115 ∷ 116 ∷ 105 ∷ 110 ∷ 103 ∷ []) (placeField ∷ roomField ∷ []) (kept listBy) ∷
+    -- `old-stream STREAM ROOM`
+    form (111 ∷ 108 ∷ 100 ∷ 45 ∷ 115 ∷ 116 ∷ 114 ∷ 101 ∷ 97 ∷ 109 ∷ []) (bytesField ∷ roomField ∷ []) (kept oldStreamBy) ∷
+    -- `coverage`
+    form (99 ∷ 111 ∷ 118 ∷ 101 ∷ 114 ∷ 97 ∷ 103 ∷ 101 ∷ []) [] (kept coverageBy) ∷
+    -- `paths START ROOM`
+    form (112 ∷ 97 ∷ 116 ∷ 104 ∷ 115 ∷ []) (placeField ∷ roomField ∷ []) (kept pathsBy) ∷
+    -- `import FILE`
+    form (105 ∷ 109 ∷ 112 ∷ 111 ∷ 114 ∷ 116 ∷ []) (bytesField ∷ []) importBy ∷
+    -- `te VALUE`
+    form (116 ∷ 101 ∷ []) (bytesField ∷ []) (kept teBy) ∷
+    []
 
--- the request of the first form that a line has
-unfoldable pub formed : List Form → List ℕ → Request
-formed [] line = request.Unknown
-formed (f ∷ fs) line = cond (asks (f .word) (f .fields) line) (f .request) (formed fs line)
+-- the form of no request
+unfoldable pub noForm : Form
+noForm = form [] [] (λ h q. noRequest h)
 
--- which request a line is
-unfoldable pub requestIn : List ℕ → Request
-requestIn line = formed forms line
+-- the first form that a line has
+unfoldable pub formed : List Form → List ℕ → Form
+formed [] line = noForm
+formed (f ∷ fs) line = cond (asks (f .word) (length (f .kinds)) line) f (formed fs line)
 
--- what such a request answers, with what is held
-unfoldable pub answerTo : Request → Held → List ℕ → Answered
-answerTo request.Topology h line = readIn h line
-answerTo request.Write h line = unchanged h (writeIn (h .topology) line)
-answerTo request.Order h line = unchanged h (buildIn (h .topology) line)
-answerTo request.CheckOrder h line = unchanged h (checkOrderIn (h .topology) line)
-answerTo request.Fill h line = unchanged h (fillIn (h .topology) line)
-answerTo request.LoadTable h line = loadIn h line
-answerTo request.CheckTable h line = unchanged h (checkTable h)
-answerTo request.Greatest h line = unchanged h (greatestIn h line)
-answerTo request.LoadPacket h line = loadPacketIn h line
-answerTo request.Set h line = setIn h line
-answerTo request.Hop h line = hopIn h line
-answerTo request.Walk h line = unchanged h (walkIn h line)
-answerTo request.Listing h line = unchanged h (listIn (h .topology) line)
-answerTo request.OldStream h line = unchanged h (oldStreamIn line)
-answerTo request.Coverage h line = unchanged h (coverageOf (h .topology))
-answerTo request.Paths h line = unchanged h (pathsIn h line)
-answerTo request.Import h line = importIn h line
-answerTo request.Te h line = unchanged h (teIn line)
-answerTo request.Unknown h line = noRequest h
+-- a request with a wrong field is none
+unfoldable pub answerAsked : (Held → Question → Answered) → Held → Option Question → Answered
+answerAsked answer h (some q) = answer h q
+answerAsked answer h none = noRequest h
 
 -- what a line answers
 unfoldable pub responseTo : Held → List ℕ → Answered
-responseTo h line = answerTo (requestIn line) h line
+responseTo h line = answerAsked (formed forms line .answer) h (questionOf (formed forms line .kinds) line)
 
 -- what a line answers of which so many bytes have come, if the buffer holds them all; one that is too long is no request
 unfoldable pub answerHeld : Held → List ℕ → ℕ → Answered

@@ -24,6 +24,7 @@
 // BUFFER is ROOM bytes of `aa`, at most 65,536 of them, as the call left it. D, START, STATION and HOPS are at most 255, and MODE is `shortest` or `free`.
 // Any other line, and one of more than 262,144 bytes, answers `error` and changes nothing.
 mod answers;
+mod requests;
 
 use console_held::unchecked::asked;
 use console_held::unchecked::holding::Holding;
@@ -43,7 +44,7 @@ ghost use mathlib.Core.Path.{_≡_};
 ghost use Prim.Native.Nat.{_≤_};
 ghost use lib.ListN.{length};
 ghost use Rattle.topology_types.specs.Topology.{zeros};
-ghost use Rattle.console_held.specs.Requests.{mostLine, mostTable};
+ghost use Rattle.console_held.specs.Questions.{mostLine, mostTable};
 ghost use Rattle.console_held.specs.Inner.{TableReady};
 ghost use Rattle.console.specs.Inner.{LineAnswered, PartTaken, TextTaken};
 

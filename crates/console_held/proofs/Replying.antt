@@ -6,10 +6,6 @@ use mathlib.Core.Path.{_≡_, refl, ap}
 use native.Mathlib.Omega.{arith}
 use lib.ListN.{length}
 use Rattle.topology_types.specs.declared.Answer.{Answer}
-use Rattle.stream_rules.specs.declared.Reading.{Reading}
-use Rattle.text.specs.declared.unchecked.fields.Value.the-variants.{Is, Wrong}
-use Rattle.text.specs.Fields.{field}
-use Rattle.text.specs.Hex.{byteCount, bytes}
 use Rattle.text.specs.Lines.{errorLine}
 use Rattle.forwarding_rules.specs.declared.Packet.{Packet}
 use Rattle.forwarding_rules.specs.Calls.{packetIn}
@@ -17,7 +13,7 @@ use Rattle.console_held.specs.declared.unchecked.holding.Reply.{Reply}
 use Rattle.console_held.specs.declared.unchecked.holding.Step.{Step}
 use Rattle.console_held.specs.declared.unchecked.holding.Holding.{Holding}
 use Rattle.console_held.specs.declared.unchecked.holding.Reply.the-variants.{Error, Says}
-use Rattle.console_held.specs.Requests.{Held, unchanged, noRequest, carrying, answerOf, takenAnswer, takenBy, takenIn}
+use Rattle.console_held.specs.Requests.{unchanged, noRequest, carrying, answerOf}
 use Rattle.console_held.specs.Inner.{Replies, StepServed, heldIn, replyText, roomOf}
 
 pub error-reply : {buffer : List ℕ} → Replies errorLine Error buffer
@@ -49,15 +45,3 @@ pub carried-step : (h : Holding) (p : Packet) {table text : List ℕ} {r : Reply
     StepServed (record { held = carrying (heldIn h table) (packetIn p); text = text }) s table buffer
 unfolding carrying heldIn
 carried-step h p e k q = rw (e) (record { held = refl; size = k; replies = q })
-
--- a request that takes a topology, whose field holds no bytes
-pub none-taken : (call : List ℕ → Reading) {h : Holding} (line : List ℕ) {table buffer : List ℕ} → byteCount (field 1 line) ≡ Wrong → h .size ≤ length table →
-    StepServed (takenIn call (heldIn h table) line) record { held = h; reply = Error } table buffer
-unfolding takenIn takenBy
-none-taken call line e s = rw (e) (error-step s)
-
--- one whose field holds these
-pub taken-from : (call : List ℕ → Reading) (h : Held) (line : List ℕ) {n : ℕ} {given : List ℕ} {r : Reading} → byteCount (field 1 line) ≡ Is n →
-    given ≡ bytes (field 1 line) → r ≡ call given → takenIn call h line ≡ takenAnswer h r
-unfolding takenIn takenBy
-taken-from call h line e b q = rw (e, q, b)

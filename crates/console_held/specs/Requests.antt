@@ -1,39 +1,18 @@
--- The requests that change what is held: what each answers, by the fields of its line, and what is held from then on.
+-- The requests that change what is held: what each answers, by what it asks, and what is held from then on.
 -- Assumes nothing.
 use Prim.Native.Nat.{ℕ}
-use mathlib.Core.Bool.{cond}
 use mathlib.Core.List.{List, [], _∷_}
-use Rattle.network.specs.Lists.{sameNumbers}
 use Rattle.network.specs.Forwarding.{Packet, Hop, delivered, moved, dropped}
 use Rattle.stream_rules.specs.declared.Reading.{Reading}
 use Rattle.topology_types.specs.declared.Topology.{Topology}
 use Rattle.stream_rules.specs.Reading.{reading}
 use Rattle.ospf.specs.Import.{importing}
 use Rattle.topology_types.specs.declared.Answer.{Answer}
-use Rattle.order_standings.specs.declared.Mode.the-variants as mode
 use Rattle.forwarding_rules.specs.Calls as said
 use Rattle.forwarding_rules.specs.Calls.{Said}
 use Rattle.forwarding_rules.specs.Lent.{Left, settingPacket, hoppingPacket}
-use Rattle.text.specs.declared.unchecked.fields.Value.{Value}
-use Rattle.text.specs.declared.unchecked.fields.Value.the-variants.{Is, Wrong}
-use Rattle.console_held.specs.declared.unchecked.asked.Aim.{Aim}
-use Rattle.console_held.specs.declared.unchecked.asked.Aim.the-variants as aim
-use Rattle.text.specs.Fields.{field}
-use Rattle.text.specs.Numbers.{number}
-use Rattle.text.specs.Hex.{byteCount, bytes}
 use Rattle.text.specs.Lines.{errorLine, refusedWord, answerLine, wordLine}
-
--- D, START, STATION and HOPS are one byte each to a call of the library: a larger number is no request
-abbrev pub mostByte : ℕ
-mostByte = 255
-
--- a line has at most 262,144 bytes
-abbrev pub mostLine : ℕ
-mostLine = 262144
-
--- so a field holds at most half as many, and no table is longer
-abbrev pub mostTable : ℕ
-mostTable = 131072
+use Rattle.console_held.specs.Questions.{Question}
 
 -- What is held: a topology, the bytes of a table and a packet, both untested.
 pub record Held : Type 0 where
@@ -106,70 +85,26 @@ hopAnswer h l = record { held = carrying h (l .packet); text = hopText (l .answe
 unfoldable pub takenAnswer : Held → Reading → Answered
 takenAnswer h r = record { held = record { topology = r .topology; table = h .table; packet = h .packet }; text = answerOf (r .answer) }
 
--- a call that takes a topology from bytes, where the field is of this count, and its bytes
-unfoldable pub takenBy : (List ℕ → Reading) → Held → Value → List ℕ → Answered
-takenBy call h (Is n) given = takenAnswer h (call given)
-takenBy call h Wrong given = noRequest h
-
--- `load-table TABLE`, where the field is of this count, and its bytes: they are held from then on, beside the topology and the packet
-unfoldable pub loadBy : Held → Value → List ℕ → Answered
-loadBy h (Is n) table = record { held = record { topology = h .topology; table = table; packet = h .packet }; text = answerLine 0 0 }
-loadBy h Wrong table = noRequest h
-
--- `shortest`
-unfoldable pub shortestWord : List ℕ
-shortestWord = 115 ∷ 104 ∷ 111 ∷ 114 ∷ 116 ∷ 101 ∷ 115 ∷ 116 ∷ []
-
--- `free`
-unfoldable pub freeWord : List ℕ
-freeWord = 102 ∷ 114 ∷ 101 ∷ 101 ∷ []
-
--- D, where the field holds this, and MODE, `shortest` or `free`
-unfoldable pub aimOf : Value → List ℕ → Aim
-aimOf (Is d) word =
-    cond (sameNumbers word shortestWord) (aim.At (record { 0 = d }) mode.ShortestPath)
-    (cond (sameNumbers word freeWord) (aim.At (record { 0 = d }) mode.Free) aim.Wrong)
-aimOf Wrong word = aim.Wrong
-
--- `load-packet STATION HOPS`, where the fields hold this: it is held from then on
-unfoldable pub loadPacketBy : Held → Value → Value → Answered
-loadPacketBy h (Is station) (Is hops) = record { held = carrying h (record { station = station; hops = hops }); text = answerLine 0 0 }
-loadPacketBy h (Is station) Wrong = noRequest h
-loadPacketBy h Wrong hops = noRequest h
-
--- `set START`, where the field holds this
-unfoldable pub settingBy : Held → Value → Answered
-settingBy h (Is u) = setAnswer h (settingPacket (h .topology) u (h .packet))
-settingBy h Wrong = noRequest h
-
--- `hop STATES`, where the field is of this count, and its bytes
-unfoldable pub hopBy : Held → Value → List ℕ → Answered
-hopBy h (Is n) states = hopAnswer h (hoppingPacket (h .topology) (h .table) states (h .packet))
-hopBy h Wrong states = noRequest h
-
--- such a call, by the field of its line
-unfoldable pub takenIn : (List ℕ → Reading) → Held → List ℕ → Answered
-takenIn call h line = takenBy call h (byteCount (field 1 line)) (bytes (field 1 line))
-
--- each request, by the fields of its line: `topology STREAM`
-unfoldable pub readIn : Held → List ℕ → Answered
-readIn h line = takenIn reading h line
+-- `topology STREAM`
+unfoldable pub readBy : Held → Question → Answered
+readBy h q = takenAnswer h (reading (q .bytes))
 
 -- `import FILE` (02, #106)
-unfoldable pub importIn : Held → List ℕ → Answered
-importIn h line = takenIn importing h line
+unfoldable pub importBy : Held → Question → Answered
+importBy h q = takenAnswer h (importing (q .bytes))
 
-unfoldable pub loadIn : Held → List ℕ → Answered
-loadIn h line = loadBy h (byteCount (field 1 line)) (bytes (field 1 line))
+-- `load-table TABLE`: the bytes are held from then on, beside the topology and the packet
+unfoldable pub loadBy : Held → Question → Answered
+loadBy h q = record { held = record { topology = h .topology; table = q .bytes; packet = h .packet }; text = answerLine 0 0 }
 
-unfoldable pub aimIn : List ℕ → Aim
-aimIn line = aimOf (number mostByte (field 1 line)) (field 2 line)
+-- `load-packet STATION HOPS`: it is held from then on
+unfoldable pub loadPacketBy : Held → Question → Answered
+loadPacketBy h q = record { held = carrying h (record { station = q .place; hops = q .hops }); text = answerLine 0 0 }
 
-unfoldable pub loadPacketIn : Held → List ℕ → Answered
-loadPacketIn h line = loadPacketBy h (number mostByte (field 1 line)) (number mostByte (field 2 line))
+-- `set START`
+unfoldable pub settingBy : Held → Question → Answered
+settingBy h q = setAnswer h (settingPacket (h .topology) (q .place) (h .packet))
 
-unfoldable pub setIn : Held → List ℕ → Answered
-setIn h line = settingBy h (number mostByte (field 1 line))
-
-unfoldable pub hopIn : Held → List ℕ → Answered
-hopIn h line = hopBy h (byteCount (field 1 line)) (bytes (field 1 line))
+-- `hop STATES`
+unfoldable pub hopBy : Held → Question → Answered
+hopBy h q = hopAnswer h (hoppingPacket (h .topology) (h .table) (q .bytes) (h .packet))

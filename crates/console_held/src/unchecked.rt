@@ -1,4 +1,6 @@
 // For callers that have tested the line and lent the buffers: each `requires` says what it asks.
 pub mod asked;
+pub mod changes;
 pub mod holding;
-pub mod packets;
+pub mod kind;
+mod packets;

@@ -26,7 +26,7 @@ use Rattle.coverage_rules.proofs.Right.{figures-right, coverage-refuses}
 use Rattle.coverage_rules.proofs.Printing.{text-length}
 use Rattle.console_held.specs.declared.unchecked.holding.Reply.the-variants.{Line}
 use Rattle.console_held.specs.Inner.{Replies, replyText, roomOf}
-use Rattle.console_replies.specs.Calls.{coverageLine, coverageOf}
+use Rattle.console_replies.specs.Calls.{coverageLine}
 
 followed : ℕ → List ℕ
 followed n = numberText n ++ (space ∷ [])
@@ -62,8 +62,8 @@ few t =
 
 -- the line but for its end, where the two texts were put into a lent buffer
 pub covered-reply : (t : Topology) {b one two : List ℕ} {q r : ℕ} → length b ≡ 65536 → coverage t .answer .number ≡ 0 →
-    Put b 0 (48 ∷ 32 ∷ 48 ∷ 32 ∷ []) q one → Put one q (fractionsText space (coverage t)) r two → Replies (coverageOf t) (Line (r - 1)) two
-unfolding coverageOf coverageLine replyText roomOf
+    Put b 0 (48 ∷ 32 ∷ 48 ∷ 32 ∷ []) q one → Put one q (fractionsText space (coverage t)) r two → Replies (coverageLine (coverage t)) (Line (r - 1)) two
+unfolding coverageLine replyText roomOf
 covered-reply t {b} {one} {two} {q} {r} long zero first then =
     let c = coverage t in
     let text = spaced (map numberText (0 ∷ 0 ∷ numbers c)) in

@@ -20,7 +20,7 @@ use Rattle.console_held.specs.Requests.{answerOf}
 use Rattle.stream_rules.specs.Stream.{bigEndian, bigEndianOn}
 use Rattle.te.specs.SubTlvs.{typeOf, lengthOf, spanOf, cutShort, numberIn, usable, caseOf, judged, subIn}
 use Rattle.te.specs.Cost.{nothing, gathered, heldToRange, bandwidthCost, maximumCost, recordCost, refusedCost, concluded, faultOf, addedSub, takenFrom, costing}
-use Rattle.console_replies.specs.Calls.{coverageLine, coverageOf, presence, costNumbers, costLine}
+use Rattle.console_replies.specs.Calls.{coverageLine, presence, costNumbers, costLine}
 use Rattle.console_replies.specs.Facts.{holds, facts, FactsHold, lineHolds, lineFacts, LinesHold}
 
 pub facts-hold : FactsHold
@@ -33,7 +33,7 @@ unfolding numbersFrom below keep every any leastBy greatestBy ahead foremost ins
     within inLimits wellLinked uncrowded isNoLink unusedZero slotted sound
     joinedOver link T-topology lone answerText answerLine lastDigits numberText spaced
     rowFor pairsTo pairsOf hasTwo coveredAmong listedFor figuresCounted nothingCounted coverage
-    overLinks fractions numbers answerOf coverageLine coverageOf holds facts
+    overLinks fractions numbers answerOf coverageLine holds facts
 facts-hold = tt
 
 pub lines-hold : LinesHold

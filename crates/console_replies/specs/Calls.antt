@@ -1,4 +1,4 @@
--- The requests that leave what is held as it is: what each answers, by the fields of its line.
+-- The requests that leave what is held as it is: what each answers, by what it asks.
 -- Assumes nothing.
 use Prim.Native.Nat.{ℕ}
 use mathlib.Core.Bool.{Bool, cond}
@@ -22,19 +22,10 @@ use Rattle.coverage_rules.specs.Coverage.{coverage}
 use Rattle.coverage_rules.specs.Printed.{numbers}
 use Rattle.te.specs.declared.LinkCost.{LinkCost}
 use Rattle.te.specs.Cost.{costing}
-use Rattle.text.specs.declared.unchecked.fields.Value.{Value}
-use Rattle.text.specs.declared.unchecked.fields.Value.the-variants.{Is, Wrong}
-use Rattle.text.specs.Fields.{field}
-use Rattle.text.specs.Numbers.{number, numberText}
-use Rattle.text.specs.Hex.{byteCount, bytes}
+use Rattle.text.specs.Numbers.{numberText}
 use Rattle.text.specs.Lines.{newline, errorLine, refusedWord, wordLine, bufferLine}
-use Rattle.console_held.specs.declared.unchecked.asked.Aim.{Aim}
-use Rattle.console_held.specs.declared.unchecked.asked.Aim.the-variants as aim
-use Rattle.console_held.specs.Requests.{mostByte, Held, answerOf, deliveredWord, droppedWord, packetLine, aimIn}
-
--- at most 65,536 for ROOM
-abbrev pub mostRoom : ℕ
-mostRoom = 65536
+use Rattle.console_held.specs.Questions.{Question}
+use Rattle.console_held.specs.Requests.{answerOf, deliveredWord, droppedWord, packetLine}
 
 -- every line that answers fits: a number of 3 digits, one of 20, two digits for each byte of ROOM, and what parts and ends them
 abbrev pub mostAnswer : ℕ
@@ -55,66 +46,10 @@ walkText (said.done (dropped-at p)) = packetLine droppedWord p
 walkText (said.done (unfinished-at p)) = errorLine
 walkText (said.refused number at) = wordLine refusedWord number at
 
--- `write ROOM`, where the field holds this
-unfoldable pub writeBy : Topology → Value → List ℕ
-writeBy t (Is room) = bufferOf (writing t (lent room))
-writeBy t Wrong = errorLine
-
--- `order D MODE ROOM`, where the fields hold this
-unfoldable pub orderBy : Topology → Aim → Value → List ℕ
-orderBy t (aim.At d m) (Is room) = bufferOf (building t (d .0) m (lent room))
-orderBy t (aim.At d m) Wrong = errorLine
-orderBy t aim.Wrong room = errorLine
-
--- `check-order D MODE ORDER`, where the fields hold this, the last a count of bytes, and these are the bytes
-unfoldable pub checkOrderBy : Topology → Aim → Value → List ℕ → List ℕ
-checkOrderBy t (aim.At d m) (Is n) order = answerOf (checking t (d .0) m order)
-checkOrderBy t (aim.At d m) Wrong order = errorLine
-checkOrderBy t aim.Wrong n order = errorLine
-
--- `fill D ORDER ROOM`, where the fields hold this, the second a count of bytes, and these are the bytes
-unfoldable pub fillBy : Topology → Value → Value → List ℕ → Value → List ℕ
-fillBy t (Is d) (Is n) order (Is room) = bufferOf (filling t d order (lent room))
-fillBy t (Is d) (Is n) order Wrong = errorLine
-fillBy t (Is d) Wrong order room = errorLine
-fillBy t Wrong n order room = errorLine
-
--- `greatest ROOM`, where the field holds this
-unfoldable pub countBy : Held → Value → List ℕ
-countBy h (Is room) = bufferOf (countingHops (h .topology) (h .table) (lent room))
-countBy h Wrong = errorLine
-
--- `listing D ROOM`, where the fields hold this
-unfoldable pub listBy : Topology → Value → Value → List ℕ
-listBy t (Is d) (Is room) = bufferOf (listing t d (lent room))
-listBy t (Is d) Wrong = errorLine
-listBy t Wrong room = errorLine
-
--- `walk START SCHEDULE`, where the fields hold this, the last a count of bytes, and these are the bytes
-unfoldable pub walkBy : Held → Value → Value → List ℕ → List ℕ
-walkBy h (Is u) (Is n) schedule = walkText (walking (h .topology) (h .table) u schedule)
-walkBy h (Is u) Wrong schedule = errorLine
-walkBy h Wrong n schedule = errorLine
-
--- `old-stream STREAM ROOM`, where the fields hold this, the first a count of bytes, and these are the bytes
-unfoldable pub oldStreamBy : Value → List ℕ → Value → List ℕ
-oldStreamBy (Is n) stream (Is room) = bufferOf (withOldLimit stream (lent room))
-oldStreamBy (Is n) stream Wrong = errorLine
-oldStreamBy Wrong stream room = errorLine
-
--- `paths START ROOM`, where the fields hold this
-unfoldable pub pathsBy : Held → Value → Value → List ℕ
-pathsBy h (Is u) (Is room) = bufferOf (writingPaths (h .topology) (h .table) u (lent room))
-pathsBy h (Is u) Wrong = errorLine
-pathsBy h Wrong room = errorLine
-
--- `coverage`: NUMBER AT, and after `0 0` the numbers in the order in which the program prints them
+-- NUMBER AT, and after `0 0` the numbers in the order in which the program prints them
 unfoldable pub coverageLine : Coverage → List ℕ
 coverageLine c =
     cond (eqb (c .answer .number) 0) (spaced (map numberText (0 ∷ 0 ∷ numbers c)) ++ (newline ∷ [])) (answerOf (c .answer))
-
-unfoldable pub coverageOf : Topology → List ℕ
-coverageOf t = coverageLine (coverage t)
 
 -- `1` or `0` for present
 unfoldable pub presence : Bool → ℕ
@@ -132,43 +67,50 @@ costNumbers c =
 unfoldable pub costLine : LinkCost → List ℕ
 costLine c = spaced (map numberText (costNumbers c)) ++ (newline ∷ [])
 
--- `te VALUE`, where the field holds this, a count of bytes, and these are the bytes
-unfoldable pub teBy : Value → List ℕ → List ℕ
-teBy (Is n) value = costLine (costing value)
-teBy Wrong value = errorLine
+-- `write ROOM`
+unfoldable pub writeBy : Topology → List ℕ → Question → List ℕ
+writeBy t table q = bufferOf (writing t (lent (q .room)))
 
--- each request, by the fields of its line
-unfoldable pub writeIn : Topology → List ℕ → List ℕ
-writeIn t line = writeBy t (number mostRoom (field 1 line))
+-- `order D MODE ROOM`
+unfoldable pub orderBy : Topology → List ℕ → Question → List ℕ
+orderBy t table q = bufferOf (building t (q .place) (q .mode) (lent (q .room)))
 
-unfoldable pub buildIn : Topology → List ℕ → List ℕ
-buildIn t line = orderBy t (aimIn line) (number mostRoom (field 3 line))
+-- `check-order D MODE ORDER`
+unfoldable pub checkOrderBy : Topology → List ℕ → Question → List ℕ
+checkOrderBy t table q = answerOf (checking t (q .place) (q .mode) (q .bytes))
 
-unfoldable pub checkOrderIn : Topology → List ℕ → List ℕ
-checkOrderIn t line = checkOrderBy t (aimIn line) (byteCount (field 3 line)) (bytes (field 3 line))
-
-unfoldable pub fillIn : Topology → List ℕ → List ℕ
-fillIn t line =
-    fillBy t (number mostByte (field 1 line)) (byteCount (field 2 line)) (bytes (field 2 line)) (number mostRoom (field 3 line))
+-- `fill D ORDER ROOM`
+unfoldable pub fillBy : Topology → List ℕ → Question → List ℕ
+fillBy t table q = bufferOf (filling t (q .place) (q .bytes) (lent (q .room)))
 
 -- `check-table`
-unfoldable pub checkTable : Held → List ℕ
-checkTable h = answerOf (tableChecking (h .topology) (h .table))
+unfoldable pub checkTableBy : Topology → List ℕ → Question → List ℕ
+checkTableBy t table q = answerOf (tableChecking t table)
 
-unfoldable pub greatestIn : Held → List ℕ → List ℕ
-greatestIn h line = countBy h (number mostRoom (field 1 line))
+-- `greatest ROOM`
+unfoldable pub countBy : Topology → List ℕ → Question → List ℕ
+countBy t table q = bufferOf (countingHops t table (lent (q .room)))
 
-unfoldable pub listIn : Topology → List ℕ → List ℕ
-listIn t line = listBy t (number mostByte (field 1 line)) (number mostRoom (field 2 line))
+-- `walk START SCHEDULE`
+unfoldable pub walkBy : Topology → List ℕ → Question → List ℕ
+walkBy t table q = walkText (walking t table (q .place) (q .bytes))
 
-unfoldable pub walkIn : Held → List ℕ → List ℕ
-walkIn h line = walkBy h (number mostByte (field 1 line)) (byteCount (field 2 line)) (bytes (field 2 line))
+-- `listing D ROOM`
+unfoldable pub listBy : Topology → List ℕ → Question → List ℕ
+listBy t table q = bufferOf (listing t (q .place) (lent (q .room)))
 
-unfoldable pub oldStreamIn : List ℕ → List ℕ
-oldStreamIn line = oldStreamBy (byteCount (field 1 line)) (bytes (field 1 line)) (number mostRoom (field 2 line))
+-- `old-stream STREAM ROOM`
+unfoldable pub oldStreamBy : Topology → List ℕ → Question → List ℕ
+oldStreamBy t table q = bufferOf (withOldLimit (q .bytes) (lent (q .room)))
 
-unfoldable pub pathsIn : Held → List ℕ → List ℕ
-pathsIn h line = pathsBy h (number mostByte (field 1 line)) (number mostRoom (field 2 line))
+-- `paths START ROOM`
+unfoldable pub pathsBy : Topology → List ℕ → Question → List ℕ
+pathsBy t table q = bufferOf (writingPaths t table (q .place) (lent (q .room)))
 
-unfoldable pub teIn : List ℕ → List ℕ
-teIn line = teBy (byteCount (field 1 line)) (bytes (field 1 line))
+-- `coverage`
+unfoldable pub coverageBy : Topology → List ℕ → Question → List ℕ
+coverageBy t table q = coverageLine (coverage t)
+
+-- `te VALUE`
+unfoldable pub teBy : Topology → List ℕ → Question → List ℕ
+teBy t table q = costLine (costing (q .bytes))

@@ -11,14 +11,15 @@ use Rattle.topology_types.specs.Topology.{zeros}
 use Rattle.order.specs.Facts.{T-topology}
 use Rattle.table.specs.Facts.{lone}
 use Rattle.te.specs.Cost.{costing}
-use Rattle.console_replies.specs.Calls.{coverageOf, costLine}
+use Rattle.coverage_rules.specs.Coverage.{coverage}
+use Rattle.console_replies.specs.Calls.{coverageLine, costLine}
 
 pub record Fact : Type 0 where
   pub topology : Topology
   pub line : List ℕ
 
 unfoldable pub holds : Fact → Bool
-holds f = sameNumbers (coverageOf (f .topology)) (f .line)
+holds f = sameNumbers (coverageLine (coverage (f .topology))) (f .line)
 
 -- `14 0` where it is refused; one router, `0 0` and its figures `0 0 0 0`; T, `0 0` and `3 6 3 3 3 3 3 3`
 unfoldable pub facts : List Fact

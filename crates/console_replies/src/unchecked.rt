@@ -1,4 +1,6 @@
 // For callers that have tested the line and lent the buffers: each `requires` says what it asks.
-pub mod calls;
+mod calls;
 mod costs;
+mod figures;
 pub mod putting;
+pub mod replies;

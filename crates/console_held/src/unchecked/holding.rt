@@ -1,22 +1,30 @@
-// What is held, what a request leaves, and the requests that read or import a topology or load a table. Bytes that a field holds stand at the start of a buffer.
-use super::asked;
+// What is held, what a request leaves, and the requests that read or import a topology or load a table.
+use super::asked::Query;
 use forwarding::Packet;
 use stream::Reading;
-use text::unchecked::fields::Value;
+use text::unchecked::lines;
 use topology::Answer;
 use topology::Topology;
 ghost use mathlib.Core.List.{List};
-ghost use mathlib.Core.Path.{_≡_};
 ghost use Prim.Native.Nat.{ℕ, _≤_};
 ghost use lib.ListN.{length};
-ghost use Rattle.console_held.specs.Requests.{mostLine, takenAnswer, readIn, importIn, loadIn};
-ghost use Rattle.console_held.specs.Inner.{TableReady, StepServed, heldIn};
+ghost use Rattle.console_held.specs.Questions.{mostTable};
+ghost use Rattle.console_held.specs.Requests.{takenAnswer, readBy, importBy, loadBy};
+ghost use Rattle.console_held.specs.Inner.{TableReady, StepServed, heldIn, questionIn};
 
 // What is held, but for the table's bytes, which stand at the start of a buffer: the topology, how many bytes the table has, and the packet.
 pub struct Holding {
     pub topology: Topology,
     pub size: usize,
     pub packet: Packet,
+}
+
+// What became of a packet.
+pub enum Fate {
+    Set,
+    Delivered,
+    Moved,
+    Dropped,
 }
 
 // That the line is no request; a call's answer; that and as many bytes, from its start, of the buffer that was lent; a line of as many bytes, which
@@ -26,10 +34,7 @@ pub enum Reply {
     Says(Answer),
     Leaves(Answer, usize),
     Line(usize),
-    Set(Packet),
-    Delivered(Packet),
-    Moved(Packet),
-    Dropped(Packet),
+    Finds(Fate, Packet),
     Refused(Answer),
 }
 
@@ -58,48 +63,20 @@ fn hold(h: Holding, reading: Reading) -> Step
 }
 
 // `topology STREAM`
-pub fn read(h: Holding, line: &[u8]) -> Step
-    requires { ⌜ length (now line) ≤ mostLine ⌝ }
-    ensures { λ r. ⌜ ((table buffer : List ℕ) → h .size ≤ length table → StepServed (readIn (heldIn h table) (now (line .entry))) r table buffer) ⌝ }
+pub fn read(h: Holding, q: Query, bytes: &[u8], table: &mut [u8]) -> Step
+    requires { ⌜ TableReady h (now table) × (length (now bytes) ≤ mostTable) ⌝ }
+    ensures { λ r. ⌜ ((buffer : List ℕ) → StepServed (readBy (heldIn h (now (table .entry))) (questionIn q (now (bytes .entry)))) r (now (table .exit)) buffer) ⌝ }
 {
-    let mut bytes = asked::room_for_bytes();
-    let Value::Is(n) = asked::bytes_in(line, 1, &mut bytes) else {
-        return Step {
-            held: h,
-            reply: Reply::Error,
-        };
-    };
-    let reading = topology::read(&bytes[..n]);
-    hold(h, reading)
-}
-
-// `import FILE`
-pub fn import(h: Holding, line: &[u8]) -> Step
-    requires { ⌜ length (now line) ≤ mostLine ⌝ }
-    ensures { λ r. ⌜ ((table buffer : List ℕ) → h .size ≤ length table → StepServed (importIn (heldIn h table) (now (line .entry))) r table buffer) ⌝ }
-{
-    let mut bytes = asked::room_for_bytes();
-    let Value::Is(n) = asked::bytes_in(line, 1, &mut bytes) else {
-        return Step {
-            held: h,
-            reply: Reply::Error,
-        };
-    };
-    let reading = ospf::import(&bytes[..n]);
+    let reading = topology::read(bytes);
     hold(h, reading)
 }
 
 // `load-table TABLE`
-pub fn load_table(h: Holding, table: &mut [u8], line: &[u8]) -> Step
-    requires { ⌜ TableReady h (now table) × (length (now line) ≤ mostLine) ⌝ }
-    ensures { λ r. ⌜ ((buffer : List ℕ) → StepServed (loadIn (heldIn h (now (table .entry))) (now (line .entry))) r (now (table .exit)) buffer) ⌝ }
+pub fn load_table(h: Holding, q: Query, bytes: &[u8], table: &mut [u8]) -> Step
+    requires { ⌜ TableReady h (now table) × (length (now bytes) ≤ mostTable) ⌝ }
+    ensures { λ r. ⌜ ((buffer : List ℕ) → StepServed (loadBy (heldIn h (now (table .entry))) (questionIn q (now (bytes .entry)))) r (now (table .exit)) buffer) ⌝ }
 {
-    let Value::Is(n) = asked::bytes_in(line, 1, table) else {
-        return Step {
-            held: h,
-            reply: Reply::Error,
-        };
-    };
+    let n = lines::put(table, 0, bytes);
     let t = h.topology;
     let packet = h.packet;
     let next = Holding {
@@ -111,4 +88,13 @@ pub fn load_table(h: Holding, table: &mut [u8], line: &[u8]) -> Step
         held: next,
         reply: Reply::Says(Answer { number: 0, at: 0 }),
     }
+}
+
+// `import FILE`
+pub fn import(h: Holding, q: Query, bytes: &[u8], table: &mut [u8]) -> Step
+    requires { ⌜ TableReady h (now table) × (length (now bytes) ≤ mostTable) ⌝ }
+    ensures { λ r. ⌜ ((buffer : List ℕ) → StepServed (importBy (heldIn h (now (table .entry))) (questionIn q (now (bytes .entry)))) r (now (table .exit)) buffer) ⌝ }
+{
+    let reading = ospf::import(bytes);
+    hold(h, reading)
 }

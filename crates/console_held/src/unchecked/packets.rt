@@ -1,21 +1,21 @@
 // The requests that load, set and move packets. The packet is lent to the call, and held from then on as the call left it.
-use super::asked;
-use super::asked::BYTE;
+use super::asked::Query;
+use super::holding::Fate;
 use super::holding::Holding;
 use super::holding::Reply;
 use super::holding::Step;
 use forwarding::Hopped;
 use forwarding::Packet;
 use forwarding::Setting;
-use text::unchecked::fields::Value;
 use topology::Answer;
-use topology::Place;
 ghost use mathlib.Core.List.{List};
 ghost use mathlib.Core.Path.{_≡_};
 ghost use Prim.Native.Nat.{ℕ, _≤_};
 ghost use lib.ListN.{length};
-ghost use Rattle.console_held.specs.Requests.{mostLine, loadPacketIn, setIn, hopIn};
-ghost use Rattle.console_held.specs.Inner.{StepServed, heldIn};
+ghost use Rattle.forwarding_rules.specs.Calls.{packetIn, settingSays, hopSays};
+ghost use Rattle.console_held.specs.Questions.{mostTable};
+ghost use Rattle.console_held.specs.Requests.{setText, hopText, loadPacketBy, settingBy, hopBy};
+ghost use Rattle.console_held.specs.Inner.{TableReady, Replies, StepServed, heldIn, questionIn};
 
 // The packet is held beside the rest.
 fn carry(h: Holding, packet: Packet, reply: Reply) -> Step
@@ -33,72 +33,65 @@ fn carry(h: Holding, packet: Packet, reply: Reply) -> Step
     }
 }
 
-// `load-packet STATION HOPS`
-pub fn load(h: Holding, line: &[u8]) -> Step
-    ensures { λ r. ⌜ ((table buffer : List ℕ) → h .size ≤ length table → StepServed (loadPacketIn (heldIn h table) (now (line .entry))) r table buffer) ⌝ }
+// What a setting says, with the packet as it is then.
+fn setting_reply(answer: Setting, packet: Packet) -> Reply
+    ensures { λ r. ⌜ ((buffer : List ℕ) → Replies (setText (settingSays answer) (packetIn packet)) r buffer) ⌝ }
 {
-    let Value::Is(u) = asked::number_in(line, 1, BYTE) else {
-        return Step {
-            held: h,
-            reply: Reply::Error,
-        };
-    };
-    let Value::Is(k) = asked::number_in(line, 2, BYTE) else {
-        return Step {
-            held: h,
-            reply: Reply::Error,
-        };
-    };
+    match answer {
+        Setting::Set(_) => Reply::Finds(Fate::Set, packet),
+        Setting::Refused(a) => Reply::Refused(a),
+    }
+}
+
+// What a hop says, with the packet as it is then.
+fn hop_reply(answer: Hopped, packet: Packet) -> Reply
+    ensures { λ r. ⌜ ((buffer : List ℕ) → Replies (hopText (hopSays answer) (packetIn packet)) r buffer) ⌝ }
+{
+    match answer {
+        Hopped::Delivered => Reply::Finds(Fate::Delivered, packet),
+        Hopped::Moved(_) => Reply::Finds(Fate::Moved, packet),
+        Hopped::Dropped => Reply::Finds(Fate::Dropped, packet),
+        Hopped::Refused(a) => Reply::Refused(a),
+    }
+}
+
+// `load-packet STATION HOPS`
+pub fn load(h: Holding, q: Query, bytes: &[u8], table: &mut [u8]) -> Step
+    requires { ⌜ TableReady h (now table) × (length (now bytes) ≤ mostTable) ⌝ }
+    ensures { λ r. ⌜ ((buffer : List ℕ) → StepServed (loadPacketBy (heldIn h (now (table .entry))) (questionIn q (now (bytes .entry)))) r (now (table .exit)) buffer) ⌝ }
+{
+    let place = q.place;
     let packet = Packet {
-        station: Place(u as u8),
-        hops: k as u8,
+        station: place,
+        hops: q.hops,
     };
     carry(h, packet, Reply::Says(Answer { number: 0, at: 0 }))
 }
 
 // `set START`
-pub fn set(h: Holding, line: &[u8]) -> Step
-    ensures { λ r. ⌜ ((table buffer : List ℕ) → h .size ≤ length table → StepServed (setIn (heldIn h table) (now (line .entry))) r table buffer) ⌝ }
+pub fn set(h: Holding, q: Query, bytes: &[u8], table: &mut [u8]) -> Step
+    requires { ⌜ TableReady h (now table) × (length (now bytes) ≤ mostTable) ⌝ }
+    ensures { λ r. ⌜ ((buffer : List ℕ) → StepServed (settingBy (heldIn h (now (table .entry))) (questionIn q (now (bytes .entry)))) r (now (table .exit)) buffer) ⌝ }
 {
-    let Value::Is(u) = asked::number_in(line, 1, BYTE) else {
-        return Step {
-            held: h,
-            reply: Reply::Error,
-        };
-    };
     let t = h.topology;
     let packet = h.packet;
-    let after = forwarding::lend_to_set(packet, t, Place(u as u8));
+    let start = q.place;
+    let after = forwarding::lend_to_set(packet, t, start);
     let left = after.packet;
     let answer = after.answer;
-    match answer {
-        Setting::Set(_) => carry(h, left, Reply::Set(left)),
-        Setting::Refused(a) => carry(h, left, Reply::Refused(a)),
-    }
+    carry(h, left, setting_reply(answer, left))
 }
 
 // `hop STATES`
-pub fn hop(h: Holding, table: &[u8], line: &[u8]) -> Step
-    requires { ⌜ (h .size ≤ length (now table)) × (length (now line) ≤ mostLine) ⌝ }
-    ensures { λ r. ⌜ ((buffer : List ℕ) → StepServed (hopIn (heldIn h (now (table .entry))) (now (line .entry))) r (now (table .entry)) buffer) ⌝ }
+pub fn hop(h: Holding, q: Query, bytes: &[u8], table: &mut [u8]) -> Step
+    requires { ⌜ TableReady h (now table) × (length (now bytes) ≤ mostTable) ⌝ }
+    ensures { λ r. ⌜ ((buffer : List ℕ) → StepServed (hopBy (heldIn h (now (table .entry))) (questionIn q (now (bytes .entry)))) r (now (table .exit)) buffer) ⌝ }
 {
-    let mut bytes = asked::room_for_bytes();
-    let Value::Is(n) = asked::bytes_in(line, 1, &mut bytes) else {
-        return Step {
-            held: h,
-            reply: Reply::Error,
-        };
-    };
     let t = h.topology;
-    let size = h.size;
     let packet = h.packet;
-    let after = forwarding::lend_to_hop(packet, t, &table[..size], &bytes[..n]);
+    let n = h.size;
+    let after = forwarding::lend_to_hop(packet, t, &table[..n], bytes);
     let left = after.packet;
     let answer = after.answer;
-    match answer {
-        Hopped::Delivered => carry(h, left, Reply::Delivered(left)),
-        Hopped::Moved(_) => carry(h, left, Reply::Moved(left)),
-        Hopped::Dropped => carry(h, left, Reply::Dropped(left)),
-        Hopped::Refused(a) => carry(h, left, Reply::Refused(a)),
-    }
+    carry(h, left, hop_reply(answer, left))
 }

@@ -1,171 +1,85 @@
--- Each request has its function, and where it changes nothing the reply is all of it.
+-- A request is done by the function of its kind, and where it changes nothing the reply is all of it.
 -- Assumes nothing.
-use mathlib.Core.Path.{_≡_, sym, _∙_}
+use Prim.Native.Nat.{_≤_}
+use mathlib.Core.Path.{_≡_, sym}
+use native.Mathlib.Omega.{arith}
+use borrow.Author.Needs.{needs}
+use lib.ListN.{length}
+use lib.Seq.{length-take-le}
+use Rattle.console_held.specs.Questions.{mostTable, mostRoom}
 use Rattle.console_held.specs.Inner.{heldIn}
 use Rattle.console_held.proofs.Replying.{kept-step, error-step}
-use Rattle.console.specs.declared.answers.Request.{Request}
-use Rattle.console.specs.Answers.{requestIn, responseTo, answerTo}
-use borrow.Author.Needs.{needs}
+use Rattle.console.specs.Answers.{kept}
+use Rattle.console.specs.Inner.{answerTo, inquiryAnswer, countAsked, roomAsked}
+use Rattle.console.proofs.Forms.{ready-so}
 use Rattle.console.proofs.answers.step.Statement.{statement}
 use Rattle.console.proofs.answers.step.Tie as tie
 
--- which request the line is
-asked : (c : tie.After-request-in) {r : Request} → c .request-in .result ≡ r → requestIn (c .before .before .before .before .before .args .line .now) ≡ r
-asked c e = sym (c .request-in .ensures) ∙ e
+-- what is asked keeps to its limits
+module _ (c : tie.After-known-told) where
+  abbrev entry : tie.Start
+  entry = c .before .before .before .before .before .before
+
+  within : c .before .inquiry .given .0 .1 .0 .count ≤ length (entry .args .bytes .now)
+  unfolding countAsked
+  within = ready-so (c .before .inquiry .given .1) (entry .pre .0) .within
+
+  few : c .before .inquiry .given .0 .1 .0 .count ≤ mostTable
+  unfolding countAsked
+  few = ready-so (c .before .inquiry .given .1) (entry .pre .0) .few
+
+  room : c .before .inquiry .given .0 .1 .0 .room ≤ mostRoom
+  unfolding roomAsked
+  room = ready-so (c .before .inquiry .given .1) (entry .pre .0) .room
 
 returns : tie.Need-returns
-unfolding responseTo answerTo
-returns c = rw (asked (c .before .before .before) (c .before .enum-told .given .1)) (c .read .ensures _ _ (c .before .before .before .before .before .before .before .before .pre .0 .size))
+unfolding inquiryAnswer
+returns c = rw (c .enum-told .given .1) (error-step (c .before .before .before .before .before .pre .1 .size))
+
+change-by-requires : tie.Need-change-by-requires
+change-by-requires c κs =
+    let known = c .before .before .before .before .before in
+    let size = length-take-le (known .before .inquiry .given .0 .1 .0 .count) (entry known .args .bytes .now) (within known) in
+    (entry known .pre .1, omega (arith, few known))
 
 returns-2 : tie.Need-returns-2
-unfolding responseTo answerTo
-returns-2 c = rw (asked (c .before .before .before) (c .before .enum-told2 .given .1)) (c .import .ensures _ _ (c .before .before .before .before .before .before .before .before .pre .0 .size))
+unfolding inquiryAnswer answerTo
+returns-2 c =
+    let told = c .before .before .before .before .before in
+    rw (told .before .before .before .before .inquiry .given .1, told .before .request .given .1) (c .before .before .change-by .ensures _)
 
 returns-3 : tie.Need-returns-3
-unfolding responseTo answerTo
-returns-3 c = rw (asked (c .before .before .before .before .before .before) (c .before .before .before .before .enum-told3 .given .1)) (c .before .before .load-table .ensures _)
+unfolding inquiryAnswer answerTo kept heldIn
+returns-3 c =
+    let told = c .before .before .before .before .before .before .before in
+    let known = told .before .before .before in
+    rw (known .before .inquiry .given .1, told .before .request2 .given .1) (kept-step (entry known .pre .1 .size) (c .before .before .reply-by .ensures))
 
 returns-4 : tie.Need-returns-4
-unfolding responseTo answerTo
-returns-4 c = rw (asked (c .before .before .before) (c .before .enum-told4 .given .1)) (c .load .ensures _ _ (c .before .before .before .before .before .before .before .before .pre .0 .size))
-
-returns-5 : tie.Need-returns-5
-unfolding responseTo answerTo
-returns-5 c = rw (asked (c .before .before .before) (c .before .enum-told5 .given .1)) (c .set .ensures _ _ (c .before .before .before .before .before .before .before .before .pre .0 .size))
-
-returns-6 : tie.Need-returns-6
-unfolding responseTo answerTo
-returns-6 c = rw (asked (c .before .before .before .before) (c .before .before .enum-told6 .given .1)) (c .hop .ensures _)
-
-returns-7 : tie.Need-returns-7
-unfolding responseTo answerTo heldIn
-returns-7 c = rw (asked (c .before .before .before .before .before .before) (c .before .before .before .before .enum-told7 .given .1)) (kept-step (c .before .before .before .before .before .before .before .before .before .before .before .pre .0 .size) (c .before .before .write .ensures))
-
-returns-8 : tie.Need-returns-8
-unfolding responseTo answerTo heldIn
-returns-8 c = rw (asked (c .before .before .before .before .before .before) (c .before .before .before .before .enum-told8 .given .1)) (kept-step (c .before .before .before .before .before .before .before .before .before .before .before .pre .0 .size) (c .before .before .build-order .ensures))
-
-returns-9 : tie.Need-returns-9
-unfolding responseTo answerTo heldIn
-returns-9 c = rw (asked (c .before .before .before) (c .before .enum-told9 .given .1)) (kept-step (c .before .before .before .before .before .before .before .before .pre .0 .size) (c .check-order .ensures _))
-
-returns-10 : tie.Need-returns-10
-unfolding responseTo answerTo heldIn
-returns-10 c = rw (asked (c .before .before .before .before .before .before) (c .before .before .before .before .enum-told10 .given .1)) (kept-step (c .before .before .before .before .before .before .before .before .before .before .before .pre .0 .size) (c .before .before .fill .ensures))
-
-returns-11 : tie.Need-returns-11
-unfolding responseTo answerTo heldIn
-returns-11 c = rw (asked (c .before .before .before .before) (c .before .before .enum-told11 .given .1)) (kept-step (c .before .before .before .before .before .before .before .before .before .pre .0 .size) (c .check-table .ensures _))
-
-returns-12 : tie.Need-returns-12
-unfolding responseTo answerTo heldIn
-returns-12 c = rw (asked (c .before .before .before .before .before .before .before) (c .before .before .before .before .before .enum-told12 .given .1)) (kept-step (c .before .before .before .before .before .before .before .before .before .before .before .before .pre .0 .size) (c .before .before .count-hops .ensures))
-
-returns-13 : tie.Need-returns-13
-unfolding responseTo answerTo heldIn
-returns-13 c = rw (asked (c .before .before .before .before) (c .before .before .enum-told13 .given .1)) (kept-step (c .before .before .before .before .before .before .before .before .before .pre .0 .size) (c .walk .ensures _))
-
-returns-14 : tie.Need-returns-14
-unfolding responseTo answerTo heldIn
-returns-14 c = rw (asked (c .before .before .before .before .before .before) (c .before .before .before .before .enum-told14 .given .1)) (kept-step (c .before .before .before .before .before .before .before .before .before .before .before .pre .0 .size) (c .before .before .list .ensures))
-
-returns-15 : tie.Need-returns-15
-unfolding responseTo answerTo heldIn
-returns-15 c = rw (asked (c .before .before .before .before .before .before) (c .before .before .before .before .enum-told15 .given .1)) (kept-step (c .before .before .before .before .before .before .before .before .before .before .before .pre .0 .size) (c .before .before .prefix-limit .ensures))
-
-returns-16 : tie.Need-returns-16
-unfolding responseTo answerTo heldIn
-returns-16 c = rw (asked (c .before .before .before .before .before .before) (c .before .before .before .before .enum-told16 .given .1)) (kept-step (c .before .before .before .before .before .before .before .before .before .before .before .pre .0 .size) (c .before .before .cover .ensures))
-
-returns-17 : tie.Need-returns-17
-unfolding responseTo answerTo heldIn
-returns-17 c = rw (asked (c .before .before .before .before .before .before .before) (c .before .before .before .before .before .enum-told17 .given .1)) (kept-step (c .before .before .before .before .before .before .before .before .before .before .before .before .pre .0 .size) (c .before .before .write-paths .ensures))
-
-returns-18 : tie.Need-returns-18
-unfolding responseTo answerTo heldIn
-returns-18 c =
-    let told = c .before .before .before .before in
-    let begun = told .before .before in
-    rw (asked begun (told .enum-told18 .given .1))
-    (kept-step (begun .before .before .before .before .before .pre .0 .size) (c .before .before .link-cost .ensures))
-
-returns-19 : tie.Need-returns-19
-unfolding responseTo answerTo
-returns-19 c = rw (asked (c .before .before) (c .enum-told19 .given .1)) (error-step (c .before .before .before .before .before .before .before .pre .0 .size))
+unfolding inquiryAnswer answerTo
+returns-4 c =
+    let known = c .before .before in
+    rw (known .before .inquiry .given .1, c .enum-told2 .given .1) (error-step (entry known .pre .1 .size))
 
 pub step-spec : {M : Type 1} → statement M
 step-spec =
     tie.close
     (tie.spec
-    (λ c κs. search needs)
     (λ c. search needs)
-    (λ c κs. search needs)
-    (λ c. search needs)
-    (λ c κs. search needs)
-    (λ c. search needs)
-    (λ c κs. search needs)
-    (λ c. search needs)
-    (λ c κs. search needs)
-    (λ c. search needs)
-    (λ c κs. search needs)
-    (λ c. search needs)
-    (λ c κs. search needs)
-    (λ c. search needs)
-    (λ c κs. search needs)
-    (λ c. search needs)
-    (λ c κs. search needs)
-    (λ c. search needs)
-    (λ c κs. search needs)
-    (λ c. search needs)
-    (λ c κs. search needs)
-    (λ c. search needs)
-    (λ c κs. search needs)
-    (λ c. search needs)
-    (λ c κs. search needs)
-    (λ c. search needs)
-    (λ c κs. search needs)
-    (λ c. search needs)
-    (λ c κs. search needs)
-    (λ c. search needs)
-    (λ c κs. search needs)
-    (λ c. search needs)
-    (λ c κs. search needs)
-    (λ c. search needs)
-    (λ c κs. search needs)
-    (λ c. search needs)
-    (λ c κs. search needs)
     (λ c. search needs)
     returns
+    (λ c. search needs)
+    (λ c. sym (length-take-le _ _ (within (c .before .before .before .before))))
+    change-by-requires
+    (λ c. search needs)
+    (λ c. sym (length-take-le _ _ (within (c .before .before .before .before .before))))
+    (λ c. search needs)
+    (λ c. sym (length-take-le _ _ (entry (c .before .before .before .before .before .before) .pre .1 .size)))
+    (λ c κs. let known = c .before .before .before .before .before .before .before in record { room = room known; filled = entry known .pre .2 })
+    (λ c. search needs)
+    (λ c. search needs)
     returns-2
     (λ c. search needs)
+    (λ c. search needs)
     returns-3
-    returns-4
-    returns-5
-    (λ c. search needs)
-    returns-6
-    (λ c. search needs)
-    returns-7
-    (λ c. search needs)
-    returns-8
-    returns-9
-    (λ c. search needs)
-    returns-10
-    (λ c. search needs)
-    returns-11
-    (λ c. search needs)
-    (λ c. search needs)
-    returns-12
-    (λ c. search needs)
-    returns-13
-    (λ c. search needs)
-    returns-14
-    (λ c. search needs)
-    returns-15
-    (λ c. search needs)
-    returns-16
-    (λ c. search needs)
-    (λ c. search needs)
-    returns-17
-    (λ c. search needs)
-    returns-18
-    returns-19)
+    returns-4)

@@ -1,47 +1,14 @@
--- The field's bytes stand at the start of the buffer, and are read from there; the table stays.
+-- The bytes are read, and the table stays.
 -- Assumes nothing.
-use mathlib.Core.Path.{_≡_, sym, _∙_}
-use lib.Seq.{length-take-le}
-use Rattle.text.specs.declared.unchecked.fields.Value.the-variants.{Is}
-use Rattle.text.specs.Fields.{field}
-use Rattle.text.specs.Hex.{byteCount}
-use Rattle.stream_rules.specs.Reading.{reading}
-use Rattle.console_held.specs.Requests.{readIn}
-use Rattle.console_held.proofs.Replying.{none-taken, taken-from}
 use borrow.Author.Needs.{needs}
+use Rattle.console_held.specs.Requests.{readBy}
+use Rattle.console_held.specs.Inner.{questionIn}
 use Rattle.console_held.proofs.unchecked.holding.read.Statement.{statement}
 use Rattle.console_held.proofs.unchecked.holding.read.Tie as tie
 
--- the field holds so many bytes
-held : (c : tie.After-known-told) → byteCount (field 1 (c .before .before .before .before .before .before .before .before .args .line .now)) ≡ Is (c .before .n .given .0 .0)
-held c = sym (c .before .before .before .before .bytes-in .ensures .counted) ∙ c .before .n .given .1
-
 returns : tie.Need-returns
-unfolding readIn
-returns c table buffer h = none-taken reading _ (sym (c .before .before .before .bytes-in .ensures .counted) ∙ c .enum-told .given .1) h
-
-array-share-prefix-bytes : tie.Need-array-share-prefix-bytes
-array-share-prefix-bytes c = c .before .before .before .before .bytes-in .ensures .start _ (held c) .1
-
-returns-2 : tie.Need-returns-2
-unfolding readIn
-returns-2 c table buffer h =
-    let known = c .before .before .before in
-    let start = known .before .before .before .before .bytes-in .ensures .start _ (held known) .0 in
-    rw (taken-from reading _ _ (held known) start (c .before .read .ensures)) (c .hold .ensures table buffer h)
+unfolding readBy questionIn
+returns c buffer = rw (← c .before .read .ensures) (c .hold .ensures _ _ (c .before .before .before .before .pre .0 .size))
 
 pub read-spec : {M : Type 1} → statement M
-read-spec =
-    tie.close
-    (tie.spec
-    (λ c κs. search needs)
-    (λ c. search needs)
-    (λ c κs. search needs)
-    (λ c. search needs)
-    (λ c. search needs)
-    returns
-    array-share-prefix-bytes
-    (λ c. sym (length-take-le _ _ (array-share-prefix-bytes (c .before))))
-    (λ c κs. search needs)
-    (λ c κs. search needs)
-    returns-2)
+read-spec = tie.close (tie.spec (λ c κs. search needs) (λ c κs. search needs) returns)

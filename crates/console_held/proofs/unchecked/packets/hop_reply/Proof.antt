@@ -1,0 +1,24 @@
+-- Each answer has its reply.
+-- Assumes nothing.
+use mathlib.Core.Path.{refl}
+use borrow.Author.Needs.{needs}
+use Rattle.forwarding_rules.specs.Calls.{hopSays}
+use Rattle.console_held.specs.Requests.{hopText}
+use Rattle.console_held.specs.Inner.{fateWord, replyText, roomOf}
+use Rattle.console_held.proofs.Replying.{plain-reply}
+use Rattle.console_held.proofs.unchecked.packets.hop_reply.Statement.{statement}
+use Rattle.console_held.proofs.unchecked.packets.hop_reply.Tie as tie
+
+pub hop-reply-spec : {M : Type 1} → statement M
+unfolding hopText hopSays fateWord replyText roomOf
+hop-reply-spec =
+    tie.close
+    (tie.spec
+    (λ c. search needs)
+    (λ c. search needs)
+    (λ c. search needs)
+    (λ c. search needs)
+    (λ c buffer. rw (c .enum-told .given .1) (plain-reply refl))
+    (λ c buffer. rw (c .enum-told2 .given .1) (plain-reply refl))
+    (λ c buffer. rw (c .enum-told3 .given .1) (plain-reply refl))
+    (λ c buffer. rw (c .before .answer .given .1) (plain-reply refl)))
