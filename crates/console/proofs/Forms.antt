@@ -20,8 +20,8 @@ use Rattle.console_held.specs.Inner.{questionSaid, countSaid, roomSaid, Underst
 use Rattle.console.specs.declared.requests.Request.{Request}
 use Rattle.console.specs.declared.requests.Inquiry.{Inquiry}
 use Rattle.console.specs.declared.requests.Inquiry.the-variants.{Asks, Nothing}
-use Rattle.console.specs.Answers.{Form, form, forms, noForm, formed, answerAsked, responseTo, answerHeld}
-use Rattle.console.specs.Inner.{answerTo, formAt, firstOf, inquiryAnswer, countAsked, roomAsked, InquiryReady, Inquired}
+use Rattle.console.specs.Answers.{Form, form, mostForms, forms, noForm, formFor, answerAsked, responseTo, answerHeld}
+use Rattle.console.specs.Inner.{answerTo, formAt, formNumber, inquiryAnswer, countAsked, roomAsked, InquiryReady, Inquired}
 
 same-list : (s t : List ℕ) → sameNumbers s t ≡ true → s ≡ t
 unfolding sameNumbers
@@ -39,23 +39,23 @@ textsFit words kinds k [] = sameNumbers (field k kinds) []
 textsFit words kinds k (f ∷ fs) = sameNumbers (field k words) (f .word) && (sameNumbers (field k kinds) (f .kinds) && textsFit words kinds (suc k) fs)
 
 -- the number of the first form that a line has
-number : List Form → List ℕ → ℕ
-number [] line = 0
-number (f ∷ fs) line = cond (asks (f .word) (length (f .kinds)) line) 0 (suc (number fs line))
+standsAt : List Form → List ℕ → ℕ
+standsAt [] line = 0
+standsAt (f ∷ fs) line = cond (asks (f .word) (length (f .kinds)) line) 0 (suc (standsAt fs line))
 
-by-number : (fs : List Form) (line : List ℕ) → formed fs line ≡ formAt (number fs line) fs
-unfolding formed formAt number
-by-number [] line = refl
-by-number (f ∷ fs) line = cases (asks (f .word) (length (f .kinds)) line) (by-number fs line)
+by-standing : (fs : List Form) (line : List ℕ) → formFor fs line ≡ formAt (standsAt fs line) fs
+unfolding formFor formAt standsAt
+by-standing [] line = refl
+by-standing (f ∷ fs) line = cases (asks (f .word) (length (f .kinds)) line) (by-standing fs line)
   where
-    cases : (b : Bool) → formed fs line ≡ formAt (number fs line) fs → cond b f (formed fs line) ≡ formAt (cond b 0 (suc (number fs line))) (f ∷ fs)
+    cases : (b : Bool) → formFor fs line ≡ formAt (standsAt fs line) fs → cond b f (formFor fs line) ≡ formAt (cond b 0 (suc (standsAt fs line))) (f ∷ fs)
     cases true e = refl
     cases false e = e
 
-few : (fs : List Form) (line : List ℕ) → number fs line ≤ length fs
-unfolding number
+few : (fs : List Form) (line : List ℕ) → standsAt fs line ≤ length fs
+unfolding standsAt
 few [] line = omega arith
-few (f ∷ fs) line = cases (asks (f .word) (length (f .kinds)) line) (number fs line) (few fs line)
+few (f ∷ fs) line = cases (asks (f .word) (length (f .kinds)) line) (standsAt fs line) (few fs line)
   where
     cases : (b : Bool) (n : ℕ) → n ≤ length fs → cond b 0 (suc n) ≤ suc (length fs)
     cases true n h = omega arith
@@ -78,12 +78,12 @@ module _ (words kinds : List ℕ) where
     others : textsFit words kinds (suc k) fs ≡ true
     others = and-right (sameNumbers (field k kinds) (f .kinds)) (textsFit words kinds (suc k) fs) behind
 
-  in-texts : (line : List ℕ) (fs : List Form) (k : ℕ) → textsFit words kinds k fs ≡ true → firstOf words kinds line (length fs) k ≡ k + number fs line
-  unfolding firstOf number
+  in-texts : (line : List ℕ) (fs : List Form) (k : ℕ) → textsFit words kinds k fs ≡ true → formNumber words kinds line (length fs) k ≡ k + standsAt fs line
+  unfolding formNumber standsAt
   in-texts line [] k t = omega arith
   in-texts line (f ∷ fs) k t =
       rw (its-word k f fs t, its-kinds k f fs t)
-      (cases (asks (f .word) (length (f .kinds)) line) (firstOf words kinds line (length fs) (suc k)) (number fs line) (in-texts line fs (suc k) (others k f fs t)))
+      (cases (asks (f .word) (length (f .kinds)) line) (formNumber words kinds line (length fs) (suc k)) (standsAt fs line) (in-texts line fs (suc k) (others k f fs t)))
     where
       cases : (b : Bool) (m n : ℕ) → m ≡ suc k + n → cond b k m ≡ k + cond b 0 (suc n)
       cases true m n e = omega arith
@@ -115,19 +115,19 @@ unfolding textsFit sameNumbers field before after formWords formKinds parted for
 texts-fit = refl
 
 -- the first form by these texts
-module _ (line words kinds : List ℕ) {n : ℕ} (e : n ≡ firstOf words kinds line 18 0) (w : words ≡ formWords) (k : kinds ≡ formKinds) where
-  numbered : n ≡ number forms line
+module _ (line words kinds : List ℕ) {n : ℕ} (e : n ≡ formNumber words kinds line mostForms 0) (w : words ≡ formWords) (k : kinds ≡ formKinds) where
+  numbered : n ≡ standsAt forms line
   unfolding forms
   numbered = let d = rw (w, k) at e in omega (arith, d, in-texts formWords formKinds line forms 0 texts-fit)
 
-  pub first-form : formed forms line ≡ formAt n forms
-  first-form = by-number forms line ∙ ap (λ m. formAt m forms) (sym numbered)
+  pub first-form : formFor forms line ≡ formAt n forms
+  first-form = by-standing forms line ∙ ap (λ m. formAt m forms) (sym numbered)
 
-  pub first-kinds : {s : List ℕ} → s ≡ field n kinds → s ≡ formed forms line .kinds
+  pub first-kinds : {s : List ℕ} → s ≡ field n kinds → s ≡ formFor forms line .kinds
   first-kinds d =
-      let o : n ≡ 0 + number forms line = omega (arith, numbered) in
-      d ∙ ap (field n) k ∙ ap (λ m. field m formKinds) o ∙ kinds-at formWords formKinds forms 0 (number forms line) texts-fit (few forms line) ∙
-      ap (λ f. f .kinds) (sym (by-number forms line))
+      let o : n ≡ 0 + standsAt forms line = omega (arith, numbered) in
+      d ∙ ap (field n) k ∙ ap (λ m. field m formKinds) o ∙ kinds-at formWords formKinds forms 0 (standsAt forms line) texts-fit (few forms line) ∙
+      ap (λ f. f .kinds) (sym (by-standing forms line))
 
 -- what is understood by the same kinds
 pub understood-so : (line : List ℕ) {a b : List ℕ} {r s : Queried} {buffer : List ℕ} → a ≡ b → r ≡ s → Understood (questionOf a line) r buffer →

@@ -14,18 +14,17 @@ use Rattle.console.specs.declared.requests.Inquiry.the-variants.{Asks, N
 use Rattle.console.specs.declared.requests.Request.{Request}
 use Rattle.console.specs.declared.requests.Request.the-variants.{Changes, Replies, Unknown}
 use Rattle.console.specs.declared.answers.Turn.{Turn}
-use Rattle.console_held.specs.Questions.{mostLine, mostTable, mostRoom}
-use Rattle.console_held.specs.Questions.{Question}
+use Rattle.console_held.specs.Questions.{mostLine, mostTable, mostRoom, Question}
 use Rattle.console_held.specs.Requests.{Held, Answered, noRequest}
-use Rattle.console_replies.specs.Inner.{replyTo}
 use Rattle.console_held.specs.Inner.{heldIn, questionIn, changeTo}
-use Rattle.console.specs.Answers.{Form, noForm, kept, answerHeld}
+use Rattle.console_replies.specs.Inner.{replyTo}
+use Rattle.console.specs.Answers.{Form, noForm, leaving, answerHeld}
 use Rattle.console.specs.Session.{Line, some, tooLong, State, sessionAfter}
 
 -- what each request answers, with what is held and what is asked
 unfoldable pub answerTo : Request → Held → Question → Answered
 answerTo (Changes c) = changeTo c
-answerTo (Replies c) = kept (replyTo c)
+answerTo (Replies c) = leaving (replyTo c)
 answerTo Unknown = λ h q. noRequest h
 
 -- the form with this number, from 0
@@ -35,9 +34,9 @@ formAt zero (f ∷ fs) = f
 formAt (suc k) (f ∷ fs) = formAt k fs
 
 -- the number of the first form that a line has, of so many from k on, whose words and kinds are fields of two texts
-unfoldable pub firstOf : List ℕ → List ℕ → List ℕ → ℕ → ℕ → ℕ
-firstOf words kinds line zero k = k
-firstOf words kinds line (suc left) k = cond (asks (field k words) (length (field k kinds)) line) k (firstOf words kinds line left (suc k))
+unfoldable pub formNumber : List ℕ → List ℕ → List ℕ → ℕ → ℕ → ℕ
+formNumber words kinds line zero k = k
+formNumber words kinds line (suc left) k = cond (asks (field k words) (length (field k kinds)) line) k (formNumber words kinds line left (suc k))
 
 -- what is asked, where the bytes are the start of a buffer, answers so
 unfoldable pub inquiryAnswer : Inquiry → List ℕ → Held → Answered

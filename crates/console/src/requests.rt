@@ -9,8 +9,8 @@ ghost use mathlib.Core.Path.{_≡_};
 ghost use Prim.Native.Nat.{_≤_};
 ghost use lib.ListN.{length};
 ghost use Rattle.console_held.specs.Questions.{mostLine, mostTable};
-ghost use Rattle.console.specs.Answers.{forms, responseTo, answerHeld};
-ghost use Rattle.console.specs.Inner.{answerTo, formAt, firstOf, Inquired};
+ghost use Rattle.console.specs.Answers.{mostForms, forms, responseTo, answerHeld};
+ghost use Rattle.console.specs.Inner.{answerTo, formAt, formNumber, Inquired};
 
 // Those that change what is held, and those that leave it.
 pub enum Request {
@@ -25,12 +25,12 @@ pub enum Inquiry {
     Nothing,
 }
 
-// How many forms of lines there are.
+// How many forms of lines there are, as in specs/Answers.antt.
 const FORMS: usize = 18;
 
-// The number of the first form that the line has, FORMS if it has none: its word and, by the kinds of its fields, their number are fields of two texts.
+// The number of the first form that the line has, FORMS if it has none: the words are the fields of a text, and so are the kinds, a letter each.
 fn form_in(line: &[u8], words: &[u8], kinds: &[u8]) -> usize
-    ensures { λ r. ⌜ r ≡ firstOf (now (words .entry)) (now (kinds .entry)) (now (line .entry)) 18 0 ⌝ }
+    ensures { λ r. ⌜ r ≡ formNumber (now (words .entry)) (now (kinds .entry)) (now (line .entry)) mostForms 0 ⌝ }
 {
     let mut k: usize = 0;
     while k < FORMS {

@@ -9,7 +9,7 @@ use lib.Seq.{length-take-le}
 use Rattle.console_held.specs.Questions.{mostTable, mostRoom}
 use Rattle.console_held.specs.Inner.{heldIn}
 use Rattle.console_held.proofs.Replying.{kept-step, error-step}
-use Rattle.console.specs.Answers.{kept}
+use Rattle.console.specs.Answers.{leaving}
 use Rattle.console.specs.Inner.{answerTo, inquiryAnswer, countAsked, roomAsked}
 use Rattle.console.proofs.Forms.{ready-so}
 use Rattle.console.proofs.answers.step.Statement.{statement}
@@ -49,7 +49,7 @@ returns-2 c =
     rw (told .before .before .before .before .inquiry .given .1, told .before .request .given .1) (c .before .before .change-by .ensures _)
 
 returns-3 : tie.Need-returns-3
-unfolding inquiryAnswer answerTo kept heldIn
+unfolding inquiryAnswer answerTo leaving heldIn
 returns-3 c =
     let told = c .before .before .before .before .before .before .before in
     let known = told .before .before .before in

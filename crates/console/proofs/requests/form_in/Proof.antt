@@ -9,27 +9,28 @@ use native.Mathlib.Numerals.{add-one}
 use borrow.Author.Needs.{needs}
 use lib.ListN.{length}
 use Rattle.text.specs.Fields.{field, asks}
-use Rattle.console.specs.Inner.{firstOf}
+use Rattle.console.specs.Answers.{mostForms}
+use Rattle.console.specs.Inner.{formNumber}
 use Rattle.console.proofs.requests.form_in.Statement.{statement}
 use Rattle.console.proofs.requests.form_in.Tie as tie
 
 abbrev Inv-loop : tie.InvT-loop
-Inv-loop line words kinds k₀ k = (k ≤ 18) × (firstOf words kinds line 18 0 ≡ firstOf words kinds line (18 - k) k)
+Inv-loop line words kinds k₀ k = (k ≤ mostForms) × (formNumber words kinds line mostForms 0 ≡ formNumber words kinds line (mostForms - k) k)
 
 abbrev μ-loop : tie.MeasureT-loop
-μ-loop line words kinds k₀ k = 18 - k
+μ-loop line words kinds k₀ k = mostForms - k
 
 -- the first of those that are left is tried
-tried : (words kinds line : List ℕ) (k : ℕ) {n : ℕ} {word sorts : List ℕ} {has : Bool} → n ≡ firstOf words kinds line (18 - k) k → k < 18 →
-    word ≡ field k words → sorts ≡ field k kinds → has ≡ asks word (length sorts) line → n ≡ cond has k (firstOf words kinds line (18 - (k + 1)) (k + 1))
-unfolding firstOf
+tried : (words kinds line : List ℕ) (k : ℕ) {n : ℕ} {word sorts : List ℕ} {has : Bool} → n ≡ formNumber words kinds line (mostForms - k) k → k < mostForms →
+    word ≡ field k words → sorts ≡ field k kinds → has ≡ asks word (length sorts) line → n ≡ cond has k (formNumber words kinds line (mostForms - (k + 1)) (k + 1))
+unfolding formNumber
 tried words kinds line k e h w s q =
-    let more : 18 - k ≡ suc (18 - (k + 1)) = omega arith in
+    let more : mostForms - k ≡ suc (mostForms - (k + 1)) = omega arith in
     e ∙ rw (more, add-one, q, w, s)
 
 -- none is left
-finished : (words kinds line : List ℕ) (k : ℕ) {n : ℕ} → n ≡ firstOf words kinds line (18 - k) k → k ≡ 18 → n ≡ k
-unfolding firstOf
+finished : (words kinds line : List ℕ) (k : ℕ) {n : ℕ} → n ≡ formNumber words kinds line (mostForms - k) k → k ≡ mostForms → n ≡ k
+unfolding formNumber
 finished words kinds line k e h = e ∙ rw h
 
 loop-holds : tie.Need-loop-holds Inv-loop μ-loop
@@ -38,8 +39,8 @@ loop-holds c = (omega arith, refl)
 -- in a turn
 module _ (c : tie.After-asks Inv-loop μ-loop) where
   next : let l = c .before .before .before .before .loop in let a = c .before .before .before .before .before .before .before .before .args in
-      firstOf (a .words .now) (a .kinds .now) (a .line .now) 18 0 ≡
-      cond (c .asks .result) (l .k) (firstOf (a .words .now) (a .kinds .now) (a .line .now) (18 - (l .k + 1)) (l .k + 1))
+      formNumber (a .words .now) (a .kinds .now) (a .line .now) mostForms 0 ≡
+      cond (c .asks .result) (l .k) (formNumber (a .words .now) (a .kinds .now) (a .line .now) (mostForms - (l .k + 1)) (l .k + 1))
   next =
       tried _ _ _ _ (c .before .before .before .before .loop .inv .1) (omega arith) (c .before .field2 .ensures)
       (c .before .before .field .ensures) (c .asks .ensures)

@@ -5,7 +5,7 @@ use mathlib.Core.List.{List, [], _∷_}
 use mathlib.Core.Path.{_≡_, refl}
 use native.Mathlib.Omega.{arith}
 use lib.ListN.{length}
-use Rattle.console.specs.Answers.{Form, form, noForm, forms}
+use Rattle.console.specs.Answers.{Form, form, noForm, mostForms, forms}
 use Rattle.console_held.specs.Inner.{changeTo}
 use Rattle.console_replies.specs.Inner.{replyTo}
 use Rattle.console.specs.Inner.{answerTo, formAt}
@@ -28,12 +28,8 @@ unfolding Other
 other zero k o = omega arith
 other (suc n) k o = omega (arith, other n k (o .0), o .1)
 
-none-left : tie.Need-returns-19
-unfolding answerTo forms form noForm Other
-none-left c = rw (past forms (c .before .args .k) (other 18 (c .before .args .k) (c .match .rest)))
-
 pub request-of-spec : {M : Type 1} → statement M
-unfolding changeTo replyTo answerTo formAt forms form
+unfolding changeTo replyTo answerTo formAt forms form noForm Other
 request-of-spec =
     tie.close
     (tie.spec
@@ -55,4 +51,4 @@ request-of-spec =
     (λ c. rw (c .match .keys16))
     (λ c. rw (c .match .keys17))
     (λ c. rw (c .match .keys18))
-    none-left)
+    (λ c. rw (past forms (c .before .args .k) (other mostForms (c .before .args .k) (c .match .rest)))))
