@@ -87,7 +87,7 @@ module _ (f : Forwarding) where
     unfolding paths_from through_each
     settled zero s r = rw (empty (f.row s) (λ e m. omega (arith, law.falls s e m)))
     settled (suc left) s r =
-        ap (paths_at s (f.home s)) (through_same _ _ (f.row s) (λ e m. settled left (f.next e) (omega (arith, law.falls s e m))))
+        ap (paths_at s (f.home s)) (through_same (paths_from f (suc left)) (paths_from f left) (f.row s) (λ e m. settled left (f.next e) (omega (arith, law.falls s e m))))
 
 -- a path down the rows starts at s
 pub first : {f : Forwarding} {s : f.State} {p : List f.State} → Down f s p → (rest : List f.State) × (p ≡ s ∷ rest)

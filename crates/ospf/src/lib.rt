@@ -1,4 +1,6 @@
 // The topology from router-LSAs (RFC 2328, A.4.2), one after another in a file (02, #106).
+#![tactic(auto)]
+
 pub mod unchecked;
 
 ghost use Rattle.std.specs.Prelude.{◌≡◌};

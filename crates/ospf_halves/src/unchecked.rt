@@ -66,7 +66,7 @@ fn is_named(s: &[u8], number: u16, id: u32) -> bool
 }
 
 // The halves that an LSA gives, in turn: so many, at the start of the array.
-#[derive(Drop)]
+#[derive(Clone, Copy)]
 pub struct Halves {
     pub count: usize,
     pub half: [Half; ROUTERS],

@@ -8,7 +8,7 @@ use super::{Record, taking};
 use topology_types::{Half, Place};
 
 // A record, and the offset past it.
-#[derive(Drop)]
+#[derive(Clone, Copy)]
 pub(crate) struct Taken {
     pub found: Record,
     pub at: usize,

@@ -1,4 +1,6 @@
 // Reading a topology stream (01, Topology stream).
+#![tactic(auto)]
+
 mod bytes;
 mod reader;
 mod taking;

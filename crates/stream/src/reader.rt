@@ -1,12 +1,12 @@
-// The record reader: it carries the lent stream and the offset it has reached (01, Topology stream; Forms by place). A function over it is proved by a
-// walk by hand, so there are two: `next_record` leaves the work to `taken_at`, and callers go through `next_from`, whose parameters are plain.
+// The record reader: it carries the lent stream and the offset it has reached (01, Topology stream; Forms by place). There are two
+// functions over it: `next_record` leaves the work to `taken_at`, and callers go through `next_from`, whose parameters are plain.
 ghost use Rattle.std.specs.Prelude.{◌≡◌};
 ghost use Rattle.stream.specs.Reader.{taken, next};
 
 use super::bytes::Taken;
 use super::{Record, bytes};
 
-#[derive(Drop)]
+#[derive(Clone, Copy)]
 pub(crate) struct Reader<'a> {
     pub stream: &'a [u8],
     pub at: usize,
@@ -14,7 +14,7 @@ pub(crate) struct Reader<'a> {
 
 // Takes the next record: the reader has then reached the offset past it, or stays where a refusal, 1 or 2, stands in its place.
 fn next_record<'s, 'a>(reader: &'s mut Reader<'a>) -> Record
-    ensures* { λ found. ⌜ record { found = found; reader = reader.new } ≡ next reader.old ⌝ }
+    ensures { record { found = result; reader = reader.new } ≡ next reader.old }
 {
     let taken = bytes::taken_at(reader.stream, reader.at);
     reader.at = taken.at;

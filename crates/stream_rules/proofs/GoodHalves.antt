@@ -131,6 +131,7 @@ links_many (l ∷ ls) = omega (arith, links_many ls)
 
 pub halves-in : (ls : List Link) {l : Link} → Memᴰ l ls → Memᴰ (first_half l) (link_halves ls) × Memᴰ (second_half l) (link_halves ls)
 unfolding link_halves
+halves-in [] {l = l} x' = elim x' [ ]
 halves-in (k ∷ ls) (Memᴰ.head e) = (Memᴰ.head (ap first_half e), Memᴰ.tail (Memᴰ.head (ap second_half e)))
 halves-in (k ∷ ls) (Memᴰ.tail m) = let (f, s) = halves-in ls m in (Memᴰ.tail (Memᴰ.tail f), Memᴰ.tail (Memᴰ.tail s))
 

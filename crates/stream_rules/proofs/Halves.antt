@@ -42,6 +42,7 @@ total_most f g (k ∷ hs) h = omega (arith, h k, total_most f g hs h)
 -- an element is one of those that are added up
 pub total_part : (f : Half → ℕ) (hs : List Half) {k : Half} → Memᴰ k hs → f k ≤ total f hs
 unfolding total
+total_part f [] {k = k} x' = elim x' [ ]
 total_part f (h ∷ hs) (Memᴰ.head e) = rw e (omega arith)
 total_part f (h ∷ hs) (Memᴰ.tail m) = omega (arith, total_part f hs m)
 

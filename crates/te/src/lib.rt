@@ -1,4 +1,6 @@
 // Costs from bandwidth (02, #108): what a link costs by the sub-TLVs of its Link TLV's value (RFC 3630, 2.4.2 and 2.5).
+#![tactic(auto)]
+
 mod bandwidth;
 mod reading;
 
@@ -10,7 +12,7 @@ ghost use Rattle.te.specs.Theorems.{Kept};
 use topology_types::Answer;
 
 // A sub-TLV, one of three cases: bandwidths are in bytes per second.
-#[derive(Drop)]
+#[derive(Clone, Copy)]
 pub enum SubTlv {
     TeMetric(u32),
     MaxBandwidth(f32),
@@ -18,7 +20,7 @@ pub enum SubTlv {
 }
 
 // What a sub-TLV is: refused by a number, of another type and skipped, or one of the three.
-#[derive(Drop)]
+#[derive(Clone, Copy)]
 pub enum Found {
     Refused(u8),
     Skipped,
@@ -26,7 +28,7 @@ pub enum Found {
 }
 
 // A link's record. Absent fields are 0.
-#[derive(Drop)]
+#[derive(Clone, Copy)]
 pub struct LinkRecord {
     pub metric: u32,
     pub hasmetric: bool,
@@ -37,7 +39,7 @@ pub struct LinkRecord {
 }
 
 // Refused, cost and record are all 0.
-#[derive(Drop)]
+#[derive(Clone, Copy)]
 pub struct LinkCost {
     pub answer: Answer,
     pub cost: u16,

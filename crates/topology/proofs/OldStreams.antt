@@ -166,11 +166,11 @@ grown (but_limit p) (record_of.Refused number) = but_limit _
 turns : {b : Bool} {p q : StreamListing} → Alike b p q → (rs : List Record) (at : ℕ) → Moved (taken b rs) (in_turn at p rs) (in_turn (at + 2) q rs)
 unfolding taken in_turn unless fault is_end any_record?
 turns a [] at = on 1 at (λ e. omega arith)
-turns a (record_of.Router id ∷ rs) at = more a _ rs at refl (turns (grown a (record_of.Router id)) rs _)
-turns a (record_of.Link h ∷ rs) at = more a _ rs at refl (turns (grown a (record_of.Link h)) rs _)
-turns a (record_of.Half h ∷ rs) at = more a _ rs at refl (turns (grown a (record_of.Half h)) rs _)
-turns a (record_of.Limit k ∷ rs) at = more a _ rs at refl (turns (grown a (record_of.Limit k)) rs _)
-turns a (record_of.Refused number ∷ rs) at = more a _ rs at refl (turns (grown a (record_of.Refused number)) rs _)
+turns {p = p} {q = q} a (record_of.Router id ∷ rs) at = more a _ rs at refl (turns {p = added p (record_of.Router id)} {q = added q (record_of.Router id)} (grown a (record_of.Router id)) rs _)
+turns {p = p} {q = q} a (record_of.Link h ∷ rs) at = more a _ rs at refl (turns {p = added p (record_of.Link h)} {q = added q (record_of.Link h)} (grown a (record_of.Link h)) rs _)
+turns {p = p} {q = q} a (record_of.Half h ∷ rs) at = more a _ rs at refl (turns {p = added p (record_of.Half h)} {q = added q (record_of.Half h)} (grown a (record_of.Half h)) rs _)
+turns {b = b} {p = p} {q = q} a (record_of.Limit k ∷ rs) at = more a _ rs at refl (turns {b = taken b (record_of.Limit k ∷ [])} {p = added p (record_of.Limit k)} {q = added q (record_of.Limit k)} (grown a (record_of.Limit k)) rs _)
+turns {p = p} {q = q} a (record_of.Refused number ∷ rs) at = more a _ rs at refl (turns {p = added p (record_of.Refused number)} {q = added q (record_of.Refused number)} (grown a (record_of.Refused number)) rs _)
 turns a (record_of.End ∷ []) at = end_alike a at
 turns a (record_of.End ∷ (r ∷ rs)) at = end_followed _ _ at
 

@@ -1,4 +1,6 @@
 // Routers, links and the topology stream (01, Stations, links and limits; Topology stream): read, test and write, under one name.
+#![tactic(auto)]
+
 mod writing;
 
 ghost use Rattle.std.specs.Prelude.{◌≡◌};

@@ -1,4 +1,6 @@
 // Whether reading could return a topology, and whether a place is one of its places (01, Refusals, 14 and 15).
+#![tactic(auto)]
+
 mod testing;
 pub mod unchecked;
 

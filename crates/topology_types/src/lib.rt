@@ -1,4 +1,6 @@
 // Stations, links and their limits (01, Stations, links and limits), and the answer that calls return (01, Refusals and where they point).
+#![tactic(auto)]
+
 ghost use Rattle.std.specs.Prelude.{◌≡◌};
 
 // The limits of 01, Stations, links and limits. specs/Limits.antt has the same numbers: where one differs, a proof fails.
@@ -18,16 +20,16 @@ pub const NEXT_HOPS: u8 = 16;
 pub const DEFAULT_NEXT_HOPS: u8 = 3;
 
 // 01, Stations, links and limits: a router's place is its turn in the stream, from 0. "Place" and "rank" are 01's terms.
-#[derive(Drop)]
+#[derive(Clone, Copy)]
 pub struct Place(pub u8);
 
 // 01, Order: a router's rank is its turn in an order, from 0. The code turns a rank into a place, or a place into a rank, through an order.
-#[derive(Drop)]
+#[derive(Clone, Copy)]
 pub struct Rank(pub u8);
 
 // A link joins the routers at two places. A cost belongs to the end that sends (02, #105): `cost` is that from the first place to the second, `back` that
 // from the second to the first.
-#[derive(Drop)]
+#[derive(Clone, Copy)]
 pub struct Link {
     pub first: Place,
     pub second: Place,
@@ -36,7 +38,7 @@ pub struct Link {
 }
 
 // One half of a link (02, #105): the place that sends, the place that it sends to, and what that costs. Two opposite halves make a link.
-#[derive(Drop)]
+#[derive(Clone, Copy)]
 pub struct Half {
     pub from: Place,
     pub to: Place,
@@ -44,7 +46,7 @@ pub struct Half {
 }
 
 // How many routers and links there are, the next-hop limit K, the router IDs by place and the links by number. Slots that are not used are zero.
-#[derive(Drop)]
+#[derive(Clone, Copy)]
 pub struct Topology {
     pub routers: usize,
     pub links: usize,
@@ -54,7 +56,7 @@ pub struct Topology {
 }
 
 // 01, Refusals: the number, 0 for a success, and where it points.
-#[derive(Drop)]
+#[derive(Clone, Copy)]
 pub struct Answer {
     pub number: u8,
     pub at: usize,

@@ -6,17 +6,17 @@ use Rattle.te.specs.Cost as said
 use Rattle.te.proofs.added.Statement.{statement}
 use Rattle.te.proofs.added.Tie as tie
 
-returns : tie.Need-returns
+returns : tie.Need-returns-in-Refused
 unfolding said.added_sub
-returns c = sym (ap (said.added_sub _) c.enum_told.given.1)
+returns c = sym (ap (said.added_sub _) c.in-Refused.is)
 
-returns-2 : tie.Need-returns-2
+returns-2 : tie.Need-returns-in-Skipped
 unfolding said.added_sub
-returns-2 c = sym (ap (said.added_sub _) c.enum-told2.given.1)
+returns-2 c = sym (ap (said.added_sub _) c.in-Skipped.is)
 
-returns-3 : tie.Need-returns-3
+returns-3 : tie.Need-returns-in-Is
 unfolding said.added_sub
-returns-3 c = c.gathered.ensures ∙ sym (ap (said.added_sub _) c.before.before.found.given.1)
+returns-3 c = c.gathered.ensures ∙ sym (ap (said.added_sub _) c.in-Is.is)
 
 pub added_spec : {M : Type 1} → statement M
 added_spec =

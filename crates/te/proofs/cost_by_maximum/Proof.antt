@@ -5,14 +5,14 @@ use Rattle.te.proofs.Costs.{by_maximum, by_none}
 use Rattle.te.proofs.cost_by_maximum.Statement.{statement}
 use Rattle.te.proofs.cost_by_maximum.Tie as tie
 
-cost-by-requires : tie.Need-cost-by-requires
-cost-by-requires c κs = c.before.requires.maximum_present c.if1.true
+cost-by-requires : tie.Need-cost_by-requires
+cost-by-requires c κs = c.requires.maximum_present c.if-r.true
 
-returns : tie.Need-returns
-returns c = c.cost-by.ensures ∙ sym (by_maximum _ c.before.if1.true)
+returns : tie.Need-returns-then-r
+returns c = c.cost_by.ensures ∙ sym (by_maximum _ c.if-r.true)
 
-returns-2 : tie.Need-returns-2
-returns-2 c = sym (by_none _ c.if1.false)
+returns-2 : tie.Need-returns
+returns-2 c = sym (by_none _ c.if-r.false)
 
 pub cost_by_maximum_spec : {M : Type 1} → statement M
 cost_by_maximum_spec = tie.close (tie.spec cost-by-requires returns returns-2)

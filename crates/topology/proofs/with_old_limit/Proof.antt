@@ -8,13 +8,13 @@ use Rattle.topology.proofs.OldStreams.{help_exact, put_both}
 use Rattle.topology.proofs.with_old_limit.Statement.{statement}
 use Rattle.topology.proofs.with_old_limit.Tie as tie
 
-returns : tie.Need-returns
-returns c = sym ((help_exact _ _).no_room c.if1.true)
+returns : tie.Need-returns-then-out-needed
+returns c = sym ((help_exact _ _).no_room c.if-out-needed.true)
 
-returns-2 : tie.Need-returns-2
+returns-2 : tie.Need-returns
 unfolding limit_bytes
 returns-2 c =
-    put_both _ _ (omega arith) c.before.before.before.before.before.before.put-limit.ensures c.before.before.put-bytes.ensures
+    put_both _ _ (omega arith) c.put_limit.ensures c.put_bytes.ensures
 
 pub with_old_limit_spec : {M : Type 1} → statement M
 with_old_limit_spec =

@@ -13,61 +13,59 @@ use Rattle.ospf.proofs.Routed.{Routed, routed_first, routed_off, routed_on, rout
 use Rattle.ospf.proofs.unchecked.routers_of.Statement.{statement}
 use Rattle.ospf.proofs.unchecked.routers_of.Tie as tie
 
-abbrev invariant-loop : tie.invariant-loop
+abbrev invariant-loop : tie.invariant-loop-at
 invariant-loop file t₀ at₀ t at = Routed file t at
 
-abbrev decreases-loop : tie.decreases-loop
+abbrev decreases-loop : tie.decreases-loop-at
 decreases-loop file t₀ at₀ t at = length file - at
 
-loop-holds : tie.Need-loop-init invariant-loop decreases-loop
+loop-holds : tie.Need-loop-at-init invariant-loop decreases-loop
 unfolding nothing_listed
-loop-holds c = rw c.blank.ensures (routed_first _)
+loop-holds c = rw c.blank-t.ensures (routed_first _)
 
 -- the LSA at the turn
-lsa : (c : tie.In-loop invariant-loop decreases-loop) → Lies c.before.before.before.before.args.file.now c.before.loop.at
-lsa c = lies c.before.loop.invariant.ahead (omega arith) c.before.before.before.before.requires
+lsa : (c : tie.In-loop-at invariant-loop decreases-loop) → Lies c.args.file.now c.loop-at.at
+lsa c = lies c.loop-at.invariant.ahead (omega arith) c.requires
 
-add-be32 : tie.Need-overflow-add-be32 invariant-loop decreases-loop
-add-be32 c = omega (arith, (lsa c).begun, (lsa c).ranges)
+add-be32 : tie.Need-overflow_add-at invariant-loop decreases-loop
+add-be32 c = omega (arith, (lsa c).begun, (lsa c).fits)
 
-be32-requires : tie.Need-be32-requires invariant-loop decreases-loop
-be32-requires c κs = omega (arith, (lsa c).begun, (lsa c).ranges)
+be32-requires : tie.Need-be32-id-requires invariant-loop decreases-loop
+be32-requires c κs = omega (arith, (lsa c).begun, (lsa c).fits)
 
-router-fault-requires : tie.Need-router-fault-requires invariant-loop decreases-loop
-router-fault-requires c κs = let w = c.before.before.before.before.loop.invariant.filled in ((listed w).counted.routers_fit, id_slots w)
+router-fault-requires : tie.Need-router_fault-number-requires invariant-loop decreases-loop
+router-fault-requires c κs = let w = c.loop-at.invariant.filled in ((listed w).counted.routers_fit, id_slots w)
 
 -- its router's fault
-module _ (c : tie.After-router-fault invariant-loop decreases-loop) where
-  abbrev turn : tie.In-loop invariant-loop decreases-loop
-  turn = c.before.before.before.before
+module _ (c : tie.After-router_fault-number invariant-loop decreases-loop) where
+  abbrev turn : tie.In-loop-at invariant-loop decreases-loop
+  turn = c.before.before.before
 
-  abbrev w : Routed turn.before.before.before.before.args.file.now turn.before.loop.t turn.before.loop.at
-  w = turn.before.loop.inv
+  abbrev w : Routed turn.args.file.now turn.loop-at.t turn.loop-at.at
+  w = turn.loop-at.invariant
 
   abbrev id : ℕ
-  id = c.before.before.before.be32.result
+  id = c.be32-id.result
 
-  number_is : c.router-fault.result ≡ fault w.listing (record_of.Router id)
+  number_is : c.router_fault-number.result ≡ fault w.listing (record_of.Router id)
   unfolding fault
-  number_is = c.router-fault.ensures w.listing.contents (ids_are w.filled)
+  number_is = c.router_fault-number.ensures w.listing.contents (ids_are w.filled)
 
-returns : tie.Need-returns invariant-loop decreases-loop
+returns : tie.Need-returns-then-number-ne0 invariant-loop decreases-loop
 returns c =
-    let f = c.before.before in
     c.refused.ensures
-    ∙ ap (λ (n : ℕ). refusal n (turn f).before.loop.at) (number_is f)
-    ∙ routed_off (w f) (lsa (turn f)) _ refl (id f) f.before.before.before.be32.ensures (λ z. c.before.if1.true (number_is f ∙ z))
+    ∙ ap (λ (n : ℕ). refusal n (turn c.before.before).loop-at.at) (number_is c.before.before)
+    ∙ routed_off (w c.before.before) (lsa (turn c.before.before)) _ refl (id c.before.before) c.be32-id.ensures (λ z. c.if-number-ne0.true (number_is c.before.before ∙ z))
 
-room : (c : tie.Else1 invariant-loop decreases-loop) → (turn c.before).before.loop.t.routers < 64
-room c = let f = c.before in room_router (w f).filled (id f) (sym (number_is f) ∙ c.if1.false)
+room : (c : tie.Else-number-ne0 invariant-loop decreases-loop) → (turn c.before).loop-at.t.routers < 64
+room c = room_router (w c.before).filled (id c.before) (sym (number_is c.before) ∙ c.if-number-ne0.false)
 
-loop-less : tie.Need-loop-smaller invariant-loop decreases-loop
+loop-less : tie.Need-loop-at-smaller invariant-loop decreases-loop
 loop-less c = let l = lsa (turn c.before.before) in omega (arith, l.begun, l.fits, c.be16.ensures)
 
-loop-again : tie.Need-loop-preserved invariant-loop decreases-loop
+loop-again : tie.Need-loop-at-preserved invariant-loop decreases-loop
 loop-again c =
-    let f = c.before.before in
-    routed_on (w f) (lsa (turn f)) c.be16.result c.be16.ensures (id f) f.before.before.before.be32.ensures (sym (number_is f) ∙ c.before.if1.false)
+    routed_on (w c.before.before) (lsa (turn c.before.before)) c.be16.result c.be16.ensures (id c.before.before) c.be32-id.ensures (sym (number_is c.before.before) ∙ c.if-number-ne0.false)
     (omega arith)
 
 pub routers_of_spec : {M : Type 1} → statement M
@@ -92,4 +90,4 @@ routers_of_spec =
     (λ c. let l = lsa (turn c.before.before) in omega (arith, l.begun, l.fits, c.be16.ensures))
     loop-less
     loop-again
-    (λ c. routed_end c.before.loop.invariant (omega arith)))
+    (λ c. routed_end c.loop-at.invariant (omega arith)))

@@ -8,9 +8,9 @@ use Rattle.ospf_halves.proofs.unchecked.is_named.Tie as tie
 
 returns : tie.Need-returns
 returns c =
-    let a = c.before.before.args in
-    rw c.lowest-to.ensures
-    (is_neighbour a.number a.s.now a.id (λ i. omega (arith, c.before.shared-slice-known.given i)))
+    let a = c.args in
+    rw c.lowest_to.ensures
+    (is_neighbour a.number a.s.now a.id (λ i. omega (arith, c.shared_slice_known-1.given i)))
 
 pub is_named_spec : {M : Type 1} → statement M
 is_named_spec = tie.close (tie.spec (λ c κs. search rules) returns)

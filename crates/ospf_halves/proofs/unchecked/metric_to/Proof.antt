@@ -7,21 +7,21 @@ use Rattle.ospf_halves.proofs.Lowest.{other_type, other_router, its_metric}
 use Rattle.ospf_halves.proofs.unchecked.metric_to.Statement.{statement}
 use Rattle.ospf_halves.proofs.unchecked.metric_to.Tie as tie
 
-returns : tie.Need-returns
+returns : tie.Need-returns-then-s-at-ne1
 returns c =
-    let a = c.before.before.before.args in
+    let a = c.args in
     other_type a.s.now a.at a.id (λ e. omega arith)
 
-returns-2 : tie.Need-returns-2
+returns-2 : tie.Need-returns-then-be32-id
 returns-2 c =
-    let a = c.before.before.before.before.before.args in
-    other_router a.s.now a.at a.id (omega arith) (λ e. c.if2.true (c.before.be32.ensures ∙ e))
+    let a = c.args in
+    other_router a.s.now a.at a.id (omega arith) (λ e. c.if-be32-id.true (c.be32.ensures ∙ e))
 
-returns-3 : tie.Need-returns-3
+returns-3 : tie.Need-returns
 returns-3 c =
-    let a = c.before.before.before.before.before.before.args in
+    let a = c.args in
     c.be16.ensures
-    ∙ its_metric a.s.now a.at a.id (omega arith) (sym c.before.before.be32.ensures ∙ omega arith) (omega arith) (omega (arith, c.be16.ensures))
+    ∙ its_metric a.s.now a.at a.id (omega arith) (sym c.be32.ensures ∙ omega arith) (omega arith) (omega (arith, c.be16.ensures))
 
 pub metric_to_spec : {M : Type 1} → statement M
 metric_to_spec =

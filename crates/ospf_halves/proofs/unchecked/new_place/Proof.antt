@@ -8,31 +8,27 @@ use Rattle.ospf_halves.proofs.Given.{other_type, parallel, its_place}
 use Rattle.ospf_halves.proofs.unchecked.new_place.Statement.{statement}
 use Rattle.ospf_halves.proofs.unchecked.new_place.Tie as tie
 
-returns : tie.Need-returns
+returns : tie.Need-returns-then-kind-ne1
 returns c =
-    let start = c.before.before.before in
-    let a = start.args in
-    other_type a.s.now a.at a.n a.ids.now _ (omega (arith, start.requires.2, start.requires.3)) c.if1.true
+    let a = c.args in
+    other_type a.s.now a.at a.n a.ids.now _ (omega (arith, c.requires.2, c.requires.3)) c.if-kind-ne1.true
 
-is-named-requires : tie.Need-is-named-requires
+is-named-requires : tie.Need-is_named-requires
 is-named-requires c κs =
-    let start = c.before.before.before.before.before.before in
-    rw (sub-zero start.args.at) start.requires.1
+    rw (sub-zero c.args.at) c.requires.1
 
-returns-2 : tie.Need-returns-2
+returns-2 : tie.Need-returns-then-is_named
 returns-2 c =
-    let start = c.before.before.before.before.before.before.before.before in
-    let a = start.args in
-    let named = rw (sub-zero a.at, c.before.before.before.before.be32.ensures) at c.before.is-named.ensures in
-    parallel a.s.now a.at a.n a.ids.now _ (omega (arith, start.requires.2, start.requires.3)) (omega arith) (sym named ∙ c.if2.true)
+    let a = c.args in
+    let named = rw (sub-zero a.at, c.be32-id.ensures) at c.is_named.ensures in
+    parallel a.s.now a.at a.n a.ids.now _ (omega (arith, c.requires.2, c.requires.3)) (omega arith) (sym named ∙ c.if-is_named.true)
 
-returns-3 : tie.Need-returns-3
+returns-3 : tie.Need-returns-else-is_named
 returns-3 c =
-    let start = c.before.before.before.before.before.before.before.before in
-    let a = start.args in
-    let named = rw (sub-zero a.at, c.before.before.before.before.be32.ensures) at c.before.is-named.ensures in
-    rw c.before.before.before.before.be32.ensures at c.before.before.before.place_of.ensures
-    ∙ its_place a.s.now a.at a.n a.ids.now _ (omega (arith, start.requires.2, start.requires.3)) (omega arith) (sym named ∙ c.if2.false)
+    let a = c.args in
+    let named = rw (sub-zero a.at, c.be32-id.ensures) at c.is_named.ensures in
+    rw c.be32-id.ensures at c.place_of-to.ensures
+    ∙ its_place a.s.now a.at a.n a.ids.now _ (omega (arith, c.requires.2, c.requires.3)) (omega arith) (sym named ∙ c.if-is_named.false)
 
 pub new_place_spec : {M : Type 1} → statement M
 new_place_spec =

@@ -9,31 +9,29 @@ use Rattle.ospf_halves.proofs.Halves.{stopped}
 use Rattle.ospf_halves.proofs.unchecked.place_of.Statement.{statement}
 use Rattle.ospf_halves.proofs.unchecked.place_of.Tie as tie
 
-abbrev invariant-loop : tie.invariant-loop
+abbrev invariant-loop : tie.invariant-loop-i
 invariant-loop ids n id i₀ i = (i ≤ n) × ((p : ℕ) → p < i → get_or ids p 0 ≢ id)
 
-abbrev decreases-loop : tie.decreases-loop
+abbrev decreases-loop : tie.decreases-loop-i
 decreases-loop ids n id i₀ i = n - i
 
-loop-holds : tie.Need-loop-init invariant-loop decreases-loop
+loop-holds : tie.Need-loop-i-init invariant-loop decreases-loop
 loop-holds c = (omega arith, below_none _)
 
-returns : tie.Need-returns invariant-loop decreases-loop
+returns : tie.Need-returns-then-ids-i invariant-loop decreases-loop
 returns c =
-    let l = c.before.before.before.loop in
-    let s = c.before.before.before.before in
-    stopped s.args.ids.now s.args.n s.args.id l.i (omega (arith, s.requires.0, s.requires.1)) l.invariant.0 l.invariant.1 (λ h. c.if1.true)
+    let l = c.loop-i in
+    stopped c.args.ids.now c.args.n c.args.id l.i (omega (arith, c.requires.0, c.requires.1)) l.invariant.0 l.invariant.1 (λ h. c.if-ids-i.true)
 
-loop-again : tie.Need-loop-preserved invariant-loop decreases-loop
+loop-again : tie.Need-loop-i-preserved invariant-loop decreases-loop
 loop-again c =
-    let l = c.before.before.before.loop in
-    (omega arith, below_more _ _ l.invariant.1 c.if1.false)
+    let l = c.loop-i in
+    (omega arith, below_more _ _ l.invariant.1 c.if-ids-i.false)
 
-returns-2 : tie.Need-returns-2 invariant-loop decreases-loop
+returns-2 : tie.Need-returns invariant-loop decreases-loop
 returns-2 c =
-    let l = c.before.loop in
-    let s = c.before.before in
-    stopped s.args.ids.now s.args.n s.args.id l.i (omega (arith, s.requires.0, s.requires.1)) l.invariant.0 l.invariant.1 (λ h. absurd (omega arith))
+    let l = c.loop-i in
+    stopped c.args.ids.now c.args.n c.args.id l.i (omega (arith, c.requires.0, c.requires.1)) l.invariant.0 l.invariant.1 (λ h. absurd (omega arith))
 
 pub place_of_spec : {M : Type 1} → statement M
 place_of_spec =

@@ -10,65 +10,62 @@ use Rattle.ospf_lsas.proofs.Walk.{Ahead, at_first, at-last, lies, wrong_here, ri
 use Rattle.ospf_lsas.proofs.unchecked.first_wrong_sum.Statement.{statement}
 use Rattle.ospf_lsas.proofs.unchecked.first_wrong_sum.Tie as tie
 
-abbrev invariant-loop : tie.invariant-loop
+abbrev invariant-loop : tie.invariant-loop-at
 invariant-loop file at₀ at = Ahead wrong_sum file at × Ahead malformed file at
 
-abbrev decreases-loop : tie.decreases-loop
+abbrev decreases-loop : tie.decreases-loop-at
 decreases-loop file at₀ at = length file - at
 
-loop-holds : tie.Need-loop-init invariant-loop decreases-loop
-loop-holds c = let file = c.before.args.file.now in (at_first wrong_sum file, at_first malformed file)
+loop-holds : tie.Need-loop-at-init invariant-loop decreases-loop
+loop-holds c = let file = c.args.file.now in (at_first wrong_sum file, at_first malformed file)
 
-add-be16 : tie.Need-overflow-add-be16 invariant-loop decreases-loop
+add-be16 : tie.Need-overflow_add-at invariant-loop decreases-loop
 add-be16 c =
-    let l = lies c.before.loop.invariant.1 (omega arith) c.before.before.before.requires in
+    let l = lies c.loop-at.invariant.1 (omega arith) c.requires in
     omega (arith, l.begun, l.fits)
 
 be16-requires : tie.Need-be16-requires invariant-loop decreases-loop
 be16-requires c κs =
-    let l = lies c.before.loop.invariant.1 (omega arith) c.before.before.before.requires in
+    let l = lies c.loop-at.invariant.1 (omega arith) c.requires in
     omega (arith, l.begun, l.fits)
 
-add-end : tie.Need-overflow-add-end invariant-loop decreases-loop
+add-end : tie.Need-overflow_add-end invariant-loop decreases-loop
 add-end c =
-    let l = lies c.before.before.loop.invariant.1 (omega arith) c.before.before.before.before.requires in
+    let l = lies c.loop-at.invariant.1 (omega arith) c.requires in
     omega (arith, l.begun, l.fits)
 
-part-is-wrong-end : tie.Need-slice-bounds-is-wrong-end invariant-loop decreases-loop
+part-is-wrong-end : tie.Need-slice_bounds-is_wrong-end invariant-loop decreases-loop
 part-is-wrong-end c =
-    let l = lies c.before.before.loop.invariant.1 (omega arith) c.before.before.before.before.requires in
+    let l = lies c.loop-at.invariant.1 (omega arith) c.requires in
     omega (arith, l.begun, l.fits)
 
-is-wrong-requires : tie.Need-is-wrong-requires invariant-loop decreases-loop
+is-wrong-requires : tie.Need-is_wrong-requires invariant-loop decreases-loop
 is-wrong-requires c κs =
-    let l = lies c.before.before.before.loop.invariant.1 (omega arith) c.before.before.before.before.before.requires in
-    let at = c.before.before.before.loop.at in
-    let file = c.before.before.before.before.before.args.file.now in
-    omega (arith, l.begun, l.fits, length-drop at file, length-take (at + c.before.be16.result - at) (drop at file))
+    let l = lies c.loop-at.invariant.1 (omega arith) c.requires in
+    let at = c.loop-at.at in
+    let file = c.args.file.now in
+    omega (arith, l.begun, l.fits, length-drop at file, length-take (at + c.be16.result - at) (drop at file))
 
-returns : tie.Need-returns invariant-loop decreases-loop
+returns : tie.Need-returns-then-is_wrong invariant-loop decreases-loop
 unfolding first_wrong_sum_lem
 returns c =
-    let read = c.before.before.before in
-    let l = lies read.before.before.loop.invariant.1 (omega arith) read.before.before.before.before.requires in
-    wrong_here read.before.before.loop.invariant.0 l read.be16.result read.be16.ensures (sym c.before.is-wrong.ensures ∙ c.if1.true)
+    let l = lies c.loop-at.invariant.1 (omega arith) c.requires in
+    wrong_here c.loop-at.invariant.0 l c.be16.result c.be16.ensures (sym c.is_wrong.ensures ∙ c.if-is_wrong.true)
 
-loop-less : tie.Need-loop-smaller invariant-loop decreases-loop
+loop-less : tie.Need-loop-at-smaller invariant-loop decreases-loop
 loop-less c =
-    let read = c.before.before.before in
-    let l = lies read.before.before.loop.invariant.1 (omega arith) read.before.before.before.before.requires in
+    let l = lies c.loop-at.invariant.1 (omega arith) c.requires in
     omega (arith, l.begun, l.fits)
 
-loop-again : tie.Need-loop-preserved invariant-loop decreases-loop
+loop-again : tie.Need-loop-at-preserved invariant-loop decreases-loop
 loop-again c =
-    let read = c.before.before.before in
-    let l = lies read.before.before.loop.invariant.1 (omega arith) read.before.before.before.before.requires in
-    right_here read.before.before.loop.invariant.0 l read.be16.result read.be16.ensures read.before.before.loop.invariant.1
-    (sym c.before.is-wrong.ensures ∙ c.if1.false)
+    let l = lies c.loop-at.invariant.1 (omega arith) c.requires in
+    right_here c.loop-at.invariant.0 l c.be16.result c.be16.ensures c.loop-at.invariant.1
+    (sym c.is_wrong.ensures ∙ c.if-is_wrong.false)
 
-returns-2 : tie.Need-returns-2 invariant-loop decreases-loop
+returns-2 : tie.Need-returns invariant-loop decreases-loop
 unfolding first_wrong_sum_lem
-returns-2 c = at-last c.before.loop.invariant.0 (omega arith)
+returns-2 c = at-last c.loop-at.invariant.0 (omega arith)
 
 pub first_wrong_sum_spec : {M : Type 1} → statement M
 first_wrong_sum_spec =

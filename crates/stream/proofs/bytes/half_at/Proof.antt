@@ -11,7 +11,7 @@ use Rattle.stream.proofs.bytes.half_at.Tie as tie
 returns : tie.Need-returns
 unfolding half_in
 returns c =
-    let a = c.before.before.before.before.args in
+    let a = c.args in
     rw (two-bytes a.s.now a.at (omega arith)) (rw (c.be16.ensures, two-at a.s.now (a.at + 2) (omega arith)))
 
 pub half_at_spec : {M : Type 1} → statement M

@@ -13,57 +13,57 @@ use Rattle.stream_rules.proofs.Stream.{cut_at, whole_at, unknown_at}
 use Rattle.stream.proofs.bytes.record_at.Statement.{statement}
 use Rattle.stream.proofs.bytes.record_at.Tie as tie
 
-returns : tie.Need-returns
+returns : tie.Need-returns-then-s-at
 unfolding record_in
-returns c = let a = c.before.before.args in sym (ap record_in (drop_of_length-le a.s.now c.if1.true))
+returns c = let a = c.args in sym (ap record_in (drop_of_length-le a.s.now c.if-s-at.true))
 
-returns-2 : tie.Need-returns-2
+returns-2 : tie.Need-returns-then-left-lt4
 unfolding body_length
-returns-2 c = let a = c.before.before.before.before.before.args in sym (cut_at a.s.now a.at 1 (omega arith))
+returns-2 c = let a = c.args in sym (cut_at a.s.now a.at 1 (omega arith))
 
-returns-3 : tie.Need-returns-3
+returns-3 : tie.Need-returns-then-kind-eq1
 unfolding body_length decoded
 returns-3 c =
-    let a = c.before.before.before.before.before.before.args in
+    let a = c.args in
     ap record_of.Router c.be32.ensures ∙ sym (whole_at a.s.now a.at 1 (omega arith))
 
-returns-4 : tie.Need-returns-4
+returns-4 : tie.Need-returns-then-left-lt4-2
 unfolding body_length
-returns-4 c = let a = c.before.before.before.before.before.before.args in sym (cut_at a.s.now a.at 2 (omega arith))
+returns-4 c = let a = c.args in sym (cut_at a.s.now a.at 2 (omega arith))
 
-returns-5 : tie.Need-returns-5
+returns-5 : tie.Need-returns-then-kind-eq2
 unfolding body_length decoded
 returns-5 c =
-    let a = c.before.before.before.before.before.before.before.args in
+    let a = c.args in
     ap record_of.Link c.half_at.ensures ∙ sym (whole_at a.s.now a.at 2 (omega arith))
 
-returns-6 : tie.Need-returns-6
+returns-6 : tie.Need-returns-then-left-lt4-3
 unfolding body_length
-returns-6 c = let a = c.before.before.before.before.before.before.before.args in sym (cut_at a.s.now a.at 4 (omega arith))
+returns-6 c = let a = c.args in sym (cut_at a.s.now a.at 4 (omega arith))
 
-returns-7 : tie.Need-returns-7
+returns-7 : tie.Need-returns-then-kind-eq4
 unfolding body_length decoded
 returns-7 c =
-    let a = c.before.before.before.before.before.before.before.before.args in
-    ap record_of.Half c.half-at2.ensures ∙ sym (whole_at a.s.now a.at 4 (omega arith))
+    let a = c.args in
+    ap record_of.Half c.half_at-then-kind-eq4.ensures ∙ sym (whole_at a.s.now a.at 4 (omega arith))
 
-returns-8 : tie.Need-returns-8
+returns-8 : tie.Need-returns-then-left-lt1
 unfolding body_length
-returns-8 c = let a = c.before.before.before.before.before.before.before.before.args in sym (cut_at a.s.now a.at 8 (omega arith))
+returns-8 c = let a = c.args in sym (cut_at a.s.now a.at 8 (omega arith))
 
-returns-9 : tie.Need-returns-9
+returns-9 : tie.Need-returns-then-kind-eq8
 unfolding body_length decoded
 returns-9 c =
-    let a = c.before.before.before.before.before.before.before.before.before.args in
+    let a = c.args in
     rw (whole_at a.s.now a.at 8 (omega arith), drop-cons a.s.now (a.at + 1) 0 (omega arith))
 
-returns-10 : tie.Need-returns-10
+returns-10 : tie.Need-returns-then-kind-eq3
 unfolding body_length decoded
-returns-10 c = let a = c.before.before.before.before.before.before.before.before.args in sym (whole_at a.s.now a.at 3 (omega arith))
+returns-10 c = let a = c.args in sym (whole_at a.s.now a.at 3 (omega arith))
 
-returns-11 : tie.Need-returns-11
+returns-11 : tie.Need-returns
 returns-11 c =
-    let a = c.before.before.before.before.before.before.before.before.args in
+    let a = c.args in
     sym (unknown_at a.s.now a.at (get_or a.s.now a.at 0) (omega arith))
 
 pub record_at_spec : {M : Type 1} → statement M

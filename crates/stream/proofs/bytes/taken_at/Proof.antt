@@ -10,23 +10,22 @@ use Rattle.stream.specs.Reader.{taken}
 use Rattle.stream.proofs.bytes.taken_at.Statement.{statement}
 use Rattle.stream.proofs.bytes.taken_at.Tie as tie
 
-record-at-requires : tie.Need-record-at-requires
+record-at-requires : tie.Need-record_at-found-requires
 record-at-requires c κs = search rules
 
-width-of-requires : tie.Need-width-of-requires
+width-of-requires : tie.Need-width_of-width-requires
 width-of-requires c κs = search rules
 
-add-t5 : tie.Need-overflow-add-t5
+add-t5 : tie.Need-overflow_add-result
 add-t5 c =
-    let start = c.before.before.before in
-    let wide = c.width_of_lem.ensures ∙ ap width c.before.record-at.ensures in
-    let at = start.args.at in
-    let s = start.args.s.now in
-    record { fits = omega (arith, wide, width_within (drop at s), length-drop at s, start.well_formed.0, start.well_formed.1.0) }
+    let wide = c.width_of-width.ensures ∙ ap width c.record_at-found.ensures in
+    let at = c.args.at in
+    let s = c.args.s.now in
+    record { fits = omega (arith, wide, width_within (drop at s), length-drop at s, c.well_formed.0, c.well_formed.1.0) }
 
 returns : tie.Need-returns
 unfolding taken
-returns c = rw (c.width_of_lem.ensures, c.before.record-at.ensures) refl
+returns c = rw (c.width_of-width.ensures, c.record_at-found.ensures) refl
 
 pub taken_at_spec : {M : Type 1} → statement M
 taken_at_spec = tie.close (tie.spec record-at-requires width-of-requires add-t5 returns)

@@ -10,24 +10,22 @@ use Rattle.stream_rules.proofs.Held.{routers_held}
 use Rattle.stream.proofs.unchecked.ended.Statement.{statement}
 use Rattle.stream.proofs.unchecked.ended.Tie as tie
 
-returns : tie.Need-returns
+returns : tie.Need-returns-then-at-length
 unfolding said.ended
-returns c = rw (lt-ltb _ _ c.before.if1.true) c.refused.ensures
+returns c = rw (lt-ltb _ _ c.if-at-length.true) c.refused.ensures
 
-returns-2 : tie.Need-returns-2
+returns-2 : tie.Need-returns-then-t-eq0
 unfolding said.ended
 returns-2 c =
-    let s = c.before.before.before.before in
-    let count = routers_held s.args.t s.requires.0 in
-    rw (le-ltb _ _ c.before.before.before.if1.false, ← count, eq-eqb _ 0 c.before.if2.true) c.refused2.ensures
+    let count = routers_held c.args.t c.requires.0 in
+    rw (le-ltb _ _ c.if-at-length.false, ← count, eq-eqb _ 0 c.if-t-eq0.true) c.refused-then-t-eq0.ensures
 
-returns-3 : tie.Need-returns-3
+returns-3 : tie.Need-returns
 unfolding said.ended accepted_reading
 returns-3 c =
-    let s = c.before.before.before.before in
-    let count = routers_held s.args.t s.requires.0 in
-    rw (le-ltb _ _ c.before.before.before.if1.false, ← count, ne_eqb _ 0 c.before.if2.false, c.taken.ensures)
-    (ap success s.requires.0.whole)
+    let count = routers_held c.args.t c.requires.0 in
+    rw (le-ltb _ _ c.if-at-length.false, ← count, ne_eqb _ 0 c.if-t-eq0.false, c.taken.ensures)
+    (ap success c.requires.0.whole)
 
 pub ended_spec : {M : Type 1} → statement M
 ended_spec =

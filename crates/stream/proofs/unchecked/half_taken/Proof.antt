@@ -13,7 +13,7 @@ use Rattle.stream.specs.Inner.{opposite_cost, paired}
 use Rattle.stream.proofs.unchecked.half_taken.Statement.{statement}
 use Rattle.stream.proofs.unchecked.half_taken.Tie as tie
 
-abbrev start : tie.After-index2 → tie.Start
+abbrev start : tie.After-index-v → tie.Start
 start i = i.before.before.before.before
 
 -- its places as the code has them
@@ -21,26 +21,22 @@ cell : (costs : List ℕ) (h : Half) {u v : ℕ} → u ≡ h.from.0 → v ≡ h.
 cell costs h f g = rw (f, g)
 
 -- there is room for the link
-link_room : (c : tie.Then1) → (start c.before.before).args.t.links < 256
+link_room : (c : tie.Then-opposite-ne0) → (start c.before.before.before).args.t.links < 256
 link_room c =
-    let i = c.before.before in
-    let a = (start i).args in
-    (start i).requires.1 (λ z. c.if1.true (cell a.costs.now a.h i.before.index.ensures i.index2.ensures ∙ z))
+    let a = (start c.before.before.before).args in
+    (start c.before.before.before).requires.1 (λ z. c.if-opposite-ne0.true (cell a.costs.now a.h c.index-u.ensures c.index-v.ensures ∙ z))
 
 mark-requires : tie.Need-mark-requires
 mark-requires c κs =
-    let i = c.before.before.before.before in
-    rw (i.before.index.ensures, i.index2.ensures) (start i).requires.0
+    rw (c.index-u.ensures, c.index-v.ensures) (start c.before.before.before.before.before).requires.0
 
 returns : tie.Need-returns
 unfolding paired
 returns c =
-    let j = c.before.before.before in
-    let i = j.before.before in
-    let a = (start i).args in
-    let u = i.before.index.ensures in
-    let v = i.index2.ensures in (
-      ⊎_elim (λ x. rw (ne_eqb _ 0 x.0.taken) x.1) (λ x. rw (eq-eqb _ 0 x.0.left) x.1) j.if1.branch
+    let a = (start c.before.before.before.before.before.before).args in
+    let u = c.index-u.ensures in
+    let v = c.index-v.ensures in (
+      ⊎_elim (λ x. rw (ne_eqb _ 0 x.if-opposite-ne0.true) x.held-is) (λ x. rw (eq-eqb _ 0 x.if-opposite-ne0.false) x.held-is) c.if-opposite-ne0.branch-raw
           ∙ ap (paired a.t a.h) (cell a.costs.now a.h u v),
       c.mark.ensures.0 ∙ rw (u, v),
       c.mark.ensures.1 ∙ rw u,

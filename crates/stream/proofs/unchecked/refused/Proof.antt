@@ -8,7 +8,7 @@ use Rattle.stream.proofs.unchecked.refused.Tie as tie
 
 returns : tie.Need-returns
 unfolding zeros refusal
-returns c = rw c.blank.ensures
+returns c = rw c.blank-zeros.ensures
 
 pub refused_spec : {M : Type 1} → statement M
 refused_spec = tie.close (tie.spec (λ c κs. search rules) returns)

@@ -14,22 +14,21 @@ use Rattle.stream_rules.specs.Reading.{router_fault_lem}
 use Rattle.stream.proofs.unchecked.router_fault.Statement.{statement}
 use Rattle.stream.proofs.unchecked.router_fault.Tie as tie
 
-returns : tie.Need-returns
+returns : tie.Need-returns-then-is_listed
 unfolding router_fault_lem
-returns c = λ k e. rw (e, ← c.before.is-listed.ensures, c.if1.true)
+returns c = λ k e. rw (e, ← c.is_listed.ensures, c.if-is_listed.true)
 
 -- the first test has passed
-left : (c : tie.Else1) (k : Contents) → let a = c.before.before.args in k.ids ≡ take a.n a.ids.now → router_fault_lem k a.id ≡ cond (leb most_routers a.n) 4 0
+left : (c : tie.Else-is_listed) (k : Contents) → let a = c.args in k.ids ≡ take a.n a.ids.now → router_fault_lem k a.id ≡ cond (leb most_routers a.n) 4 0
 unfolding router_fault_lem
 left c k e =
-    let s = c.before.before in
-    rw (e, ← c.before.is-listed.ensures, c.if1.false, length-take-le s.args.n s.args.ids.now (omega (arith, s.requires)))
+    rw (e, ← c.is_listed.ensures, c.if-is_listed.false, length-take-le c.args.n c.args.ids.now (omega (arith, c.requires)))
 
-returns-2 : tie.Need-returns-2
-returns-2 c = λ k e. rw (left c.before k e, le-leb most_routers _ c.if2.true)
+returns-2 : tie.Need-returns-then-n-ge-ROUTERS
+returns-2 c = λ k e. rw (left c.before k e, le-leb most_routers _ c.if-n-ge-ROUTERS.true)
 
-returns-3 : tie.Need-returns-3
-returns-3 c = λ k e. rw (left c.before k e, lt-leb most_routers _ c.if2.false)
+returns-3 : tie.Need-returns
+returns-3 c = λ k e. rw (left c.before k e, lt-leb most_routers _ c.if-n-ge-ROUTERS.false)
 
 pub router_fault_spec : {M : Type 1} → statement M
 router_fault_spec = tie.close (tie.spec (λ c κs. search rules) returns returns-2 returns-3)

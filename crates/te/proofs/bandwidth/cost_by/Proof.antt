@@ -48,42 +48,42 @@ halved (fin false m e) f u =
           rw (← limit) (λ q. d.0 (p.0 q), λ q. p.1 (d.1 q));
     }
 
-abbrev invariant-loop : tie.invariant-loop
+abbrev invariant-loop : tie.invariant-loop-low
 invariant-loop bandwidth wide low₀ high₀ low high = (1 ≤ low) × (low ≤ bandwidth_cost bandwidth) × (bandwidth_cost bandwidth ≤ high) × (high ≤ 65535)
 
-abbrev decreases-loop : tie.decreases-loop
+abbrev decreases-loop : tie.decreases-loop-low
 decreases-loop bandwidth wide low₀ high₀ low high = high - low
 
 -- what owning an `f32` tells: the format holds it
 held : (c : tie.Start invariant-loop decreases-loop) → T (fits binary32 c.args.bandwidth)
-held c = subst T (sym c.well-formed.0.1) tt
+held c = subst T (sym c.well_formed.0.1) tt
 
 known : (c : tie.Start invariant-loop decreases-loop) → Halved c.args.bandwidth
 known c = halved c.args.bandwidth (held c) c.requires
 
-float-to-float-wide : tie.Need-float-to-float-wide invariant-loop decreases-loop
+float-to-float-wide : tie.Need-float_to_float-wide invariant-loop decreases-loop
 float-to-float-wide c =
-    let x = c.before.args.bandwidth in
-    and_i (fits binary64 x) (not (is_nan x)) (fits_widens x (held c.before)) (number_if_usable x c.before.requires)
+    let x = c.args.bandwidth in
+    and_i (fits binary64 x) (not (is_nan x)) (fits_widens x (held c.before)) (number_if_usable x c.requires)
 
-loop-holds : tie.Need-loop-init invariant-loop decreases-loop
+loop-holds : tie.Need-loop-low-init invariant-loop decreases-loop
 loop-holds c = omega (arith, known c.before)
 
-int-to-float-if1 : tie.Need-int-to-float-if1 invariant-loop decreases-loop
+int-to-float-if1 : tie.Need-int_to_float-middle invariant-loop decreases-loop
 int-to-float-if1 c = tt
 
--- the test of the middle
-tested_middle : (c : tie.After-row-known2 invariant-loop decreases-loop) →
-    let l = c.before.before.loop in Decides c.before.before.before.before.args.bandwidth (l.high - (l.high - l.low) / 2)
-tested_middle c =
-    let l = c.before.before.loop in
-    (known c.before.before.before.before).decides (l.high - (l.high - l.low) / 2) (omega arith) (omega arith)
+-- the test of the middle decides it
+loop-again : tie.Need-loop-low-preserved-then-middle-wide invariant-loop decreases-loop
+loop-again c =
+    let l = c.loop-low in
+    let decided = (halved c.args.bandwidth (subst T (sym c.well_formed.0.1) tt) c.requires).decides (l.high - (l.high - l.low) / 2) (omega arith) (omega arith) in
+    omega (arith, decided.0 c.if-middle-wide.true)
 
-loop-again : tie.Need-loop-preserved invariant-loop decreases-loop
-loop-again c = omega (arith, (tested_middle c.before).0 c.if1.true)
-
-loop-again-2 : tie.Need-loop-preserved-2 invariant-loop decreases-loop
-loop-again-2 c = omega (arith, lt_of_not-le (λ h. true≢false (sym ((tested_middle c.before).1 h) ∙ c.if1.false)))
+loop-again-2 : tie.Need-loop-low-preserved invariant-loop decreases-loop
+loop-again-2 c =
+    let l = c.loop-low in
+    let decided = (halved c.args.bandwidth (subst T (sym c.well_formed.0.1) tt) c.requires).decides (l.high - (l.high - l.low) / 2) (omega arith) (omega arith) in
+    omega (arith, lt_of_not-le (λ h. true≢false (sym (decided.1 h) ∙ c.if-middle-wide.false)))
 
 pub cost_by_spec : {M : Type 1} → statement M
 cost_by_spec =

@@ -5,25 +5,25 @@ use Rattle.te.proofs.Judged.{metric, refused, maximum, reservable}
 use Rattle.te.proofs.reading.judged.Statement.{statement}
 use Rattle.te.proofs.reading.judged.Tie as tie
 
-returns : tie.Need-returns
-returns c = metric _ _ c.if1.true
+returns : tie.Need-returns-then-kind-eq5
+returns c = metric _ _ c.if-kind-eq5.true
 
-returns-2 : tie.Need-returns-2
-returns-2 c = refused _ _ c.before.if1.false (none_from _ c.if2.true)
+returns-2 : tie.Need-returns-then-number-ge-INFINITE
+returns-2 c = refused _ _ c.if-kind-eq5.false (none_from _ c.if-number-ge-INFINITE.true)
 
-float-from-bits-bandwidth : tie.Need-float-from-bits-bandwidth
-float-from-bits-bandwidth c = no_nan _ c.if2.false
+float-from-bits-bandwidth : tie.Need-float_from_bits-bandwidth
+float-from-bits-bandwidth c = no_nan _ c.if-number-ge-INFINITE.false
 
-returns-3 : tie.Need-returns-3
-returns-3 c = refused _ _ c.before.before.if1.false (too_low _ c.before.if2.false c.if3.true)
+returns-3 : tie.Need-returns-then-bandwidth
+returns-3 c = refused _ _ c.if-kind-eq5.false (too_low _ c.if-number-ge-INFINITE.false c.if-bandwidth.true)
 
-returns-4 : tie.Need-returns-4
+returns-4 : tie.Need-returns-then-kind-eq6
 returns-4 c =
-    maximum _ _ c.before.before.before.if1.false (not_low _ c.before.before.if2.false c.before.if3.false) c.if4.true
+    maximum _ _ c.if-kind-eq5.false (not_low _ c.if-number-ge-INFINITE.false c.if-bandwidth.false) c.if-kind-eq6.true
 
-returns-5 : tie.Need-returns-5
+returns-5 : tie.Need-returns
 returns-5 c =
-    reservable _ _ c.before.before.before.if1.false (not_low _ c.before.before.if2.false c.before.if3.false) c.if4.false
+    reservable _ _ c.if-kind-eq5.false (not_low _ c.if-number-ge-INFINITE.false c.if-bandwidth.false) c.if-kind-eq6.false
 
 pub judged_spec : {M : Type 1} → statement M
 judged_spec = tie.close (tie.spec returns returns-2 float-from-bits-bandwidth returns-3 returns-4 returns-5)

@@ -8,8 +8,8 @@ use Rattle.te.proofs.reading.span_at.Tie as tie
 
 returns : tie.Need-returns
 returns c =
-    let a = c.before.before.before.args in
-    rw (span-at a.value.now a.at (omega arith), ← c.before.be16.ensures) c.span.ensures
+    let a = c.args in
+    rw (span-at a.value.now a.at (omega arith), ← c.be16-length.ensures) c.span.ensures
 
 pub span_at_spec : {M : Type 1} → statement M
 span_at_spec = tie.close (tie.spec (λ c. search rules) (λ c κs. search rules) (λ c κs. search rules) returns)

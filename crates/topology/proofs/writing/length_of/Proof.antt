@@ -12,17 +12,17 @@ use Rattle.topology.proofs.WrittenLength.{links_most, written_parts}
 use Rattle.topology.proofs.writing.length_of.Statement.{statement}
 use Rattle.topology.proofs.writing.length_of.Tie as tie
 
-module _ (c : tie.After-links-length) where
+module _ (c : tie.After-links_length) where
   abbrev t : Topology
-  t = c.before.before.args.t
+  t = c.args.t
 
   ids : t.routers ≤ length t.id
-  ids = omega (arith, ids_length t _ c.before.before.well_formed.0)
+  ids = omega (arith, ids_length t _ c.well_formed.0)
 
   links : t.links ≤ length t.link
-  links = omega (arith, links-length t _ c.before.before.well_formed.0)
+  links = omega (arith, links-length t _ c.well_formed.0)
 
-  few : c.links-length.result ≤ 2560
+  few : c.links_length.result ≤ 2560
   unfolding contents
   few = omega (arith, links_most (take t.links t.link), length-take-le t.links t.link links)
 

@@ -6,4 +6,4 @@ use Rattle.topology.proofs.writing.link_length.Statement.{statement}
 use Rattle.topology.proofs.writing.link_length.Tie as tie
 
 pub link_length_spec : {M : Type 1} → statement M
-link_length_spec = tie.close (tie.spec (λ c. sym (differing_long _ c.if1.true)) (λ c. sym (agreeing_long _ c.if1.false)))
+link_length_spec = tie.close (tie.spec (λ c. sym (differing_long _ c.if-l.true)) (λ c. sym (agreeing_long _ c.if-l.false)))

@@ -13,37 +13,37 @@ use Rattle.topology.proofs.WrittenLength.{links_most}
 use Rattle.topology.proofs.writing.links_length.Statement.{statement}
 use Rattle.topology.proofs.writing.links_length.Tie as tie
 
-abbrev invariant-loop : tie.invariant-loop
+abbrev invariant-loop : tie.invariant-loop-i
 invariant-loop t m bytes₀ i₀ bytes i = (i ≤ m) × (bytes ≡ length (joined_over link_bytes (take i t.link)))
 
-abbrev decreases-loop : tie.decreases-loop
+abbrev decreases-loop : tie.decreases-loop-i
 decreases-loop t m bytes₀ i₀ bytes i = m - i
 
-loop-holds : tie.Need-loop-init invariant-loop decreases-loop
+loop-holds : tie.Need-loop-i-init invariant-loop decreases-loop
 unfolding joined_over
 loop-holds c = (omega arith, refl)
 
-module _ (c : tie.After-link-length invariant-loop decreases-loop) where
-  abbrev turn : tie.At-loop invariant-loop decreases-loop
+module _ (c : tie.After-link_length-bytes invariant-loop decreases-loop) where
+  abbrev turn : tie.At-loop-i invariant-loop decreases-loop
   turn = c.before.before.before
 
-  inside : turn.loop.i + 1 ≤ length turn.before.args.t1.link
-  inside = omega (arith, links-length turn.before.args.t1 _ turn.before.good.0)
+  inside : turn.loop-i.i + 1 ≤ length turn.args.t.link
+  inside = omega (arith, links-length turn.args.t _ turn.well_formed.0)
 
-  more : turn.loop.bytes + c.link-length.result ≡ length (joined_over link_bytes (take (turn.loop.i + 1) turn.before.args.t1.link))
+  more : turn.loop-i.bytes + c.link_length-bytes.result ≡ length (joined_over link_bytes (take (turn.loop-i.i + 1) turn.args.t.link))
   unfolding no_link
-  more = omega (arith, firsts_more link_bytes turn.before.args.t1.link turn.loop.i no_link (omega (arith, inside)))
+  more = omega (arith, firsts_more link_bytes turn.args.t.link turn.loop-i.i no_link (omega (arith, inside)))
 
-  few : turn.loop.bytes + c.link-length.result ≤ 2560
+  few : turn.loop-i.bytes + c.link_length-bytes.result ≤ 2560
   few =
-      let ls = turn.before.args.t1.link in
-      omega (arith, more, links_most (take (turn.loop.i + 1) ls), length-take-le (turn.loop.i + 1) ls inside)
+      let ls = turn.args.t.link in
+      omega (arith, more, links_most (take (turn.loop-i.i + 1) ls), length-take-le (turn.loop-i.i + 1) ls inside)
 
 returns : tie.Need-returns invariant-loop decreases-loop
 unfolding contents
 returns c =
-    let e : c.before.loop.i ≡ c.before.before.args.t1.links = omega arith in
-    c.before.loop.invariant.1 ∙ ap (λ (i : ℕ). length (joined_over link_bytes (take i c.before.before.args.t1.link))) e
+    let e : c.loop-i.i ≡ c.args.t.links = omega arith in
+    c.loop-i.invariant.1 ∙ ap (λ (i : ℕ). length (joined_over link_bytes (take i c.args.t.link))) e
 
 pub links_length_spec : {M : Type 1} → statement M
 links_length_spec =

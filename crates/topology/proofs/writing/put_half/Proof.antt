@@ -12,7 +12,7 @@ use Rattle.topology.proofs.writing.put_half.Tie as tie
 
 returns : tie.Need-returns
 unfolding half_body in_bytes
-returns c = rw (over_five _ _ _ _ _ _ _ c.before.before.requires) (rw div-one)
+returns c = rw (over_five _ _ _ _ _ _ _ c.requires) (rw div-one)
 
 pub put_half_spec : {M : Type 1} → statement M
 put_half_spec =

@@ -11,36 +11,33 @@ use Rattle.topology.proofs.LinkBytes.{agreeing_bytes, agreeing_long, differing_b
 use Rattle.topology.proofs.writing.put_link.Statement.{statement}
 use Rattle.topology.proofs.writing.put_link.Tie as tie
 
-put-half-requires : tie.Need-put-half-requires
+put-half-requires : tie.Need-put_half-requires
 put-half-requires c κs =
-    let s : tie.Start = c.before.before.before.before.before.before in omega (arith, agreeing_long s.args.l c.before.if1.true)
+    let s : tie.Start = c.before.before.before.before.before.before in omega (arith, agreeing_long s.args.l c.if-l.true)
 
-returns : tie.Need-returns
+returns : tie.Need-returns-then-l
 unfolding first_half
 returns c =
-    let test = c.before.before.before.before in
-    let s : tie.Start = test.before.before.before.before.before in
-    let e = test.if1.true in
-    (omega (arith, agreeing_long s.args.l e), rw (agreeing_bytes s.args.l e) c.before.before.put-half.ensures)
+    let s : tie.Start = c.before.before.before.before.before.before.before.before.before in
+    let e = c.if-l.true in
+    (omega (arith, agreeing_long s.args.l e), rw (agreeing_bytes s.args.l e) c.put_half.ensures)
 
-put-half-requires-2 : tie.Need-put-half-requires-2
+put-half-requires-2 : tie.Need-put_half-requires-2
 put-half-requires-2 c κs =
-    let s : tie.Start = c.before.before.before.before.before.before in omega (arith, differing_long s.args.l c.before.if1.false)
+    let s : tie.Start = c.before.before.before.before.before.before in omega (arith, differing_long s.args.l c.if-l.false)
 
-put-half-requires-3 : tie.Need-put-half-requires-3
+put-half-requires-3 : tie.Need-put_half-requires-3
 put-half-requires-3 c κs =
-    let test = c.before.before.before.before.before in
-    let s : tie.Start = test.before.before.before.before.before in
-    omega (arith, differing_long s.args.l test.if1.false)
+    let s : tie.Start = c.before.before.before.before.before.before.before.before.before.before in
+    omega (arith, differing_long s.args.l c.if-l.false)
 
-returns-2 : tie.Need-returns-2
+returns-2 : tie.Need-returns
 unfolding first_half second_half half_bytes half_body in_bytes
 returns-2 c =
-    let test = c.before.before.before.before.before.before.before.before in
-    let s : tie.Start = test.before.before.before.before.before in
-    let d = test.if1.false in (
+    let s : tie.Start = c.before.before.before.before.before.before.before.before.before.before.before.before.before in
+    let d = c.if-l.false in (
       omega (arith, differing_long s.args.l d),
-      rw (differing_bytes s.args.l d, c.before.before.put-half3.ensures, c.before.before.before.before.before.before.put-half2.ensures)
+      rw (differing_bytes s.args.l d, c.put_half-3.ensures, c.put_half-2.ensures)
           (over_over _ s.args.at _ _ _ refl (omega arith)),
     )
 

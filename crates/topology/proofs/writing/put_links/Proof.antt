@@ -11,32 +11,32 @@ use Rattle.topology.proofs.Joined.{FirstPut, first_none, first_length, first_fit
 use Rattle.topology.proofs.writing.put_links.Statement.{statement}
 use Rattle.topology.proofs.writing.put_links.Tie as tie
 
-abbrev invariant-loop : tie.invariant-loop
+abbrev invariant-loop : tie.invariant-loop-i
 invariant-loop out₀ at t m next₀ i₀ out next i = FirstPut link_bytes out₀ at t.link m out i next
 
-abbrev decreases-loop : tie.decreases-loop
+abbrev decreases-loop : tie.decreases-loop-i
 decreases-loop out₀ at t m next₀ i₀ out next i = m - i
 
-loop-holds : tie.Need-loop-init invariant-loop decreases-loop
+loop-holds : tie.Need-loop-i-init invariant-loop decreases-loop
 unfolding contents
-loop-holds c = first_none link_bytes refl (omega (arith, links-length c.before.args.t1 _ c.before.well_formed.0)) c.before.requires.1
+loop-holds c = first_none link_bytes refl (omega (arith, links-length c.args.t _ c.well_formed.0)) c.requires.1
 
-same : (c : tie.At-loop invariant-loop decreases-loop) → length c.loop.out ≡ length c.before.before.args.out.now
-same c = first_length link_bytes c.loop.invariant
+same : (c : tie.At-loop-i invariant-loop decreases-loop) → length c.loop-i.out ≡ length c.args.out.now
+same c = first_length link_bytes c.loop-i.invariant
 
-put-link-requires : tie.Need-put-link-requires invariant-loop decreases-loop
+put-link-requires : tie.Need-put_link-next-requires invariant-loop decreases-loop
 unfolding no_link
-put-link-requires c κs = first_fits link_bytes c.before.before.before.loop.invariant no_link (omega arith)
+put-link-requires c κs = first_fits link_bytes c.loop-i.invariant no_link (omega arith)
 
-loop-again : tie.Need-loop-preserved invariant-loop decreases-loop
+loop-again : tie.Need-loop-i-preserved invariant-loop decreases-loop
 unfolding no_link
 loop-again c =
-    let put = c.before.before.put-link.ensures in
-    first_next link_bytes c.before.before.before.before.before.before.loop.invariant no_link (omega arith) put.0 put.1
+    let put = c.put_link-next.ensures in
+    first_next link_bytes c.loop-i.invariant no_link (omega arith) put.0 put.1
 
 returns : tie.Need-returns invariant-loop decreases-loop
 unfolding contents
-returns c = first_all link_bytes c.before.loop.invariant (omega arith)
+returns c = first_all link_bytes c.loop-i.invariant (omega arith)
 
 pub put_links_spec : {M : Type 1} → statement M
 put_links_spec =

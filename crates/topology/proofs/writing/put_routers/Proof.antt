@@ -12,34 +12,34 @@ use Rattle.topology.proofs.Joined.{router_five, joined_many, FirstPut, first_non
 use Rattle.topology.proofs.writing.put_routers.Statement.{statement}
 use Rattle.topology.proofs.writing.put_routers.Tie as tie
 
-abbrev invariant-loop : tie.invariant-loop
+abbrev invariant-loop : tie.invariant-loop-i
 invariant-loop out₀ at t n i₀ out i = FirstPut router_bytes out₀ at t.id n out i (at + 5 * i)
 
-abbrev decreases-loop : tie.decreases-loop
+abbrev decreases-loop : tie.decreases-loop-i
 decreases-loop out₀ at t n i₀ out i = n - i
 
-loop-holds : tie.Need-loop-init invariant-loop decreases-loop
+loop-holds : tie.Need-loop-i-init invariant-loop decreases-loop
 loop-holds c =
-    let t = c.before.args.t1 in
-    let inside : t.routers ≤ length t.id = omega (arith, ids_length t _ c.before.well_formed.0) in
+    let t = c.args.t in
+    let inside : t.routers ≤ length t.id = omega (arith, ids_length t _ c.well_formed.0) in
     first_none router_bytes (omega arith) inside
-    (omega (arith, joined_many router_bytes router_five (take t.routers t.id) (length-take-le t.routers t.id inside), c.before.requires.1))
+    (omega (arith, joined_many router_bytes router_five (take t.routers t.id) (length-take-le t.routers t.id inside), c.requires.1))
 
-same : (c : tie.At-loop invariant-loop decreases-loop) → length c.loop.out ≡ length c.before.before.args.out.now
-same c = first_length router_bytes c.loop.invariant
+same : (c : tie.At-loop-i invariant-loop decreases-loop) → length c.loop-i.out ≡ length c.args.out.now
+same c = first_length router_bytes c.loop-i.invariant
 
-loop-again : tie.Need-loop-preserved invariant-loop decreases-loop
+loop-again : tie.Need-loop-i-preserved invariant-loop decreases-loop
 loop-again c =
-    first_next router_bytes c.before.before.before.before.before.before.loop.invariant 0 (omega arith) (rw router_five (omega arith))
-    c.before.before.put-router.ensures
+    first_next router_bytes c.loop-i.invariant 0 (omega arith) (rw router_five (omega arith))
+    c.put_router.ensures
 
-same_length : tie.Need-same-length invariant-loop decreases-loop
+same_length : tie.Need-shape_of-out invariant-loop decreases-loop
 same_length c = same c.before
 
 returns : tie.Need-returns invariant-loop decreases-loop
 unfolding contents
 returns c =
-    let l : tie.At-loop invariant-loop decreases-loop = c.before in (omega arith, (first_all router_bytes l.loop.invariant (omega arith)).1)
+    let l : tie.At-loop-i invariant-loop decreases-loop = c.before in (omega arith, (first_all router_bytes l.loop-i.invariant (omega arith)).1)
 
 pub put_routers_spec : {M : Type 1} → statement M
 put_routers_spec =

@@ -17,38 +17,38 @@ use Rattle.topology_sound.proofs.Turns.{Rest, rest, rest_none}
 use Rattle.topology_sound.proofs.testing.links_end.Statement.{statement}
 use Rattle.topology_sound.proofs.testing.links_end.Tie as tie
 
-abbrev invariant-loop : tie.invariant-loop
+abbrev invariant-loop : tie.invariant-loop-i
 invariant-loop t none₀ i₀ none i = Rest is_no_link (every is_no_link (drop t.links t.link)) t.link 256 i none
 
-abbrev decreases-loop : tie.decreases-loop
+abbrev decreases-loop : tie.decreases-loop-i
 decreases-loop t none₀ i₀ none i = 256 - i
 
-loop-holds : tie.Need-loop-init invariant-loop decreases-loop
-loop-holds c = record { within = c.requires.links-fit; long = links-length c.args.t1 _ c.well-formed.0; is = refl }
+loop-holds : tie.Need-loop-i-init invariant-loop decreases-loop
+loop-holds c = record { within = c.requires.links-fit; long = links-length c.args.t _ c.well_formed.0; is = refl }
 
-loop-again : tie.Need-loop-preserved invariant-loop decreases-loop
+loop-again : tie.Need-loop-i-preserved invariant-loop decreases-loop
 unfolding no_link is_no_link
 loop-again c =
-    let l = c.before.before.before.before.loop in
-    let k = get_or c.before.before.before.before.before.args.t1.link l.i no_link in
+    let l = c.loop-i in
+    let k = get_or c.args.t.link l.i no_link in
     let second = eqb k.second.0 0 in
     let cost = eqb k.cost 0 in
     let back = eqb k.back 0 in
     let fails = and-false l.none in
     rest l.invariant (omega arith) no_link
     (⊎_elim
-    (λ w. w.1
+    (λ w. w.none-is
     ∙ sym
-    (⊎_elim (λ v. rw (ne_eqb _ 0 v.taken) fails)
-    (⊎_elim (λ v. rw (eq-eqb _ 0 v.0.left, not-true second v.2.taken) fails)
-    (⊎_elim (λ v. rw (eq-eqb _ 0 v.0.left, not-false second v.2.left, not-true cost v.4.taken) fails)
-    (λ v. rw (eq-eqb _ 0 v.0.left, not-false second v.2.left, not-false cost v.4.left, not-true back v.6.taken) fails))) w.0.came))
-    (λ w. w.7
-    ∙ sym (rw (eq-eqb _ 0 w.0.left, not-false second w.2.left, not-false cost w.4.left, not-false back w.6.left) (and-true l.none)))
-    c.if1.branch)
+    (⊎_elim (λ v. rw (ne_eqb _ 0 v.if-l-ne0.true) fails)
+    (⊎_elim (λ v. rw (eq-eqb _ 0 v.if-l-ne0.false, not-true second v.if-l-ne0-2.true-raw) fails)
+    (⊎_elim (λ v. rw (eq-eqb _ 0 v.if-l-ne0.false, not-false second v.if-l-ne0-2.false-raw, not-true cost v.if-l-ne0-3.true-raw) fails)
+    (λ v. rw (eq-eqb _ 0 v.if-l-ne0.false, not-false second v.if-l-ne0-2.false-raw, not-false cost v.if-l-ne0-3.false-raw, not-true back v.if-l-ne0-4.true-raw) fails))) w.then-l-ne0.branch-raw))
+    (λ w. w.none-is
+    ∙ sym (rw (eq-eqb _ 0 w.if-l-ne0.false, not-false second w.if-l-ne0-2.false-raw, not-false cost w.if-l-ne0-3.false-raw, not-false back w.if-l-ne0-4.false-raw) (and-true l.none)))
+    c.if-l-ne0.branch-raw)
 
 returns : tie.Need-returns invariant-loop decreases-loop
-returns c = rest_none c.before.loop.invariant c.loop-test.false
+returns c = rest_none c.loop-i.invariant c.loop-i-test.false
 
 pub links_end_spec : {M : Type 1} → statement M
 links_end_spec =

@@ -25,142 +25,135 @@ use Rattle.topology_sound.proofs.Crowds.{Tallied, tallied_none, tallied_more, al
 use Rattle.topology_sound.proofs.testing.links_fit.Statement.{statement}
 use Rattle.topology_sound.proofs.testing.links_fit.Tie as tie
 
-abbrev invariant-loop : tie.invariant-loop
+abbrev invariant-loop : tie.invariant-loop-i
 invariant-loop t n links linked₀ count₀ i₀ linked count i =
     let ls = map seen (take i t.link) in
     Passing (links_sound n) t.link t.links i × Passing pairs_apart t.link t.links i × Tabled linked ls × Tallied count ls
     × (length t.id ≡ 64)
 
-abbrev decreases-loop : tie.decreases-loop
+abbrev decreases-loop : tie.decreases-loop-i
 decreases-loop t n links linked₀ count₀ i₀ linked count i = links - i
 
-loop-holds : tie.Need-loop-init invariant-loop decreases-loop
+loop-holds : tie.Need-loop-i-init invariant-loop decreases-loop
 loop-holds c =
-    let long = links-length c.args.t1 _ c.well-formed.0 in (
+    let long = links-length c.args.t _ c.well_formed.0 in (
       none_passed (sound_grow _) _ _ (omega (arith, long, c.requires.links-fit)),
       none_passed pairs_grow _ _ (omega (arith, long, c.requires.links-fit)),
       tabled_none,
       tallied_none,
-      ids_length c.args.t1 _ c.well-formed.0,
+      ids_length c.args.t _ c.well_formed.0,
     )
 
 -- the topology, and the link of a turn
-abbrev topology : tie.In-loop invariant-loop decreases-loop → Topology
-topology w = w.before.before.args.t1
+abbrev topology : tie.In-loop-i invariant-loop decreases-loop → Topology
+topology w = w.args.t
 
-abbrev link_at : tie.In-loop invariant-loop decreases-loop → Link
-link_at w = seen (get_or (topology w).link w.before.loop.i no_link)
+abbrev link_at : tie.In-loop-i invariant-loop decreases-loop → Link
+link_at w = seen (get_or (topology w).link w.loop-i.i no_link)
 
-unsound : (w : tie.In-loop invariant-loop decreases-loop) → (SoundLink (topology w).routers (link_at w) → ⊥) → false ≡ links-fit (topology w)
+unsound : (w : tie.In-loop-i invariant-loop decreases-loop) → (SoundLink (topology w).routers (link_at w) → ⊥) → false ≡ links-fit (topology w)
 unfolding contents
-unsound w no' = rw (sym (failed (sound_grow _) w.before.loop.invariant.0 (omega arith) no_link (unsound_fails _ _ no')))
+unsound w no' = rw (sym (failed (sound_grow _) w.loop-i.invariant.0 (omega arith) no_link (unsound_fails _ _ no')))
 
-returns : tie.Need-returns invariant-loop decreases-loop
+returns : tie.Need-returns-then-n-first invariant-loop decreases-loop
 unfolding no_link seen
 returns c =
-    unsound c.before.before.before.before
-    (⊎_elim (λ w s. omega (arith, w.taken, s.first_listed)) (λ w s. omega (arith, leb-true, s.second_listed)) c.if1.branch)
+    unsound c.before.before.before.before.before.before
+    (⊎_elim (λ w s. omega (arith, w.if-n-first.true, s.first_listed)) (λ w s. omega (arith, leb-true, s.second_listed)) c.then-n-first.branch-raw)
 
-returns-2 : tie.Need-returns-2 invariant-loop decreases-loop
+returns-2 : tie.Need-returns-then-first-second invariant-loop decreases-loop
 unfolding no_link seen
 returns-2 c =
-    unsound c.before.before.before.before.before.before
-    (⊎_elim (λ w s. s.ends_differ (omega (arith, w.taken)))
-    (⊎_elim (λ w s. omega (arith, eqb-true, s.cost_least)) (λ w s. omega (arith, eqb-true, s.back_least))) c.if3.branch)
+    unsound c.before.before.before.before.before.before.before.before
+    (⊎_elim (λ w s. s.ends_differ (omega (arith, w.if-first-second.true)))
+    (⊎_elim (λ w s. omega (arith, eqb-true, s.cost_least)) (λ w s. omega (arith, eqb-true, s.back_least))) c.then-first-second.branch-raw)
 
 -- a turn whose link is sound; that its costs are at most 65,535 is what a `u16` tells
-abbrev turn : tie.Else5 invariant-loop decreases-loop → tie.In-loop invariant-loop decreases-loop
-turn c = c.before.before.before.before.before.before.before.before.before.before
+abbrev turn : tie.Else-l-eq0-2 invariant-loop decreases-loop → tie.In-loop-i invariant-loop decreases-loop
+turn c = c.before.before.before.before.before.before.before.before.before.before.before.before
 
-abbrev ends_of : tie.Else5 invariant-loop decreases-loop → tie.After-index2 invariant-loop decreases-loop
+abbrev ends_of : tie.Else-l-eq0-2 invariant-loop decreases-loop → tie.After-index-second invariant-loop decreases-loop
 ends_of c = c.before.before.before.before.before.before.before
 
-second_in : (c : tie.Else5 invariant-loop decreases-loop) → (ends_of c).index2.result < (topology (turn c)).routers
-second_in c = leb-false _ _ c.before.before.before.before.before.if2.false
+second_in : (c : tie.Else-l-eq0-2 invariant-loop decreases-loop) → (ends_of c).index-second.result < (topology (turn c)).routers
+second_in c = leb-false _ _ c.if-n-second.false-raw
 
-sound-link : (c : tie.Else5 invariant-loop decreases-loop) → SoundLink (topology (turn c)).routers (link_at (turn c))
+sound-link : (c : tie.Else-l-eq0-2 invariant-loop decreases-loop) → SoundLink (topology (turn c)).routers (link_at (turn c))
 unfolding no_link seen
 sound-link c =
     let w = turn c in
-    let m = get_d_mem (topology w).link w.before.loop.i no_link (omega arith) in
+    let m = get_d_mem (topology w).link w.loop-i.i no_link (omega arith) in
     record {
       first_listed = omega arith;
       second_listed = omega (arith, second_in c);
-      ends_differ = λ e. c.before.before.before.before.if3.false (omega arith);
+      ends_differ = λ e. c.if-first-second.false (omega arith);
       cost_least = omega (arith, eqb-false);
-      cost_most = omega (arith, cost_fits (topology w) _ w.before.before.good.0 _ m);
+      cost_most = omega (arith, cost_fits (topology w) _ w.well_formed.0 _ m);
       back_least = omega (arith, eqb-false);
-      back_most = omega (arith, back_fits (topology w) _ w.before.before.good.0 _ m);
+      back_most = omega (arith, back_fits (topology w) _ w.well_formed.0 _ m);
     }
 
-ends_are : (c : tie.Else5 invariant-loop decreases-loop) →
-    ((ends_of c).before.index.result ≡ (link_at (turn c)).first) × ((ends_of c).index2.result ≡ (link_at (turn c)).second)
+ends_are : (c : tie.Else-l-eq0-2 invariant-loop decreases-loop) →
+    ((ends_of c).index-first.result ≡ (link_at (turn c)).first) × ((ends_of c).index-second.result ≡ (link_at (turn c)).second)
 unfolding no_link seen
-ends_are c = ((ends_of c).before.index.ensures, (ends_of c).index2.ensures)
+ends_are c = ((ends_of c).index-first.ensures, (ends_of c).index-second.ensures)
 
-ends : (c : tie.Else5 invariant-loop decreases-loop) → ((ends_of c).before.index.result < 64) × ((ends_of c).index2.result < 64)
+ends : (c : tie.Else-l-eq0-2 invariant-loop decreases-loop) → ((ends_of c).index-first.result < 64) × ((ends_of c).index-second.result < 64)
 ends c = (omega arith, omega (arith, second_in c))
 
 -- what the table of pairs has of it
-tabled : (c : tie.Else5 invariant-loop decreases-loop) → let w = turn c in
-    get_or w.before.loop.linked ((ends_of c).before.index.result * 64 + (ends_of c).index2.result) false
-    ≡ any (same_pair (link_at w)) (map seen (take w.before.loop.i (topology w).link))
+tabled : (c : tie.Else-l-eq0-2 invariant-loop decreases-loop) → let w = turn c in
+    get_or w.loop-i.linked ((ends_of c).index-first.result * 64 + (ends_of c).index-second.result) false
+    ≡ any (same_pair (link_at w)) (map seen (take w.loop-i.i (topology w).link))
 tabled c =
-    let w = (turn c).before in
-    ap (λ j. get_or w.loop.linked j false) (omega (arith, ends_are c))
-    ∙ w.loop.inv.2.at (link_at (turn c)) (omega (arith, sound-link c)) (omega (arith, sound-link c))
+    ap (λ j. get_or (turn c).loop-i.linked j false) (omega (arith, ends_are c))
+    ∙ (turn c).loop-i.invariant.2.at (link_at (turn c)) (omega (arith, sound-link c)) (omega (arith, sound-link c))
 
-returns-3 : tie.Need-returns-3 invariant-loop decreases-loop
+returns-3 : tie.Need-returns-then-linked-first invariant-loop decreases-loop
 unfolding no_link contents
 returns-3 c =
     let w = turn c.before in
-    rw (sym (failed pairs_grow w.before.loop.inv.1 (omega arith) no_link (ap not (sym (tabled c.before) ∙ c.if6.true))), and-false)
+    rw (sym (failed pairs_grow w.loop-i.invariant.1 (omega arith) no_link (ap not (sym (tabled c.before) ∙ c.if-linked-first.true))), and-false)
 
 -- one of its ends has 16 neighbours already
-refuse : (c : tie.Else5 invariant-loop decreases-loop) (u : ℕ) → ((link_at (turn c)).first ≡ u) ⊎ ((link_at (turn c)).second ≡ u) →
-    16 ≤ get_or (turn c).before.loop.count u 0 → false ≡ links-fit (topology (turn c))
+refuse : (c : tie.Else-l-eq0-2 invariant-loop decreases-loop) (u : ℕ) → ((link_at (turn c)).first ≡ u) ⊎ ((link_at (turn c)).second ≡ u) →
+    16 ≤ get_or (turn c).loop-i.count u 0 → false ≡ links-fit (topology (turn c))
 refuse c u e many =
-    let w = (turn c).before in
-    let t = w.before.args.t1 in
+    let t = (turn c).args.t in
     let h : u < t.routers = ⊎_elim (λ f. omega (arith, sound-link c)) (λ s. omega (arith, sound-link c)) e in
-    let n = w.loop.inv.3.at u (omega arith) in
-    rw (sym (crowded t (omega arith) u w.loop.i no_link h (omega arith) w.loop.inv.0.long e (omega (arith, n))), and-false)
+    let n = (turn c).loop-i.invariant.3.at u (omega arith) in
+    rw (sym (crowded t (omega arith) u (turn c).loop-i.i no_link h (omega arith) (turn c).loop-i.invariant.0.long e (omega (arith, n))), and-false)
 
-returns-4 : tie.Need-returns-4 invariant-loop decreases-loop
+returns-4 : tie.Need-returns-then-at_first-ge-NEIGHBOURS invariant-loop decreases-loop
 returns-4 c =
-    let l = c.before.before in
-    ⊎_elim (λ w. refuse l _ (inl (sym (ends_are l).0)) w.taken) (λ w. refuse l _ (inr (sym (ends_are l).1)) (leb-true _ _ w.1.taken))
-    c.if7.branch
+    ⊎_elim (λ w. refuse c.before.before _ (inl (sym (ends_are c.before.before).0)) w.if-at_first-ge-NEIGHBOURS.true) (λ w. refuse c.before.before _ (inr (sym (ends_are c.before.before).1)) (leb-true _ _ w.if-at_second-ge-NEIGHBOURS.true-raw))
+    c.then-at_first-ge-NEIGHBOURS.branch-raw
 
-loop-again : tie.Need-loop-preserved invariant-loop decreases-loop
+loop-again : tie.Need-loop-i-preserved invariant-loop decreases-loop
 unfolding no_link
 loop-again c =
-    let p = c.before.before in
-    let l = p.before in
-    let w = (turn l).before in
-    let k = link_at (turn l) in
-    let s = sound-link l in
-    let (f, g) = ends_are l in
-    let within = (turn l).loop-test.true in
-    let differ = l.before.before.before.before.if3.false in
-    let more = map_more seen w.before.args.t1.link w.loop.i no_link (omega (arith, within, w.loop.inv.0.long)) in (
-      passed (sound_grow _) w.loop.inv.0 within no_link (sound_passes _ _ s),
-      passed pairs_grow w.loop.inv.1 within no_link (ap not (sym (tabled l) ∙ p.if6.false)),
-      rw more (tabled_more w.loop.inv.2 k (omega (arith, s)) (omega (arith, s)) f g),
+    let k = link_at (turn c.before.before.before) in
+    let s = sound-link c.before.before.before in
+    let (f, g) = ends_are c.before.before.before in
+    let within = (turn c.before.before.before).loop-i-test.true in
+    let differ = c.if-first-second.false in
+    let more = map_more seen (turn c.before.before.before).args.t.link (turn c.before.before.before).loop-i.i no_link (omega (arith, within, (turn c.before.before.before).loop-i.invariant.0.long)) in (
+      passed (sound_grow _) (turn c.before.before.before).loop-i.invariant.0 within no_link (sound_passes _ _ s),
+      passed pairs_grow (turn c.before.before.before).loop-i.invariant.1 within no_link (ap not (sym (tabled c.before.before.before) ∙ c.if-linked-first.false)),
+      rw more (tabled_more (turn c.before.before.before).loop-i.invariant.2 k (omega (arith, s)) (omega (arith, s)) f g),
       rw more
-          (tallied_more w.loop.inv.3 k f g (ends l).0 (ends l).1 differ c.before.if7.false (leb-false _ _ c.if8.false)),
-      w.loop.inv.4,
+          (tallied_more (turn c.before.before.before).loop-i.invariant.3 k f g (ends c.before.before.before).0 (ends c.before.before.before).1 differ c.if-at_first-ge-NEIGHBOURS.false (leb-false _ _ c.if-at_second-ge-NEIGHBOURS.false-raw)),
+      (turn c.before.before.before).loop-i.invariant.4,
     )
 
-returns-5 : tie.Need-returns-5 invariant-loop decreases-loop
+returns-5 : tie.Need-returns invariant-loop decreases-loop
 unfolding contents
 returns-5 c =
-    let w = c.before in
-    let t = w.before.args.t1 in
-    let e : w.loop.i ≡ t.links = omega (arith, w.loop.invariant.0.within) in
-    let n = w.loop.invariant.3 in
+    let t = c.args.t in
+    let e : c.loop-i.i ≡ t.links = omega (arith, c.loop-i.invariant.0.within) in
+    let n = c.loop-i.invariant.3 in
     let few = all_uncrowded t (omega arith) (λ u h. rw (← e) (omega (arith, n.at u (omega arith), n.most u (omega arith)))) in
-    rw (sym (all_passed w.loop.invariant.0 c.loop-test.false), sym (all_passed w.loop.invariant.1 c.loop-test.false), sym few)
+    rw (sym (all_passed c.loop-i.invariant.0 c.loop-i-test.false), sym (all_passed c.loop-i.invariant.1 c.loop-i-test.false), sym few)
 
 pub links_fit_spec : {M : Type 1} → statement M
 links_fit_spec =

@@ -15,13 +15,13 @@ use Rattle.topology_types.proofs.Prefix.{take_more, any_more}
 use Rattle.topology_sound.proofs.unchecked.is_listed.Statement.{statement}
 use Rattle.topology_sound.proofs.unchecked.is_listed.Tie as tie
 
-abbrev invariant-loop : tie.invariant-loop
+abbrev invariant-loop : tie.invariant-loop-i
 invariant-loop ids count id found₀ i₀ found i = (i ≤ count) × (found ≡ member id (take i ids))
 
-abbrev decreases-loop : tie.decreases-loop
+abbrev decreases-loop : tie.decreases-loop-i
 decreases-loop ids count id found₀ i₀ found i = count - i
 
-loop-holds : tie.Need-loop-init invariant-loop decreases-loop
+loop-holds : tie.Need-loop-i-init invariant-loop decreases-loop
 unfolding member any
 loop-holds c = (omega arith, refl)
 
@@ -30,21 +30,20 @@ passed : (ids : List ℕ) (i id : ℕ) → i < length ids → member id (take (i
 unfolding member
 passed ids i id h = rw (take_more ids i 0 h) (any_more (eqb id) (take i ids) (get_or ids i 0))
 
-loop-again : tie.Need-loop-preserved invariant-loop decreases-loop
+loop-again : tie.Need-loop-i-preserved invariant-loop decreases-loop
 loop-again c =
-    let s = c.before.before.before.before in
-    let l = c.before.before.before.loop in
-    let id = s.args.id in
-    let more = passed s.args.ids.now l.i id (omega arith) in (
+    let l = c.loop-i in
+    let id = c.args.id in
+    let more = passed c.args.ids.now l.i id (omega arith) in (
       omega arith,
       ⊎_elim
-          (λ w. w.1 ∙ sym (more ∙ rw (eq-eqb id _ (sym w.0.taken)) (or-true (member id (take l.i s.args.ids.now)))))
-          (λ w. w.1 ∙ l.invariant.1 ∙ sym (more ∙ rw (ne_eqb id _ (λ e. w.0.left (sym e))) (or-false (member id (take l.i s.args.ids.now)))))
-          c.if1.branch,
+          (λ w. w.found-is ∙ sym (more ∙ rw (eq-eqb id _ (sym w.if-ids-i.true)) (or-true (member id (take l.i c.args.ids.now)))))
+          (λ w. w.found-is ∙ l.invariant.1 ∙ sym (more ∙ rw (ne_eqb id _ (λ e. w.if-ids-i.false (sym e))) (or-false (member id (take l.i c.args.ids.now)))))
+          c.if-ids-i.branch-raw,
     )
 
 returns : tie.Need-returns invariant-loop decreases-loop
-returns c = rw (le_antisymm c.loop-test.false c.before.loop.invariant.0) c.before.loop.invariant.1
+returns c = rw (le_antisymm c.loop-i-test.false c.loop-i.invariant.0) c.loop-i.invariant.1
 
 pub is_listed_spec : {M : Type 1} → statement M
 is_listed_spec =

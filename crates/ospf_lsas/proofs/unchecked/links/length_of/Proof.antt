@@ -8,34 +8,32 @@ use Rattle.ospf_lsas.proofs.Malformed.{refuses, too_short, cut-short, no_length,
 use Rattle.ospf_lsas.proofs.unchecked.links.length_of.Statement.{statement}
 use Rattle.ospf_lsas.proofs.unchecked.links.length_of.Tie as tie
 
-returns : tie.Need-returns
-returns c = let s = c.before.before.args.s.now in refuses s (too_short s (omega arith))
+returns : tie.Need-returns-then-s-lt24
+returns c = let s = c.args.s.now in refuses s (too_short s (omega arith))
 
-returns-2 : tie.Need-returns-2
-returns-2 c = let s = c.before.before.before.before.args.s.now in refuses s (cut-short s (omega arith) (omega arith))
+returns-2 : tie.Need-returns-then-s-length
+returns-2 c = let s = c.args.s.now in refuses s (cut-short s (omega arith) (omega arith))
 
-returns-3 : tie.Need-returns-3
-returns-3 c = let s = c.before.before.before.before.before.args.s.now in refuses s (no_length s (omega arith) (omega arith) (omega arith))
+returns-3 : tie.Need-returns-then-length-lt24
+returns-3 c = let s = c.args.s.now in refuses s (no_length s (omega arith) (omega arith) (omega arith))
 
-returns-4 : tie.Need-returns-4
+returns-4 : tie.Need-returns-then-s-ne1
 returns-4 c =
-    let s = c.before.before.before.before.before.before.before.args.s.now in
-    refuses s (other_type s (omega arith) (omega arith) (omega arith) c.if4.true)
+    let s = c.args.s.now in
+    refuses s (other_type s (omega arith) (omega arith) (omega arith) c.if-s-ne1.true)
 
-returns-5 : tie.Need-returns-5
+returns-5 : tie.Need-returns-then-not-are_links
 returns-5 c =
-    let start = c.before.before.before.before.before.before.before.before in
-    let s = start.before.before.before.args.s.now in
-    let are = rw (start.be16.ensures, c.before.before.before.be162.ensures) at c.before.are-links.ensures in
-    refuses s (no_links s (omega arith) (omega arith) (omega arith) (omega arith) (sym are ∙ not-true _ c.if5.true))
+    let s = c.args.s.now in
+    let are = rw (c.be16-length.ensures, c.be16-number.ensures) at c.are_links.ensures in
+    refuses s (no_links s (omega arith) (omega arith) (omega arith) (omega arith) (sym are ∙ not-true _ c.if-not-are_links.true-raw))
 
-returns-6 : tie.Need-returns-6
+returns-6 : tie.Need-returns
 returns-6 c =
-    let start = c.before.before.before.before.before.before.before.before in
-    let s = start.before.before.before.args.s.now in
-    let are = rw (start.be16.ensures, c.before.before.before.be162.ensures) at c.before.are-links.ensures in
-    start.be16.ensures
-    ∙ answers s (omega arith) (omega arith) (omega arith) (omega arith) (sym are ∙ not-false _ c.if5.false)
+    let s = c.args.s.now in
+    let are = rw (c.be16-length.ensures, c.be16-number.ensures) at c.are_links.ensures in
+    c.be16-length.ensures
+    ∙ answers s (omega arith) (omega arith) (omega arith) (omega arith) (sym are ∙ not-false _ c.if-not-are_links.false-raw)
 
 pub length_of_spec : {M : Type 1} → statement M
 length_of_spec =

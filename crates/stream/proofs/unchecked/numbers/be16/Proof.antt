@@ -6,19 +6,19 @@ use borrow.Author.Rules.{rules}
 use Rattle.stream.proofs.unchecked.numbers.be16.Statement.{statement}
 use Rattle.stream.proofs.unchecked.numbers.be16.Tie as tie
 
-add-result-2 : tie.Need-overflow-add-result-2
+add-result-2 : tie.Need-overflow_add-result-2
 add-result-2 c =
-    omega (arith, c.shared-slice-known2.given c.before.before.args.at, c.shared-slice-known2.given (c.before.before.args.at + 1))
+    omega (arith, c.shared_slice_known-2-1.given c.args.at, c.shared_slice_known-2-1.given (c.args.at + 1))
 
 pub be16_spec : {M : Type 1} → statement M
 be16_spec =
     tie.close
     (tie.spec
     (λ c. search rules)
-    (λ c. omega (arith, c.shared-slice-known.given c.before.args.at))
-    (λ c. omega (arith, c.shared-slice-known.given c.before.args.at))
+    (λ c. omega (arith, c.shared_slice_known-1.given c.args.at))
+    (λ c. omega (arith, c.shared_slice_known-1.given c.args.at))
     (λ c. search rules)
     (λ c. search rules)
-    (λ c. omega (arith, c.shared-slice-known2.given (c.before.before.args.at + 1)))
+    (λ c. omega (arith, c.shared_slice_known-2-1.given (c.args.at + 1)))
     add-result-2
     (λ c. search rules))

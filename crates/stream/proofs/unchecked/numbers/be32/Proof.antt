@@ -9,10 +9,10 @@ use Rattle.stream.proofs.unchecked.numbers.be32.Tie as tie
 
 returns : tie.Need-returns
 returns c =
-    let s = c.before.before.before.args.s.now in
-    let at = c.before.before.before.args.at in
-    let low = rw (add_assoc at 2 1) at c.be162.ensures in
-    omega (arith, four-at s at (omega arith), c.before.be16.ensures, low)
+    let s = c.args.s.now in
+    let at = c.args.at in
+    let low = rw (add_assoc at 2 1) at c.be16-2.ensures in
+    omega (arith, four-at s at (omega arith), c.be16.ensures, low)
 
 pub be32_spec : {M : Type 1} → statement M
 be32_spec =
