@@ -1,4 +1,6 @@
 // Orders (01, Order).
+#![tactic(auto)]
+
 pub use order_standings::Mode;
 use topology_types::{Answer, Place, Topology};
 

@@ -151,7 +151,7 @@ pub fn judge(
 
 // The rank of every place in an order, 255 for a place that it does not hold, which has no rank: the way from a place to a rank. No place has 255 as its
 // rank, since an order holds at most 64 places; so a place with no rank compares as behind every place that has one.
-#[derive(Drop)]
+#[derive(Clone, Copy)]
 pub struct Ranks {
     pub by: [Rank; ROUTERS],
 }

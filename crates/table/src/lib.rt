@@ -1,4 +1,6 @@
 // Tables (01, Rows and tables): filled for an order, and checked.
+#![tactic(auto)]
+
 use order::Mode;
 use table_rows::NARROW;
 use table_rows::unchecked::layout;

@@ -97,7 +97,7 @@ pub fn check(t: Topology, a: Arcs, table: &[u8]) -> Answer
 }
 
 // A table, in the first bytes of an array.
-#[derive(Drop)]
+#[derive(Clone, Copy)]
 pub struct Built {
     pub bytes: [u8; TABLE],
     pub length: usize,

@@ -1,4 +1,6 @@
 // Rows of next hops, and the bytes of a table (01, Rows and tables).
+#![tactic(auto)]
+
 use topology_types::{NEXT_HOPS, ROUTERS};
 
 mod sorting;
@@ -9,7 +11,7 @@ mod writing;
 pub const ENTRIES: usize = NEXT_HOPS as usize;
 
 // How a table is laid out: its kind and that of its rows, and how many bytes a place and a rank have (specs/Layout.antt).
-#[derive(Drop)]
+#[derive(Clone, Copy)]
 pub struct Layout {
     pub kind: u8,
     pub rows: u8,

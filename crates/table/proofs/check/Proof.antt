@@ -10,15 +10,15 @@ use Rattle.table.specs.Calls.{table_checking}
 use Rattle.table.proofs.check.Statement.{statement}
 use Rattle.table.proofs.check.Tie as tie
 
-returns : tie.Need-returns
+returns : tie.Need-returns-then-not-is_sound
 unfolding table_checking
-returns c = rw (sym c.before.is-sound.ensures ∙ not-true _ c.if1.true)
+returns c = rw (sym c.is_sound.ensures ∙ not-true _ c.if-not-is_sound.true-raw)
 
 -- the topology is sound
-good : (c : tie.Else1) → sound c.before.before.before.args.t ≡ true
-good c = sym c.before.is-sound.ensures ∙ not-false _ c.if1.false
+good : (c : tie.Else-not-is_sound) → sound c.args.t ≡ true
+good c = sym c.is_sound.ensures ∙ not-false _ c.if-not-is_sound.false-raw
 
-passed : (c : tie.Else1) → T (sound c.before.before.before.args.t)
+passed : (c : tie.Else-not-is_sound) → T (sound c.args.t)
 passed c = rw (good c) tt
 
 of-requires : tie.Need-of-requires
@@ -27,7 +27,7 @@ of-requires c κs = passed c
 check-requires : tie.Need-check-requires
 check-requires c κs = (passed c.before, c.of.ensures)
 
-returns-2 : tie.Need-returns-2
+returns-2 : tie.Need-returns
 unfolding table_checking
 returns-2 c = rw (good c.before.before) c.check.ensures
 

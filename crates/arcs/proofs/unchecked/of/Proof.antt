@@ -24,87 +24,86 @@ use Rattle.arcs.proofs.unchecked.of.Tie as tie
 abbrev none : Link
 none = record { first = record { 0 = 0 }; second = record { 0 = 0 }; cost = 0; back = 0 }
 
-abbrev invariant-loop : tie.invariant-loop
+abbrev invariant-loop : tie.invariant-loop-i
 invariant-loop t links count₀ to₀ cost₀ back₀ link₀ i₀ count to cost back link i =
     (i ≤ links) × Filled t.routers (first_links t i) (in_slots count to cost back link)
     × Filled t.routers (map link_back (first_links t i)) (in_slots count to back cost link)
 
-abbrev decreases-loop : tie.decreases-loop
+abbrev decreases-loop : tie.decreases-loop-i
 decreases-loop t links count₀ to₀ cost₀ back₀ link₀ i₀ count to cost back link i = links - i
 
-loop-holds : tie.Need-loop-init invariant-loop decreases-loop
+loop-holds : tie.Need-loop-i-init invariant-loop decreases-loop
 unfolding first_links
 loop-holds c =
-    let limit = (links_of c.args.t1 c.requires).routers_most in
-    let none_yet = filled_none c.args.t1.routers _ (record { counts = refl; tos = refl; costs = refl; backs = refl; links = refl })
+    let limit = (links_of c.args.t c.requires).routers_most in
+    let none_yet = filled_none c.args.t.routers _ (record { counts = refl; tos = refl; costs = refl; backs = refl; links = refl })
     (λ u h. get_or-replicate {A = ℕ} 64 u 0 0 (omega arith)) in
     (omega arith, none_yet, none_yet)
 
 -- the link of this turn
-few : (c : tie.In-loop invariant-loop decreases-loop) → c.before.loop.i < 256
-few c = omega (arith, (links_of c.before.before.args.t1 c.before.before.requires).links_most)
+few : (c : tie.In-loop-i invariant-loop decreases-loop) → c.loop-i.i < 256
+few c = omega (arith, (links_of c.args.t c.requires).links_most)
 
-abbrev link : tie.In-loop invariant-loop decreases-loop → Link
-link c = get_or c.before.before.args.t1.link c.before.loop.i none
+abbrev link : tie.In-loop-i invariant-loop decreases-loop → Link
+link c = get_or c.args.t.link c.loop-i.i none
 
-next : (c : tie.In-loop invariant-loop decreases-loop) →
-    Next c.before.before.args.t1.routers (first_links c.before.before.args.t1 c.before.loop.i) (seen (link c)) c.before.loop.i
+next : (c : tie.In-loop-i invariant-loop decreases-loop) →
+    Next c.args.t.routers (first_links c.args.t c.loop-i.i) (seen (link c)) c.loop-i.i
 next c =
-    let t = c.before.before.args.t1 in
-    next_fits t (links_of t c.before.before.requires) c.before.loop.i c.loop-test.true none
+    let t = c.args.t in
+    next_fits t (links_of t c.requires) c.loop-i.i c.loop-i-test.true none
 
 -- its ends
-first_in : (c : tie.In-loop invariant-loop decreases-loop) → (link c).first.0 < 64
+first_in : (c : tie.In-loop-i invariant-loop decreases-loop) → (link c).first.0 < 64
 unfolding seen
 first_in c = omega (arith, (next c).first_in, (next c).limit)
 
-second_in : (c : tie.In-loop invariant-loop decreases-loop) → (link c).second.0 < 64
+second_in : (c : tie.In-loop-i invariant-loop decreases-loop) → (link c).second.0 < 64
 unfolding seen
 second_in c = omega (arith, (next c).second_in, (next c).limit)
 
 -- from the first call back to the turn, and from the second
-abbrev turn : tie.After-link invariant-loop decreases-loop → tie.In-loop invariant-loop decreases-loop
+abbrev turn : tie.After-link-1 invariant-loop decreases-loop → tie.In-loop-i invariant-loop decreases-loop
 turn c = c.before.before.before.before.before.before.before.before
 
-abbrev added : tie.After-link2 invariant-loop decreases-loop → tie.After-add invariant-loop decreases-loop
+abbrev added : tie.After-link-in-loop-i-1 invariant-loop decreases-loop → tie.After-add invariant-loop decreases-loop
 added c = c.before.before.before.before.before
 
 add-requires : tie.Need-add-requires invariant-loop decreases-loop
 unfolding seen
-add-requires c κs = let w = turn c in (first_in w, room_first (next w) w.before.loop.inv.1)
+add-requires c κs = let w = turn c in (first_in w, room_first (next w) w.loop-i.invariant.1)
 
-add-requires-2 : tie.Need-add-requires-2 invariant-loop decreases-loop
+add-requires-2 : tie.Need-add-requires-in-loop-i invariant-loop decreases-loop
 unfolding seen there
 add-requires-2 c κs =
     let w = turn (added c).before in
-    (second_in w, subst (λ (a : Arcs). get_or a.count (link w).second.0 0 < 16) (sym (added c).add.ensures) (room_second (next w) w.before.loop.inv.1))
+    (second_in w, subst (λ (a : Arcs). get_or a.count (link w).second.0 0 < 16) (sym (added c).add.ensures) (room_second (next w) w.loop-i.invariant.1))
 
-loop-again : tie.Need-loop-preserved invariant-loop decreases-loop
+loop-again : tie.Need-loop-i-preserved invariant-loop decreases-loop
 unfolding seen there back with_arc link_back
 loop-again c =
     let first = added c.before in
     let w = turn first.before in
-    let t = w.before.before.args.t1 in
-    let h = w.loop-test.taken in
-    let second : Arcs → Arcs = λ a. with_arc a (link w).second.0 (back (seen (link w)) w.before.loop.i) (link w).cost in
-    let twice = c.add2.ensures ∙ ap second first.add.ensures in
-    let links = next_links t (links_of t w.before.before.pre) w.before.loop.i h none in (
+    let t = w.args.t in
+    let h = w.loop-i-test.true in
+    let second : Arcs → Arcs = λ a. with_arc a (link w).second.0 (back (seen (link w)) w.loop-i.i) (link w).cost in
+    let twice = c.add-in-loop-i.ensures ∙ ap second first.add.ensures in
+    let links = next_links t (links_of t w.requires) w.loop-i.i h none in (
       add-one-le h,
-      rw links (subst (Filled t.routers _) (sym twice) (one_link (next w) w.before.loop.inv.1)),
-      rw (links, map-append) (subst (Filled t.routers _) (sym (ap slots_back twice)) (one_link (next_back (next w)) w.before.loop.inv.2)),
+      rw links (subst (Filled t.routers _) (sym twice) (one_link (next w) w.loop-i.invariant.1)),
+      rw (links, map-append) (subst (Filled t.routers _) (sym (ap slots_back twice)) (one_link (next_back (next w)) w.loop-i.invariant.2)),
     )
 
 returns : tie.Need-returns invariant-loop decreases-loop
 returns c =
-    let start = c.before in
-    let t = start.before.args.t1 in
-    let w = links_of t start.before.requires in
-    let (bound, f, g) = start.loop.invariant in
-    let sized = (back_exact t start.before.requires).routers in
-    let end : start.loop.i ≡ t.links = omega arith in
+    let t = c.args.t in
+    let w = links_of t c.requires in
+    let (bound, f, g) = c.loop-i.invariant in
+    let sized = (back_exact t c.requires).routers in
+    let end : c.loop-i.i ≡ t.links = omega arith in
     record {
       out = record { slots = f.slots; arcs = λ u h. f.each u (omega (arith, w.size_is)) ∙ rw end (sym (w.arcs_are u (omega (arith, w.size_is)))) };
-      back = record { slots = g.slots; arcs = λ u h. g.each u (omega arith) ∙ rw end (sym (arcs_back t start.before.requires u (omega arith))) };
+      back = record { slots = g.slots; arcs = λ u h. g.each u (omega arith) ∙ rw end (sym (arcs_back t c.requires u (omega arith))) };
     }
 
 pub of_spec : {M : Type 1} → statement M
@@ -120,6 +119,6 @@ of_spec =
     add-requires
     add-requires-2
     (λ c. omega (arith, few (turn (added c.before).before)))
-    (λ c. falls _ _ (turn (added c.before).before).loop-test.taken)
+    (λ c. falls _ _ (turn (added c.before).before).loop-i-test.true)
     loop-again
     returns)

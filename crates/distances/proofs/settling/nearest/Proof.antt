@@ -10,48 +10,47 @@ use Rattle.distances.proofs.Nearest.{key, Least, least_none, least_lower, least_
 use Rattle.distances.proofs.settling.nearest.Statement.{statement}
 use Rattle.distances.proofs.settling.nearest.Tie as tie
 
-abbrev invariant-loop : tie.invariant-loop
+abbrev invariant-loop : tie.invariant-loop-v
 invariant-loop ds marks n end best₀ v₀ best v = (v ≤ n) × Least ds marks v best
 
-abbrev decreases-loop : tie.decreases-loop
+abbrev decreases-loop : tie.decreases-loop-v
 decreases-loop ds marks n end best₀ v₀ best v = n - v
 
-loop-holds : tie.Need-loop-init invariant-loop decreases-loop
+loop-holds : tie.Need-loop-v-init invariant-loop decreases-loop
 loop-holds c = (omega arith, least_none _ _)
 
-mul-key-2 : tie.Need-overflow-mul-key-2 invariant-loop decreases-loop
-mul-key-2 c = let at = c.before.before in omega (arith, at.before.before.requires.near at.loop.v (omega arith))
+mul-key-2 : tie.Need-overflow_mul-key invariant-loop decreases-loop
+mul-key-2 c = omega (arith, c.requires.near c.loop-v.v (omega arith))
 
-add-key : tie.Need-overflow-add-key invariant-loop decreases-loop
-add-key c = let at = c.before.before.before in omega (arith, key_fits _ _ _ at.before.before.requires at.loop.v (omega arith))
+add-key : tie.Need-overflow_add-key invariant-loop decreases-loop
+add-key c = omega (arith, key_fits _ _ _ c.requires c.loop-v.v (omega arith))
 
 -- both that are compared are below 2^31
-abbrev reached : tie.After-key2 invariant-loop decreases-loop → tie.At-loop invariant-loop decreases-loop
-reached c = c.before.before.before
+abbrev reached : tie.After-key-in-loop-v-1 invariant-loop decreases-loop → tie.At-loop-v invariant-loop decreases-loop
+reached c = c.before.before.before.before.before
 
-this_fits : (c : tie.After-key2 invariant-loop decreases-loop) →
-    let args = (reached c).before.before.args in key args.ds.now args.marks.now (reached c).loop.v < 2147483648
-this_fits c = key_fits _ _ _ (reached c).before.before.requires (reached c).loop.v (omega arith)
+this_fits : (c : tie.After-key-in-loop-v-1 invariant-loop decreases-loop) →
+    let args = (reached c).args in key args.ds.now args.marks.now (reached c).loop-v.v < 2147483648
+this_fits c = key_fits _ _ _ (reached c).requires (reached c).loop-v.v (omega arith)
 
-best_fits : (c : tie.After-key2 invariant-loop decreases-loop) → (reached c).loop.best < 2147483648
-best_fits c = least_fits _ _ _ (reached c).before.before.requires (reached c).loop.invariant.0 (reached c).loop.invariant.1
+best_fits : (c : tie.After-key-in-loop-v-1 invariant-loop decreases-loop) → (reached c).loop-v.best < 2147483648
+best_fits c = least_fits _ _ _ (reached c).requires (reached c).loop-v.invariant.0 (reached c).loop-v.invariant.1
 
-loop-again : tie.Need-loop-preserved invariant-loop decreases-loop
+loop-again : tie.Need-loop-v-preserved invariant-loop decreases-loop
 loop-again c =
-    let k = c.before in
-    let so_far = (reached k).loop.invariant.1 in (
+    let so_far = (reached c.before).loop-v.invariant.1 in (
       omega arith,
       ⊎_elim
-          (λ w. rw w.1 (least_lower _ _ _ _ so_far (signed_less w32 _ _ (this_fits k) (best_fits k) w.0.taken)))
-          (λ w. rw w.1 (least_stays _ _ _ _ so_far (signed_not_less w32 _ _ (this_fits k) (best_fits k) w.0.left)))
-          c.if1.branch,
+          (λ w. rw w.best-is (least_lower _ _ _ _ so_far (signed_less w32 _ _ (this_fits c.before) (best_fits c.before) w.if-key-best.true)))
+          (λ w. rw w.best-is (least_stays _ _ _ _ so_far (signed_not_less w32 _ _ (this_fits c.before) (best_fits c.before) w.if-key-best.false)))
+          c.if-key-best.branch-raw,
     )
 
 returns : tie.Need-returns invariant-loop decreases-loop
 returns c =
-    let at = c.before.loop in
-    let end : at.v ≡ c.before.before.before.args.n = omega arith in
-    found _ _ _ c.before.before.before.requires at.best (rw end at at.invariant.1)
+    let at = c.loop-v in
+    let end : at.v ≡ c.args.n = omega arith in
+    found _ _ _ c.requires at.best (rw end at at.invariant.1)
 
 pub nearest_spec : {M : Type 1} → statement M
 nearest_spec =

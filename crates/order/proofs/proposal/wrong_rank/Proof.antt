@@ -25,58 +25,55 @@ use Rattle.order.proofs.proposal.wrong_rank.Tie as tie
 abbrev wrong : ℕ → List ℕ → ℕ → Bool
 wrong n order r = not (ltb (get_or order r 0) n) || member (get_or order r 0) (take r order)
 
-abbrev invariant-loop : tie.invariant-loop
+abbrev invariant-loop : tie.invariant-loop-rank
 invariant-loop n order held₀ rank₀ held rank =
     (rank ≤ length order) × (length held ≡ 64) × ((r : ℕ) → r < rank → wrong n order r ≡ false)
     × ((v : ℕ) → v < 64 → get_or held v false ≡ member v (take rank order))
 
-abbrev decreases-loop : tie.decreases-loop
+abbrev decreases-loop : tie.decreases-loop-rank
 decreases-loop n order held₀ rank₀ held rank = length order - rank
 
-loop-holds : tie.Need-loop-init invariant-loop decreases-loop
+loop-holds : tie.Need-loop-rank-init invariant-loop decreases-loop
 unfolding member any
 loop-holds c = (omega arith, refl, λ r h. absurd (omega arith), λ v h. get_or-replicate {A = Bool} 64 v false false h)
 
-returns : tie.Need-returns invariant-loop decreases-loop
+returns : tie.Need-returns-then-n-u invariant-loop decreases-loop
 unfolding wrong_ranks first_or
 returns c =
-    let turn = c.before.before in
-    let at = turn.before.loop in
-    let args = turn.before.before.args in
-    let large = le-ltb (get_or args.order.now at.rank 0) args.n c.if1.true in
-    sym (first_below (wrong args.n args.order.now) (length args.order.now) at.rank _ turn.loop-test.true at.invariant.2 (rw large))
+    let at = c.loop-rank in
+    let args = c.args in
+    let large = le-ltb (get_or args.order.now at.rank 0) args.n c.if-n-u.true in
+    sym (first_below (wrong args.n args.order.now) (length args.order.now) at.rank _ c.loop-rank-test.true at.invariant.2 (rw large))
 
-returns-2 : tie.Need-returns-2 invariant-loop decreases-loop
+returns-2 : tie.Need-returns-then-held-u invariant-loop decreases-loop
 unfolding wrong_ranks first_or
 returns-2 c =
-    let turn = c.before.before.before in
-    let at = turn.before.loop in
-    let args = turn.before.before.args in
-    let small = lt-ltb (get_or args.order.now at.rank 0) args.n c.before.if1.false in
-    let stands = sym (at.invariant.3 _ (omega arith)) ∙ c.if2.true in
-    sym (first_below (wrong args.n args.order.now) (length args.order.now) at.rank _ turn.loop-test.true at.invariant.2
+    let at = c.loop-rank in
+    let args = c.args in
+    let small = lt-ltb (get_or args.order.now at.rank 0) args.n c.if-n-u.false in
+    let stands = sym (at.invariant.3 _ (omega arith)) ∙ c.if-held-u.true in
+    sym (first_below (wrong args.n args.order.now) (length args.order.now) at.rank _ c.loop-rank-test.true at.invariant.2
     (rw small stands))
 
-loop-again : tie.Need-loop-preserved invariant-loop decreases-loop
+loop-again : tie.Need-loop-rank-preserved invariant-loop decreases-loop
 loop-again c =
-    let turn = c.before.before.before in
-    let at = turn.before.loop in
-    let args = turn.before.before.args in
+    let at = c.loop-rank in
+    let args = c.args in
     let u = get_or args.order.now at.rank 0 in
-    let small = lt-ltb u args.n c.before.if1.false in
-    let apart = sym (at.invariant.3 u (omega arith)) ∙ c.if2.false in (
-      add-one-le turn.loop-test.true,
+    let small = lt-ltb u args.n c.if-n-u.false in
+    let apart = sym (at.invariant.3 u (omega arith)) ∙ c.if-held-u.false in (
+      add-one-le c.loop-rank-test.true,
       simp length-set at.invariant.1,
       below_more _ at.rank at.invariant.2 (rw small apart),
-      rw (add-one, take-suc args.order.now at.rank 0 turn.loop-test.true)
+      rw (add-one, take-suc args.order.now at.rank 0 c.loop-rank-test.true)
           (marked_more at.held (take at.rank args.order.now) u 64 (omega arith) at.invariant.3),
     )
 
-returns-3 : tie.Need-returns-3 invariant-loop decreases-loop
+returns-3 : tie.Need-returns invariant-loop decreases-loop
 unfolding wrong_ranks first_or
 returns-3 c =
-    let at = c.before.loop in
-    let args = c.before.before.args in
+    let at = c.loop-rank in
+    let args = c.args in
     let end : at.rank ≡ length args.order.now = omega arith in
     rw (none_below (wrong args.n args.order.now) (length args.order.now) (λ r h. at.invariant.2 r (omega arith))) end
 
@@ -88,7 +85,7 @@ wrong_rank_spec =
     decreases-loop
     loop-holds
     (λ c. search rules)
-    (λ c. omega (arith, c.shared-slice-known.given c.before.before.loop.rank))
+    (λ c. omega (arith, c.shared_slice_known-1.given c.loop-rank.rank))
     returns
     (λ c. search rules)
     returns-2

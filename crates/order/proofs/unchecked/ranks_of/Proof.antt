@@ -25,15 +25,15 @@ use Rattle.order.proofs.unchecked.ranks_of.Tie as tie
 abbrev zeroth : Rank
 zeroth = record { 0 = 0 }
 
-abbrev invariant-loop : tie.invariant-loop
+abbrev invariant-loop : tie.invariant-loop-rank
 invariant-loop order by₀ n rank₀ by rank =
     (rank ≤ n) × (length by ≡ 64) × ((v : ℕ) → Memᴰ v (take rank order) → (get_or by v zeroth).0 ≡ row.rank order v)
     × ((v : ℕ) → v < 64 → (Memᴰ v order → ⊥) → (get_or by v zeroth).0 ≡ 255)
 
-abbrev decreases-loop : tie.decreases-loop
+abbrev decreases-loop : tie.decreases-loop-rank
 decreases-loop order by₀ n rank₀ by rank = n - rank
 
-loop-holds : tie.Need-loop-init invariant-loop decreases-loop
+loop-holds : tie.Need-loop-rank-init invariant-loop decreases-loop
 loop-holds c = (omega arith, refl, λ v m. absurd (Memᴰ.not-nil m), λ v h out. ap (λ (x : Rank). x.0) (get_or-replicate 64 v (record { 0 = 255 }) zeroth h))
 
 -- the place at rank r
@@ -72,14 +72,14 @@ module _ (order : List ℕ) (ranked : Ranked order) (r : ℕ) (h : r < length or
       (λ _ out. absurd (out held))
       (λ v apart. passed v)
 
-cast-t9 : tie.Need-overflow-cast-t9 invariant-loop decreases-loop
-cast-t9 c = let ranked = c.before.before.before.requires in omega (arith, at_most 64 _ ranked.once ranked.places)
+cast-t9 : tie.Need-overflow_cast-by invariant-loop decreases-loop
+cast-t9 c = let ranked = c.requires in omega (arith, at_most 64 _ ranked.once ranked.places)
 
-loop-again : tie.Need-loop-preserved invariant-loop decreases-loop
+loop-again : tie.Need-loop-rank-preserved invariant-loop decreases-loop
 loop-again c =
-    let at = c.before.before.loop in
-    let h = c.before.loop-test.true in
-    let ranked = c.before.before.before.requires in (
+    let at = c.loop-rank in
+    let h = c.loop-rank-test.true in
+    let ranked = c.requires in (
       add-one-le h,
       simp length-set at.invariant.1,
       ranks_more _ ranked at.rank h at.by at.invariant.1 at.invariant.2,
@@ -88,8 +88,8 @@ loop-again c =
 
 returns : tie.Need-returns invariant-loop decreases-loop
 returns c =
-    let at = c.before.loop in
-    let order = c.before.before.args.order.now in
+    let at = c.loop-rank in
+    let order = c.args.order.now in
     let end : at.rank ≡ length order = omega arith in
     record { long = at.invariant.1; ranks = rw (end, take-length) at at.invariant.2; others = at.invariant.3 }
 
@@ -101,9 +101,9 @@ ranks_of_spec =
     decreases-loop
     loop-holds
     (λ c. search rules)
-    (λ c. omega (arith, c.shared-slice-known.given c.before.before.loop.rank))
+    (λ c. omega (arith, c.shared_slice_known-1.given c.loop-rank.rank))
     cast-t9
-    (λ c. place _ c.before.before.before.requires _ c.before.loop-test.true)
+    (λ c. place _ c.requires _ c.loop-rank-test.true)
     (λ c. search rules)
     (λ c. search rules)
     loop-again

@@ -14,40 +14,38 @@ use Rattle.order_standings.proofs.Counts.{count_one, count_same, count_most}
 use Rattle.order.proofs.unchecked.reached_count.Statement.{statement}
 use Rattle.order.proofs.unchecked.reached_count.Tie as tie
 
-abbrev invariant-loop : tie.invariant-loop
+abbrev invariant-loop : tie.invariant-loop-v
 invariant-loop ds n absent count₀ v₀ count v = (v ≤ n) × (count ≡ length (keep (λ w. ltb (get_or ds w 0) (n * 65536)) (below v)))
 
-abbrev decreases-loop : tie.decreases-loop
+abbrev decreases-loop : tie.decreases-loop-v
 decreases-loop ds n absent count₀ v₀ count v = n - v
 
-loop-holds : tie.Need-loop-init invariant-loop decreases-loop
+loop-holds : tie.Need-loop-v-init invariant-loop decreases-loop
 unfolding keep below numbers_from
 loop-holds c = (omega arith, refl)
 
-add-count : tie.Need-overflow-add-count invariant-loop decreases-loop
+add-count : tie.Need-overflow_add-count invariant-loop decreases-loop
 add-count c =
-    let at = c.before.before.before in
-    let args = at.before.args in
-    omega (arith, count_most (λ w. ltb (get_or args.ds.now w 0) (args.n * 65536)) at.loop.v, at.before.requires)
+    let args = c.args in
+    omega (arith, count_most (λ w. ltb (get_or args.ds.now w 0) (args.n * 65536)) c.loop-v.v, c.requires)
 
-loop-again : tie.Need-loop-preserved invariant-loop decreases-loop
+loop-again : tie.Need-loop-v-preserved invariant-loop decreases-loop
 loop-again c =
-    let turn = c.before.before in
-    let here = turn.before.loop in
-    let args = turn.before.before.args in
+    let here = c.loop-v in
+    let args = c.args in
     let has? : ℕ → Bool = λ w. ltb (get_or args.ds.now w 0) (args.n * 65536) in (
       omega arith,
       ⊎_elim
-          (λ w. omega (arith, count_one has? here.v (lt-ltb _ _ w.0.taken)))
-          (λ w. omega (arith, count_same has? here.v (le-ltb _ _ w.0.left)))
-          c.if1.branch,
+          (λ w. omega (arith, count_one has? here.v (lt-ltb _ _ w.if-ds-v.true)))
+          (λ w. omega (arith, count_same has? here.v (le-ltb _ _ w.if-ds-v.false)))
+          c.if-ds-v.branch-raw,
     )
 
 returns : tie.Need-returns invariant-loop decreases-loop
 returns c =
-    let here = c.before.loop in
-    let end : here.v ≡ c.before.before.args.n = omega arith in
-    here.invariant.1 ∙ ap (λ (k : ℕ). length (keep (λ w. ltb (get_or c.before.before.args.ds.now w 0) (c.before.before.args.n * 65536)) (below k))) end
+    let here = c.loop-v in
+    let end : here.v ≡ c.args.n = omega arith in
+    here.invariant.1 ∙ ap (λ (k : ℕ). length (keep (λ w. ltb (get_or c.args.ds.now w 0) (c.args.n * 65536)) (below k))) end
 
 pub reached_count_spec : {M : Type 1} → statement M
 reached_count_spec =

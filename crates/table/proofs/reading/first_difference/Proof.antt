@@ -21,35 +21,33 @@ use Rattle.table.proofs.reading.first_difference.Tie as tie
 abbrev differ : List ℕ → List ℕ → ℕ → Bool
 differ table other i = not (eqb (get_or table i 0) (get_or other i 0))
 
-abbrev invariant-loop : tie.invariant-loop
+abbrev invariant-loop : tie.invariant-loop-i
 invariant-loop table other i₀ i = (i ≤ length table) × ((k : ℕ) → k < i → differ table other k ≡ false)
 
-abbrev decreases-loop : tie.decreases-loop
+abbrev decreases-loop : tie.decreases-loop-i
 decreases-loop table other i₀ i = length table - i
 
-loop-holds : tie.Need-loop-init invariant-loop decreases-loop
+loop-holds : tie.Need-loop-i-init invariant-loop decreases-loop
 loop-holds c = (omega arith, λ k h. absurd (omega arith))
 
-returns : tie.Need-returns invariant-loop decreases-loop
+returns : tie.Need-returns-then-table-i invariant-loop decreases-loop
 unfolding differing
 returns c =
-    let turn = c.before.before.before in
-    let at = turn.before.loop in
-    let args = turn.before.before.args in
-    sym (first_below (differ args.table.now args.other.now) (length args.table.now) at.i _ turn.loop-test.true at.invariant.1
-    (rw (ne_eqb _ _ c.if1.true)))
+    let at = c.loop-i in
+    let args = c.args in
+    sym (first_below (differ args.table.now args.other.now) (length args.table.now) at.i _ c.loop-i-test.true at.invariant.1
+    (rw (ne_eqb _ _ c.if-table-i.true)))
 
-loop-again : tie.Need-loop-preserved invariant-loop decreases-loop
+loop-again : tie.Need-loop-i-preserved invariant-loop decreases-loop
 loop-again c =
-    let turn = c.before.before.before in
-    let at = turn.before.loop in
-    (add-one-le turn.loop-test.true, below_more _ at.i at.invariant.1 (rw (eq-eqb _ _ c.if1.false)))
+    let at = c.loop-i in
+    (add-one-le c.loop-i-test.true, below_more _ at.i at.invariant.1 (rw (eq-eqb _ _ c.if-table-i.false)))
 
-returns-2 : tie.Need-returns-2 invariant-loop decreases-loop
+returns-2 : tie.Need-returns invariant-loop decreases-loop
 unfolding differing first_or
 returns-2 c =
-    let at = c.before.loop in
-    let args = c.before.before.args in
+    let at = c.loop-i in
+    let args = c.args in
     let end : at.i ≡ length args.table.now = omega arith in
     rw (none_below (differ args.table.now args.other.now) (length args.table.now) (λ k h. at.invariant.1 k (omega arith))) end
 

@@ -17,65 +17,60 @@ use Rattle.table.proofs.reading.header_is_sound.Tie as tie
 its_kind : (c : tie.Start) → c.args.l.kind ≡ 16
 its_kind c = ap (λ (l : Layout). l.kind) c.requires.0
 
-returns : tie.Need-returns
+returns : tie.Need-returns-then-table-l
 unfolding sound_header kind_in
-returns c = rw (ne_eqb _ 16 (λ e. c.if1.true (e ∙ sym (its_kind c.before.before.before.before))))
+returns c = rw (ne_eqb _ 16 (λ e. c.if-table-l.true (e ∙ sym (its_kind c.before.before.before.before))))
 
 -- where the tests have passed
-abbrev start : tie.Else1 → tie.Start
+abbrev start : tie.Else-table-l → tie.Start
 start c = c.before.before.before.before
 
-kind : (c : tie.Else1) → eqb (kind_in (start c).args.table.now) 16 ≡ true
+kind : (c : tie.Else-table-l) → eqb (kind_in (start c).args.table.now) 16 ≡ true
 unfolding kind_in
-kind c = eq-eqb _ _ (c.if1.false ∙ its_kind (start c))
+kind c = eq-eqb _ _ (c.if-table-l.false ∙ its_kind (start c))
 
-abbrev first : tie.Else2 → tie.Else1
+abbrev first : tie.Else-n-destination → tie.Else-table-l
 first c = c.before.before.before
 
-place : (c : tie.Else2) → ltb (destination_in_lem (start (first c)).args.table.now) (start (first c)).args.n ≡ true
-place c = lt-ltb (destination_in_lem (start (first c)).args.table.now) (start (first c)).args.n (omega (arith, c.if2.false, c.before.before.destination-in.ensures))
+place : (c : tie.Else-n-destination) → ltb (destination_in_lem (start (first c)).args.table.now) (start (first c)).args.n ≡ true
+place c = lt-ltb (destination_in_lem (start (first c)).args.table.now) (start (first c)).args.n (omega (arith, c.if-n-destination.false, c.destination_in-destination.ensures))
 
-abbrev second : tie.Else3 → tie.Else2
+abbrev second : tie.Else-count-n → tie.Else-n-destination
 second c = c.before.before
 
-count : (c : tie.Else3) → eqb (count_in_lem (start (first (second c))).args.table.now) (start (first (second c))).args.n ≡ true
-count c = eq-eqb _ _ (sym c.before.count-in.ensures ∙ c.if3.false)
+count : (c : tie.Else-count-n) → eqb (count_in_lem (start (first (second c))).args.table.now) (start (first (second c))).args.n ≡ true
+count c = eq-eqb _ _ (sym c.count_in-count.ensures ∙ c.if-count-n.false)
 
-returns-2 : tie.Need-returns-2
+returns-2 : tie.Need-returns-then-n-destination
 unfolding sound_header
 returns-2 c =
-    let e = c.before.before.before in
-    rw (kind e, le-ltb (destination_in_lem (start e).args.table.now) (start e).args.n (omega (arith, c.if2.true, c.before.before.destination-in.ensures)))
+    rw (kind c.before.before.before, le-ltb (destination_in_lem (start c.before.before.before).args.table.now) (start c.before.before.before).args.n (omega (arith, c.if-n-destination.true, c.destination_in-destination.ensures)))
 
-returns-3 : tie.Need-returns-3
+returns-3 : tie.Need-returns-then-count-n
 unfolding sound_header
 returns-3 c =
-    let e = c.before.before in
-    rw (kind (first e), place e, ne_eqb (count_in_lem (start (first e)).args.table.now) _ (λ same. c.if3.true (c.before.count-in.ensures ∙ same)))
+    rw (kind (first c.before.before), place c.before.before, ne_eqb (count_in_lem (start (first c.before.before)).args.table.now) _ (λ same. c.if-count-n.true (c.count_in-count.ensures ∙ same)))
 
-returns-4 : tie.Need-returns-4
+returns-4 : tie.Need-returns-then-limit-lt1
 unfolding sound_header within
 returns-4 c =
-    let e = c.before.before in
-    rw (kind (first (second e)), place (second e), count e, ← c.before.limit-in.ensures, lt-leb _ _ c.if4.true)
+    rw (kind (first (second c.before.before)), place (second c.before.before), count c.before.before, ← c.limit_in-limit.ensures, lt-leb _ _ c.if-limit-lt1.true)
 
-returns-5 : tie.Need-returns-5
+returns-5 : tie.Need-returns-then-limit-gt-NEXT_HOPS
 unfolding sound_header within
 returns-5 c =
-    let e = c.before.before.before in
-    rw (kind (first (second e)), place (second e), count e, ← c.before.before.limit-in.ensures, le-leb _ _ c.before.if4.false, lt-leb _ _ c.if5.true)
+    rw (kind (first (second c.before.before.before)), place (second c.before.before.before), count c.before.before.before, ← c.limit_in-limit.ensures, le-leb _ _ c.if-limit-lt1.false, lt-leb _ _ c.if-limit-gt-NEXT_HOPS.true)
 
-returns-6 : tie.Need-returns-6
+returns-6 : tie.Need-returns
 unfolding sound_header within
 returns-6 c =
-    let e = c.before.before.before in
-    rw (kind (first (second e)), place (second e), count e, ← c.before.before.limit-in.ensures, le-leb _ _ c.before.if4.false, le-leb _ _ c.if5.false)
+    rw (kind (first (second c.before.before.before)), place (second c.before.before.before), count c.before.before.before, ← c.limit_in-limit.ensures, le-leb _ _ c.if-limit-lt1.false, le-leb _ _ c.if-limit-gt-NEXT_HOPS.false)
 
 pub header_is_sound_spec : {M : Type 1} → statement M
 header_is_sound_spec =
     tie.close
     (tie.spec
-    (λ c. omega (arith, c.before.before.requires.1))
+    (λ c. omega (arith, c.requires.1))
     returns
     (λ c κs. (start c).requires)
     (λ c. search rules)

@@ -34,130 +34,130 @@ few : (c : tie.Start) → c.args.t.routers ≤ 64
 few c = ((sound_exact c.args.t).0 c.requires.0).routers_most
 
 -- the layout is the table's, by which its length is tested
-long : (c : tie.After-row-start) → c.row-start.result ≡ table_length narrow c.before.before.before.args.t.routers
-long c = c.row-start.ensures ∙ ap (λ (l : Layout). row_start_lem l c.before.before.before.args.t.routers) c.before.layout_of.ensures
+long : (c : tie.After-row_start) → c.row_start.result ≡ table_length narrow c.args.t.routers
+long c = c.row_start.ensures ∙ ap (λ (l : Layout). row_start_lem l c.args.t.routers) c.layout_of-l.ensures
 
-row-start-requires : tie.Need-row-start-requires
-row-start-requires c κs = (subst Readable (sym c.layout_of.ensures) readable, few c.before.before)
+row-start-requires : tie.Need-row_start-requires
+row-start-requires c κs = (subst Readable (sym c.layout_of-l.ensures) readable, few c.before.before)
 
-returns : tie.Need-returns
-returns c = wrong_length _ _ (λ e. c.if1.true (e ∙ sym (long c.before)))
+returns : tie.Need-returns-then-length-row_start
+returns c = wrong_length _ _ (λ e. c.if-length-row_start.true (e ∙ sym (long c.before)))
 
 -- from the test of the length back to the start
-abbrev start : tie.Else1 → tie.Start
+abbrev start : tie.Else-length-row_start → tie.Start
 start c = c.before.before.before.before
 
-whole : (c : tie.Else1) → length (start c).args.table.now ≡ table_length narrow (start c).args.t.routers
-whole c = c.if1.false ∙ long c.before
+whole : (c : tie.Else-length-row_start) → length (start c).args.table.now ≡ table_length narrow (start c).args.t.routers
+whole c = c.if-length-row_start.false ∙ long c.before
 
-headed : (c : tie.Else1) → let l = c.before.before.layout_of.result in (l ≡ narrow) × (header_length l ≤ length (start c).args.table.now)
+headed : (c : tie.Else-length-row_start) → let l = c.layout_of-l.result in (l ≡ narrow) × (header_length l ≤ length (start c).args.table.now)
 unfolding row_start_lem
 headed c =
-    let same = c.before.before.layout_of.ensures in
+    let same = c.layout_of-l.ensures in
     (same, omega (arith, place_one same, rank_one same, whole c))
 
-returns-2 : tie.Need-returns-2
+returns-2 : tie.Need-returns-then-not-header_is_sound
 returns-2 c =
-    let e : tie.Else1 = c.before.before in
+    let e : tie.Else-length-row_start = c.before.before in
     let a = (start e).args in
     wrong_start _ _ (whole e)
-    (λ h. no (sym c.before.header-is-sound.ensures ∙ not-true _ c.if2.true) (both (sound_header a.t.routers a.table.now) _ h).0)
+    (λ h. no (sym c.header_is_sound.ensures ∙ not-true _ c.if-not-header_is_sound.true-raw) (both (sound_header a.t.routers a.table.now) _ h).0)
   where
     no : {b : Bool} → b ≡ false → T b → ⊥
     no e h = rw e at h
 
 -- the header is sound
-header : (c : tie.Else2) → let a = (start c.before.before).args in T (sound_header a.t.routers a.table.now)
-header c = rw (sym c.before.header-is-sound.ensures ∙ not-false _ c.if2.false) tt
+header : (c : tie.Else-not-header_is_sound) → let a = (start c.before.before).args in T (sound_header a.t.routers a.table.now)
+header c = rw (sym c.header_is_sound.ensures ∙ not-false _ c.if-not-header_is_sound.false-raw) tt
 
-order-of-requires : tie.Need-order-of-requires
-order-of-requires c κs = let e : tie.Else1 = c.before.before.before in (few (start e), whole e)
+order-of-requires : tie.Need-order_of-order-requires
+order-of-requires c κs = let e : tie.Else-length-row_start = c.before.before.before in (few (start e), whole e)
 
 -- from the order that the ranks form back to the test of the header
-abbrev tested : tie.After-order-of → tie.Else2
+abbrev tested : tie.After-order_of-order → tie.Else-not-header_is_sound
 tested c = c.before.before
 
 -- the destination is a place
-place : (c : tie.Else2) → let a = (start c.before.before).args in destination_in_lem a.table.now < a.t.routers
+place : (c : tie.Else-not-header_is_sound) → let a = (start c.before.before).args in destination_in_lem a.table.now < a.t.routers
 unfolding destination_in_lem number_at
-place c = let s = start c.before.before in header_place s.args.t s.pre.0 s.args.table.now (header c)
+place c = let s = start c.before.before in header_place s.args.t s.requires.0 s.args.table.now (header c)
 
-to-requires : tie.Need-to-requires
+to-requires : tie.Need-to-ds-requires
 to-requires c κs =
-    let e = tested c.before.before.before.before in
+    let e = tested c.before.before.before in
     let s = start e.before.before in
-    ((_, laid_out _ _ s.pre.0 s.pre.1), rw c.before.before.before.before.before.destination-in.ensures (place e))
+    ((_, laid_out _ _ s.requires.0 s.requires.1), rw c.destination_in-destination.ensures (place e))
 
 -- from the distances back to the order
-abbrev ordered : tie.After-to → tie.After-order-of
-ordered c = c.before.before.before.before.before
+abbrev ordered : tie.After-to-ds → tie.After-order_of-order
+ordered c = c.before.before.before.before
 
-measured : (c : tie.After-to) → let a = (start (tested (ordered c)).before.before).args in
-    Measured a.t a.t2 (destination_in_lem a.table.now) c.to.result
+measured : (c : tie.After-to-ds) → let a = (start (tested (ordered c)).before.before).args in
+    Measured a.t a.a (destination_in_lem a.table.now) c.to-ds.result
 measured c =
     let e = tested (ordered c) in
     let s = start e.before.before in
-    record { is-sound = s.pre.0; holds = s.pre.1; place = place e; settled = rw (ordered c).before.destination-in.ensures at (c.to.ensures _ (laid_out _ _ s.pre.0 s.pre.1)) }
+    record { is-sound = s.requires.0; holds = s.requires.1; place = place e; settled = rw (ordered c).destination_in-destination.ensures at (c.to-ds.ensures _ (laid_out _ _ s.requires.0 s.requires.1)) }
 
-array-share-prefix-order : tie.Need-array-share-prefix-order
-array-share-prefix-order c = begins_with _ _ _ (ordered c).order-of.ensures
+array-share-prefix-order : tie.Need-slice_bounds-order-end
+array-share-prefix-order c = begins_with _ _ _ (ordered c).order_of-order.ensures
 
-slice-aggregate-judge : tie.Need-slice-aggregate-judge
-slice-aggregate-judge c = sym (length-take-le _ _ (begins_with _ _ _ (ordered c.before).order-of.ensures))
+slice-aggregate-judge : tie.Need-slice_bounds-judge-end
+slice-aggregate-judge c = sym (length-take-le _ _ (begins_with _ _ _ (ordered c.before).order_of-order.ensures))
 
-judge-requires : tie.Need-judge-requires
+judge-requires : tie.Need-judge-proposed-requires
 judge-requires c κs =
-    let d : tie.After-to = c.before in
+    let d : tie.After-to-ds = c.before in
     let a = (start (tested (ordered d)).before.before).args in
-    subst (λ (k : ℕ). Measured a.t a.t2 k d.to.result) (sym (ordered d).before.destination-in.ensures) (measured d)
+    subst (λ (k : ℕ). Measured a.t a.a k d.to-ds.result) (sym (ordered d).destination_in-destination.ensures) (measured d)
 
 -- what judging answered is of the order that the ranks form
-verdict : (c : tie.After-judge) → let a = (start (tested (ordered c.before.before)).before.before).args in
-    c.judge.result ≡ judging a.t (destination_in_lem a.table.now) mode.Free (by_rank a.t.routers a.table.now)
+verdict : (c : tie.After-judge-proposed) → let a = (start (tested (ordered c.before.before)).before.before).args in
+    c.judge-proposed.result ≡ judging a.t (destination_in_lem a.table.now) mode.Free (by_rank a.t.routers a.table.now)
 verdict c =
-    let o : tie.After-order-of = ordered c.before.before in
+    let o : tie.After-order_of-order = ordered c.before.before in
     let t = (start (tested o).before.before).args.t in
-    c.judge.ensures ∙ ap₂ (λ (d : ℕ) (order : List ℕ). judging t d mode.Free order) o.before.destination-in.ensures o.order-of.ensures
+    c.judge-proposed.ensures ∙ ap₂ (λ (d : ℕ) (order : List ℕ). judging t d mode.Free order) o.destination_in-destination.ensures o.order_of-order.ensures
 
-returns-3 : tie.Need-returns-3
+returns-3 : tie.Need-returns-then-proposed-ne0
 returns-3 c =
-    let j : tie.After-judge = c.before.before in
+    let j : tie.After-judge-proposed = c.before.before in
     let e = tested (ordered j.before.before) in
     let s = start e.before.before in
     let table = s.args.table.now in
     wrong_start _ _ (whole e.before.before)
-    (λ h. ranks_fail s.args.t s.pre.0 (destination_in_lem table) (place e) table refl
-    (λ z. c.if3.true (ap (λ (a : Answer). a.number) (verdict j) ∙ z)) (both (sound_header s.args.t.routers table) _ h).1)
+    (λ h. ranks_fail s.args.t s.requires.0 (destination_in_lem table) (place e) table refl
+    (λ z. c.if-proposed-ne0.true (ap (λ (a : Answer). a.number) (verdict j) ∙ z)) (both (sound_header s.args.t.routers table) _ h).1)
 
-first-wrong-requires : tie.Need-first-wrong-requires
+first-wrong-requires : tie.Need-first_wrong-wrong-requires
 first-wrong-requires c κs =
-    let j : tie.After-judge = c.before.before in
-    let t : tie.After-to = j.before.before in
+    let j : tie.After-judge-proposed = c.before.before in
+    let t : tie.After-to-ds = j.before.before in
     let e = tested (ordered t) in
     let s = start e.before.before in
     let (acc, are) =
-    ranks_pass s.args.t s.pre.0 (destination_in_lem s.args.table.now) (place e) s.args.table.now refl
-    (ap (λ (a : Answer). a.number) (sym (verdict j)) ∙ c.if3.false) in
+    ranks_pass s.args.t s.requires.0 (destination_in_lem s.args.table.now) (place e) s.args.table.now refl
+    (ap (λ (a : Answer). a.number) (sym (verdict j)) ∙ c.if-proposed-ne0.false) in
     record {
       measured = measured t;
       long = whole e.before.before;
       header = header e;
       in_free = acc;
-      order_is = (ordered t).order-of.ensures;
+      order_is = (ordered t).order_of-order.ensures;
       bytes_are = are;
     }
 
 -- from the first wrong byte back to the test of the header
-abbrev begun : tie.After-first-wrong → tie.Else2
+abbrev begun : tie.After-first_wrong-wrong → tie.Else-not-header_is_sound
 begun c = tested (ordered c.before.before.before.before.before)
 
-returns-4 : tie.Need-returns-4
+returns-4 : tie.Need-returns-then-wrong-length
 returns-4 c =
-    let e = begun c.before in wrong_at _ _ (whole e.before.before) (header e) _ c.before.first-wrong.ensures c.if4.true
+    let e = begun c.before in wrong_at _ _ (whole e.before.before) (header e) _ c.first_wrong-wrong.ensures c.if-wrong-length.true
 
-returns-5 : tie.Need-returns-5
+returns-5 : tie.Need-returns
 returns-5 c =
-    let e = begun c.before in none_at _ _ (whole e.before.before) (header e) _ c.before.first-wrong.ensures c.if4.false
+    let e = begun c.before in none_at _ _ (whole e.before.before) (header e) _ c.first_wrong-wrong.ensures c.if-wrong-length.false
 
 pub check_spec : {M : Type 1} → statement M
 check_spec =

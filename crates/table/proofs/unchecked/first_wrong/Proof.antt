@@ -64,15 +64,15 @@ module _ (c : tie.Start) where
   fits : length formed ≤ c.args.t.routers
   fits = omega (arith, reach, few_reached c.args.t c.requires.measured.is-sound _ c.requires.measured.place)
 
-  part : take (length formed) c.args.t5 ≡ formed
+  part : take (length formed) c.args.order ≡ formed
   unfolding order_bytes padded
   part =
-      sym (take-take (length formed) c.args.t.routers c.args.t5 fits)
+      sym (take-take (length formed) c.args.t.routers c.args.order fits)
       ∙ ap (take (length formed)) (c.requires.order_is ∙ c.requires.bytes_are)
       ∙ take_at formed _ (length formed) refl
 
-  holds_order : length formed ≤ length c.args.t5
-  holds_order = omega (arith, fits, begins_with c.args.t.routers c.args.t5 c.args.table.now c.requires.order_is)
+  holds_order : length formed ≤ length c.args.order
+  holds_order = omega (arith, fits, begins_with c.args.t.routers c.args.order c.args.table.now c.requires.order_is)
 
   -- the test of ranks goes by what filling would give
   ranks : sound_ranks (network_of c.args.t) c.args.t.routers c.args.table.now
@@ -81,85 +81,82 @@ module _ (c : tie.Start) where
       ranks_same c.args.t c.requires.measured.is-sound c.args.table.now other _ _ refl c.requires.measured.place c.requires.in_free its-bytes
 
 -- the layout is the table's, which has its header
-headed : (c : tie.After-layout-of) → (c.layout_of.result ≡ narrow) × (header_length c.layout_of.result ≤ length c.before.before.args.table.now)
+headed : (c : tie.After-layout_of-l) → (c.layout_of-l.result ≡ narrow) × (header_length c.layout_of-l.result ≤ length c.args.table.now)
 headed c =
-    let same = c.layout_of.ensures in
+    let same = c.layout_of-l.ensures in
     (same, omega (arith, place_one same, rank_one same, long c.before.before))
 
 -- from the count of the reached ranks back to the start: it is as many as the order has
-abbrev begun : tie.After-reached-count → tie.Start
+abbrev begun : tie.After-reached_count-reached → tie.Start
 begun c = c.before.before.before.before.before.before
 
-counts : (c : tie.After-reached-count) → c.reached-count.result ≡ length (formed (begun c))
-counts c = c.reached-count.ensures ∙ counts_reached (begun c).requires.measured ∙ sym (reach (begun c))
+counts : (c : tie.After-reached_count-reached) → c.reached_count-reached.result ≡ length (formed (begun c))
+counts c = c.reached_count-reached.ensures ∙ counts_reached (begun c).requires.measured ∙ sym (reach (begun c))
 
-front : (c : tie.After-reached-count) → take c.reached-count.result (begun c).args.t5 ≡ formed (begun c)
-front c = ap (λ (k : ℕ). take k (begun c).args.t5) (counts c) ∙ part (begun c)
+front : (c : tie.After-reached_count-reached) → take c.reached_count-reached.result (begun c).args.order ≡ formed (begun c)
+front c = ap (λ (k : ℕ). take k (begun c).args.order) (counts c) ∙ part (begun c)
 
 fill-requires : tie.Need-fill-requires
 unfolding row_start_lem
 fill-requires c κs =
-    let r = c.before.before.before in
-    let s = begun r in
-    let m = s.pre.measured in (
-      subst (λ (d : ℕ). Fillable s.args.t s.args.a s.args.t3 d r.before.before.limit-in.result (take r.reached-count.result s.args.t5))
-          (sym r.before.before.before.destination-in.ensures)
-          (subst (λ (k : ℕ). Fillable s.args.t s.args.a s.args.t3 (destination_in_lem s.args.table.now) k (take r.reached-count.result s.args.t5))
-          (sym r.before.before.limit-in.ensures)
-          (rw (front r) (fillable _ m.is-sound _ m.place m.holds m.settled (limit_most s) s.pre.in_free))),
-      omega (arith, few s, c.before.before.room-for-table.ensures),
+    let s = begun c.before.before.before in
+    let m = s.requires.measured in (
+      subst (λ (d : ℕ). Fillable s.args.t s.args.a s.args.ds d c.limit_in-limit.result (take c.reached_count-reached.result s.args.order))
+          (sym c.destination_in-destination.ensures)
+          (subst (λ (k : ℕ). Fillable s.args.t s.args.a s.args.ds (destination_in_lem s.args.table.now) k (take c.reached_count-reached.result s.args.order))
+          (sym c.limit_in-limit.ensures)
+          (rw (front c.before.before.before) (fillable _ m.is-sound _ m.place m.holds m.settled (limit_most s) s.requires.in_free))),
+      omega (arith, few s, c.room_for_table-room.ensures),
     )
 
 -- the room begins with what filling would give
 module _ (c : tie.After-fill) where
-  abbrev counted : tie.After-reached-count
+  abbrev counted : tie.After-reached_count-reached
   counted = c.before.before.before.before
 
-  filled : let s = begun counted in take (length s.args.table.now) c.fill.new.1.1.1.1.1.1.0 ≡ other s
+  filled : let s = begun counted in take (length s.args.table.now) c.fill.new.out ≡ other s
   filled =
       let s = begun counted in
       let n = network_of s.args.t in
       let table = s.args.table.now in
-      let rest = drop (table_length narrow s.args.t.routers) c.before.before.before.room-for-table.result in
+      let rest = drop (table_length narrow s.args.t.routers) c.room_for_table-room.result in
       ap (take (length table))
       (c.fill.ensures
-      ∙ ap (λ (d : ℕ). table_bytes n d counted.before.before.limit-in.result (take counted.reached-count.result s.args.t5) ++ rest)
-      counted.before.before.before.destination-in.ensures
-      ∙ ap₂ (λ (k : ℕ) (o : List ℕ). table_bytes n (destination_in_lem table) k o ++ rest) counted.before.before.limit-in.ensures (front counted))
+      ∙ ap (λ (d : ℕ). table_bytes n d counted.limit_in-limit.result (take counted.reached_count-reached.result s.args.order) ++ rest)
+      counted.destination_in-destination.ensures
+      ∙ ap₂ (λ (k : ℕ) (o : List ℕ). table_bytes n (destination_in_lem table) k o ++ rest) counted.limit_in-limit.ensures (front counted))
       ∙ take_at _ _ _ (its_long s ∙ sym (long s))
 
-  as_long : let s = begun counted in length (take (length s.args.table.now) c.fill.new.1.1.1.1.1.1.0) ≡ length s.args.table.now
+  as_long : let s = begun counted in length (take (length s.args.table.now) c.fill.new.out) ≡ length s.args.table.now
   as_long = let s = begun counted in ap length filled ∙ its_long s ∙ sym (long s)
 
-  share : let s = begun counted in length s.args.table.now ≤ length c.fill.new.1.1.1.1.1.1.0
+  share : let s = begun counted in length s.args.table.now ≤ length c.fill.new.out
   share =
       let s = begun counted in
-      omega (arith, as_long, length-take (length s.args.table.now) c.fill.new.1.1.1.1.1.1.0)
+      omega (arith, as_long, length-take (length s.args.table.now) c.fill.new.out)
 
-ranks-agree-requires : tie.Need-ranks-agree-requires
+ranks-agree-requires : tie.Need-ranks_agree-requires
 unfolding row_start_lem
 ranks-agree-requires c κs =
-    let f = c.before.before in
-    let s = begun (counted f) in
-    let same = (counted f).before.before.before.before.layout_of.ensures in
-    (few s, same, same, omega (arith, long s), omega (arith, as_long f, long s))
+    let s = begun (counted c.before.before) in
+    let same = (counted c.before.before).layout_of-l.ensures in
+    (few s, same, same, omega (arith, long s), omega (arith, as_long c.before.before, long s))
 
 -- what the test of ranks answers
-agrees : (c : tie.After-ranks-agree) → let s = begun (counted c.before.before.before) in
-    c.ranks-agree.result ≡ sound_ranks (network_of s.args.t) s.args.t.routers s.args.table.now
+agrees : (c : tie.After-ranks_agree) → let s = begun (counted c.before.before.before) in
+    c.ranks_agree.result ≡ sound_ranks (network_of s.args.t) s.args.t.routers s.args.table.now
 agrees c =
-    let f = c.before.before.before in
-    rw (filled f) at c.ranks-agree.ensures ∙ sym (ranks (begun (counted f)))
+    rw (filled c.before.before.before) at c.ranks_agree.ensures ∙ sym (ranks (begun (counted c.before.before.before)))
 
-returns : tie.Need-returns
+returns : tie.Need-returns-then-not-ranks_agree
 unfolding first_wrong_lem
-returns c = rw (sym (agrees c.before) ∙ not-true _ c.if1.true)
+returns c = rw (sym (agrees c.before) ∙ not-true _ c.if-not-ranks_agree.true-raw)
 
-returns-2 : tie.Need-returns-2
+returns-2 : tie.Need-returns
 unfolding first_wrong_lem wrong_bytes right_bytes
 returns-2 c =
-    let e : tie.Else1 = c.before.before in
-    rw (sym (agrees e.before) ∙ not-false _ e.if1.false) (rw (filled e.before.before.before.before) at c.first-difference.ensures)
+    let e : tie.Else-not-ranks_agree = c.before.before in
+    rw (sym (agrees e.before) ∙ not-false _ e.if-not-ranks_agree.false-raw) (rw (filled e.before.before.before.before) at c.first_difference.ensures)
 
 pub first_wrong_spec : {M : Type 1} → statement M
 first_wrong_spec =
@@ -170,8 +167,8 @@ first_wrong_spec =
     (λ c κs. headed c.before)
     (λ c κs. few c.before.before.before.before.before)
     (λ c κs. search rules)
-    (λ c. let r = c.before in omega (arith, counts r, holds_order (begun r)))
-    (λ c. let r = c.before.before in sym (ap length (front r) ∙ sym (counts r)))
+    (λ c. omega (arith, counts c.before, holds_order (begun c.before)))
+    (λ c. sym (ap length (front c.before.before) ∙ sym (counts c.before.before)))
     (λ c. search rules)
     fill-requires
     (λ c. share c.before)

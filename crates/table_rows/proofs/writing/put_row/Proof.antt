@@ -17,56 +17,54 @@ use Rattle.table_rows.proofs.Padding.{named, entries_length, entry_used, entry_u
 use Rattle.table_rows.proofs.writing.put_row.Statement.{statement}
 use Rattle.table_rows.proofs.writing.put_row.Tie as tie
 
-abbrev invariant-loop : tie.invariant-loop
+abbrev invariant-loop : tie.invariant-loop-i
 invariant-loop out₀ at keys count entries i₀ out i =
     (i ≤ 16) × (out ≡ over out₀ (at + 3) (take i (padded 255 16 (map place_in_key (take count keys)))))
 
-abbrev decreases-loop : tie.decreases-loop
+abbrev decreases-loop : tie.decreases-loop-i
 decreases-loop out₀ at keys count entries i₀ out i = 16 - i
 
 -- where the loop begins, the front is put
-module _ (c : tie.At-loop invariant-loop decreases-loop) where
+module _ (c : tie.At-loop-i invariant-loop decreases-loop) where
   abbrev front : List ℕ
-  front = let args = c.before.args in set (set (set args.out.now args.at args.l.rows) (args.at + 1) args.rank.0) (args.at + 2) args.count
+  front = let args = c.args in set (set (set args.out.now args.at args.l.rows) (args.at + 1) args.rank.0) (args.at + 2) args.count
 
   abbrev row : List ℕ
-  row = padded 255 16 (map place_in_key (take c.before.args.count c.before.args.keys.now))
+  row = padded 255 16 (map place_in_key (take c.args.count c.args.keys.now))
 
   long : length row ≡ 16
-  long = entries_length _ _ c.before.requires.2 c.before.requires.1
+  long = entries_length _ _ c.requires.2 c.requires.1
 
-  fits : c.before.args.at + 3 + length row ≤ length front
+  fits : c.args.at + 3 + length row ≤ length front
   fits = simp (length-set, long) (omega arith)
 
-  same : length c.loop.out ≡ length c.before.args.out.now
-  same = begun_length front (c.before.args.at + 3) row fits c.loop.i c.loop.invariant.1 (omega (arith, long)) ∙ simp length-set
+  same : length c.loop-i.out ≡ length c.args.out.now
+  same = begun_length front (c.args.at + 3) row fits c.loop-i.i c.loop-i.invariant.1 (omega (arith, long)) ∙ simp length-set
 
-loop-holds : tie.Need-loop-init invariant-loop decreases-loop
+loop-holds : tie.Need-loop-i-init invariant-loop decreases-loop
 loop-holds c = (omega arith, sym (over_none _ _))
 
-loop-again : tie.Need-loop-preserved invariant-loop decreases-loop
+loop-again : tie.Need-loop-i-preserved invariant-loop decreases-loop
 loop-again c =
-    let l = c.before.before in
-    let pre = l.before.requires in
-    let next = begun_next (front l) (l.before.args.at + 3) (row l) (fits l) l.loop.i l.loop.invariant.1 in
-    let inside : l.loop.i < length (row l) = omega (arith, long l) in
-    ⊎_elim (λ w. (omega arith, w.2 ∙ next _ inside (sym (entry_used l.before.args.keys.now _ pre.2 pre.1 _ w.0.taken))))
-    (λ w. (omega arith, w.1 ∙ next _ inside (sym (entry_unused l.before.args.keys.now _ pre.2 pre.1 _ w.0.left c.before.loop-test.true))))
-    c.if1.branch
+    let pre = c.requires in
+    let next = begun_next (front c.before.before) (c.args.at + 3) (row c.before.before) (fits c.before.before) c.loop-i.i c.loop-i.invariant.1 in
+    let inside : c.loop-i.i < length (row c.before.before) = omega (arith, long c.before.before) in
+    ⊎_elim (λ w. (omega arith, w.out-is ∙ next _ inside (sym (entry_used c.args.keys.now _ pre.2 pre.1 _ w.if-i-count.true))))
+    (λ w. (omega arith, w.out-is ∙ next _ inside (sym (entry_unused c.args.keys.now _ pre.2 pre.1 _ w.if-i-count.false c.loop-i-test.true))))
+    c.if-i-count.branch-raw
 
-same_length : tie.Need-same-length invariant-loop decreases-loop
+same_length : tie.Need-shape_of-out invariant-loop decreases-loop
 same_length c = same c.before
 
 returns : tie.Need-returns invariant-loop decreases-loop
 returns c =
-    let l = c.before in
-    let a = l.before.args in
+    let a = c.args in
     let kind = a.l.rows in
     let bytes : List ℕ = kind ∷ a.rank.0 ∷ a.count ∷ [] in
-    let put : front l ≡ over a.out.now a.at bytes =
+    let put : front c.before ≡ over a.out.now a.at bytes =
     rw (over_two a.out.now a.at kind a.rank.0 (omega arith)) (over_next a.out.now a.at (kind ∷ a.rank.0 ∷ []) a.count (a.at + 2) refl (omega arith)) in
-    rw (row_is a.l l.before.requires.0, named a.keys.now a.count l.before.requires.2 l.before.requires.1)
-    (l.loop.invariant.1 ∙ rw (take_all l.loop.i (row l) (omega (arith, long l)), put) (over_over a.out.now a.at bytes (row l) (a.at + 3) refl (omega arith)))
+    rw (row_is a.l c.requires.0, named a.keys.now a.count c.requires.2 c.requires.1)
+    (c.loop-i.invariant.1 ∙ rw (take_all c.loop-i.i (row c.before) (omega (arith, long c.before)), put) (over_over a.out.now a.at bytes (row c.before) (a.at + 3) refl (omega arith)))
 
 pub put_row_spec : {M : Type 1} → statement M
 put_row_spec =
@@ -86,7 +84,7 @@ put_row_spec =
     (λ c. search rules)
     (λ c. search rules)
     (λ c. search rules)
-    (λ c. omega (arith, same c.before.before.before))
+    (λ c. omega (arith, same c.before.before.before.before))
     (λ c. search rules)
     (λ c. omega (arith, same c.before.before))
     (λ c. search rules)

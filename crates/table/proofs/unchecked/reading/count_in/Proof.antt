@@ -13,16 +13,15 @@ use Rattle.table.proofs.Fields.{place_one, rank_one, places_part}
 use Rattle.table.proofs.unchecked.reading.count_in.Statement.{statement}
 use Rattle.table.proofs.unchecked.reading.count_in.Tie as tie
 
-number-at-requires : tie.Need-number-at-requires
+number-at-requires : tie.Need-number_at-requires
 number-at-requires c κs =
-    let one = rank_one c.before.before.requires.0 in
-    (omega arith, omega arith, omega (arith, c.before.before.requires.1))
+    let one = rank_one c.requires.0 in
+    (omega arith, omega arith, omega (arith, c.requires.1))
 
 returns : tie.Need-returns
 unfolding count_in_lem
 returns c =
-    let s = c.before.before.before in
-    c.number-at.ensures.0 ∙ ap (λ (l : Layout). number_at l.rank s.args.table.now (1 + l.place)) s.requires.0
+    c.number_at.ensures.0 ∙ ap (λ (l : Layout). number_at l.rank c.args.table.now (1 + l.place)) c.requires.0
 
 pub count_in_spec : {M : Type 1} → statement M
 count_in_spec = tie.close (tie.spec (λ c. search rules) (λ c. search rules) number-at-requires returns)

@@ -16,8 +16,7 @@ use Rattle.table.proofs.unchecked.reading.limit_in.Tie as tie
 returns : tie.Need-returns
 unfolding limit_in_lem
 returns c =
-    let s = c.before.before.before in
-    ap (λ (l : Layout). get_or s.args.table.now (1 + l.place + l.rank) 0) s.requires.0
+    ap (λ (l : Layout). get_or c.args.table.now (1 + l.place + l.rank) 0) c.requires.0
 
 pub limit_in_spec : {M : Type 1} → statement M
 limit_in_spec =

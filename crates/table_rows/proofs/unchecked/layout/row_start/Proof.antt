@@ -23,6 +23,6 @@ row_start_spec =
     (λ c. search rules)
     (λ c. search rules)
     (λ c. search rules)
-    (λ c. omega (arith, rows_fit _ c.before.before.requires.0 _ c.before.before.requires.1))
-    (λ c. omega (arith, rows_fit _ c.before.before.requires.0 _ c.before.before.requires.1))
+    (λ c. omega (arith, rows_fit _ c.requires.0 _ c.requires.1))
+    (λ c. omega (arith, rows_fit _ c.requires.0 _ c.requires.1))
     returns)
