@@ -1,10 +1,2 @@
 pub mod Returned
-pub mod Loan
-pub mod Parameters
-pub mod Handed
-pub mod Answering
-pub mod LentCall
-pub mod Storing
-pub mod Lends
-pub mod Packets
 pub mod Unchanged

@@ -8,14 +8,14 @@ use forwarding_rules::{Hopped, Packet, Setting};
 use topology_types::{Place, Topology};
 
 // What a setting of a packet answers, and the packet as it leaves it.
-#[derive(Drop)]
+#[derive(Clone, Copy)]
 pub struct AfterSetting {
     pub answer: Setting,
     pub packet: Packet,
 }
 
 // What a hop of a packet answers, and the packet as it leaves it.
-#[derive(Drop)]
+#[derive(Clone, Copy)]
 pub struct AfterHop {
     pub answer: Hopped,
     pub packet: Packet,

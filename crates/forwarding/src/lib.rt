@@ -1,4 +1,6 @@
 // Packets, hops, walks and greatest hop counts (01, Packet, hop and schedule).
+#![tactic(auto)]
+
 use forwarding_steps::unchecked::{moving, schedule};
 use topology_types::{Answer, Place, Topology};
 

@@ -21,7 +21,9 @@ joined_on : (route : List ℕ) (moves u : ℕ) (ps : List (List ℕ)) →
     joined_over (sets route moves) (map (λ p. u ∷ p) ps) ≡ joined_over (sets (set route moves u) (moves + 1)) ps
 unfolding joined_over
 joined_on route moves u [] = refl
-joined_on route moves u (p ∷ ps) = rw (joined_on route moves u ps, add-one)
+joined_on route moves u (p ∷ ps) =
+    rw (joined_on route moves u ps)
+    (ap (λ (k : ℕ). sets (set route moves u) k p ++ joined_over (sets (set route moves u) (moves + 1)) ps) (sym (add-one moves)))
 
 -- a count that has not stopped had not stopped before
 fewer : {count : ℕ} (ps : List (List ℕ)) {r : ℕ} → r ≡ counted 512 count ps → r ≤ 512 → count ≤ 512

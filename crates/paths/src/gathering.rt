@@ -12,7 +12,7 @@ use text::unchecked::lines;
 use topology_types::Place;
 
 // An entry of a row, unless the row has fewer.
-#[derive(Drop)]
+#[derive(Clone, Copy)]
 enum Entry {
     To(Place),
     Past,

@@ -1,4 +1,6 @@
 // Every path from a start to the destination of a table (02, 103).
+#![tactic(auto)]
+
 use topology_types::{Answer, Place, ROUTERS, Topology};
 
 mod gathering;

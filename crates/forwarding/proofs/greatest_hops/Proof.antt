@@ -16,34 +16,33 @@ use Rattle.forwarding.proofs.Returned.{passed_table}
 use Rattle.forwarding.proofs.greatest_hops.Statement.{statement}
 use Rattle.forwarding.proofs.greatest_hops.Tie as tie
 
-returns : tie.Need-returns
+returns : tie.Need-returns-then-checked-ne0
 unfolding counting_hops unless_refused turned_away
-returns c = rw (← c.before.before.check.ensures, ne_eqb _ _ c.if1.true)
+returns c = rw (← c.check-checked.ensures, ne_eqb _ _ c.if-checked-ne0.true)
 
 -- the table is accepted, and so the topology is sound
-module _ (c : tie.Else1) where
-  whole : let a = c.before.before.before.before.before.args in table_checking a.t a.table.now ≡ record { number = 0; at = 0 }
-  whole = passed_table _ _ (ap (λ (a : Answer). a.number) (sym c.before.before.check.ensures) ∙ c.if1.false)
+module _ (c : tie.Else-checked-ne0) where
+  whole : let a = c.args in table_checking a.t a.table.now ≡ record { number = 0; at = 0 }
+  whole = passed_table _ _ (ap (λ (a : Answer). a.number) (sym c.check-checked.ensures) ∙ c.if-checked-ne0.false)
 
-  passed : T (sound c.before.before.before.before.before.args.t)
+  passed : T (sound c.args.t)
   passed = ((tables_each _ _ 0).says_0.0 whole).1
 
-  long : let a = c.before.before.before.before.before.args in length (figures a.t a.table.now) ≡ a.t.routers
+  long : let a = c.args in length (figures a.t a.table.now) ≡ a.t.routers
   unfolding figures
-  long = let a = c.before.before.before.before.before.args in length_map_below (figure_byte a.t a.table.now) a.t.routers
+  long = let a = c.args in length_map_below (figure_byte a.t a.table.now) a.t.routers
 
-returns-2 : tie.Need-returns-2
+returns-2 : tie.Need-returns-then-out-n
 unfolding counting_hops unless_refused given turned_away
-returns-2 c = rw (whole c.before, long c.before, lt-ltb _ _ c.if2.true)
+returns-2 c = rw (whole c.before, long c.before, lt-ltb _ _ c.if-out-n.true)
 
-greatest-hops-requires : tie.Need-greatest-hops-requires
-greatest-hops-requires c κs = (passed c.before.before, whole c.before.before, c.before.if2.false)
+greatest-hops-requires : tie.Need-greatest_hops-requires
+greatest-hops-requires c κs = (passed c.before.before, whole c.before.before, c.if-out-n.false)
 
-returns-3 : tie.Need-returns-3
+returns-3 : tie.Need-returns
 unfolding counting_hops unless_refused given
 returns-3 c =
-    let b = c.before.before.before.before in
-    rw (c.before.before.greatest-hops.ensures, whole b.before, long b.before, le-ltb _ _ b.if2.false)
+    rw (c.greatest_hops.ensures, whole c.before.before.before.before.before, long c.before.before.before.before.before, le-ltb _ _ c.if-out-n.false)
 
 pub greatest_hops_spec : {M : Type 1} → statement M
 greatest_hops_spec =

@@ -14,92 +14,92 @@ use Rattle.forwarding.proofs.Returned.{judged_checked, passed_table, points_at, 
 use Rattle.forwarding.proofs.hop.Statement.{statement}
 use Rattle.forwarding.proofs.hop.Tie as tie
 
-returns : tie.Need-returns
+returns : tie.Need-returns-then-refused-ne0
 unfolding hopping hop_says packet_in
-returns c = on_place_refused _ _ _ c.before.before.refused-at.ensures _ _ c.if1.true
+returns c = on_place_refused _ _ _ c.refused_at-refused.ensures _ _ c.if-refused-ne0.true
 
 -- the topology is sound, and the packet's station is one of its places
-module _ (c : tie.Else1) where
+module _ (c : tie.Else-refused-ne0) where
   abbrev args : tie.Start
   args = c.before.before.before.before.before.before
 
   passed : T (sound args.args.t) × (args.args.packet.station.0 < args.args.t.routers)
-  passed = on_place_passed _ _ _ c.before.before.refused-at.ensures c.if1.false
+  passed = on_place_passed _ _ _ c.refused_at-refused.ensures c.if-refused-ne0.false
 
-returns-2 : tie.Need-returns-2
+returns-2 : tie.Need-returns-then-t-hops
 unfolding hopping hop_says tested packet_in
-returns-2 c = let (good, place) = passed c.before.before.before in rw (on_place_next, le-ltb _ _ c.if2.true)
+returns-2 c = let (good, place) = passed c.before.before.before in rw (on_place_next, le-ltb _ _ c.if-t-hops.true)
 
 -- from the test of the hops made back to those before it
-abbrev first : tie.Else2 → tie.Else1
+abbrev first : tie.Else-t-hops → tie.Else-refused-ne0
 first c = c.before.before.before
 
-of-requires : tie.Need-of-requires
+of-requires : tie.Need-of-a-requires
 of-requires c κs = (passed (first c)).0
 
-check-requires : tie.Need-check-requires
-check-requires c κs = ((passed (first c.before)).0, c.of.ensures)
+check-requires : tie.Need-check-checked-requires
+check-requires c κs = ((passed (first c.before)).0, c.of-a.ensures)
 
 -- what judging the table answered is what checking it answers
-verdict : (c : tie.After-check) → let a = (args (first c.before.before)).args in c.check.result ≡ table_checking a.t a.table.now
-verdict c = c.check.ensures ∙ judged_checked _ _ (passed (first c.before.before)).0
+verdict : (c : tie.After-check-checked) → let a = (args (first c.before.before)).args in c.check-checked.result ≡ table_checking a.t a.table.now
+verdict c = c.check-checked.ensures ∙ judged_checked _ _ (passed (first c.before.before)).0
 
-returns-3 : tie.Need-returns-3
+returns-3 : tie.Need-returns-then-checked-ne0
 unfolding hopping hop_says tested tested_by packet_in
 returns-3 c =
-    let e : tie.Else2 = c.before.before.before.before in
+    let e : tie.Else-t-hops = c.before.before.before.before in
     let (good, place) = passed (first e) in
-    rw (on_place_next, lt-ltb _ _ e.if2.false, ← verdict c.before.before, ne_eqb _ _ c.if3.true)
+    rw (on_place_next, lt-ltb _ _ e.if-t-hops.false, ← verdict c.before.before, ne_eqb _ _ c.if-checked-ne0.true)
 
 -- the table is accepted
-module _ (c : tie.Else3) where
-  abbrev second : tie.Else2
+module _ (c : tie.Else-checked-ne0) where
+  abbrev second : tie.Else-t-hops
   second = c.before.before.before.before
 
   whole : let a = (args (first second)).args in table_checking a.t a.table.now ≡ record { number = 0; at = 0 }
-  whole = passed_table _ _ (ap (λ (a : Answer). a.number) (sym (verdict c.before.before)) ∙ c.if3.false)
+  whole = passed_table _ _ (ap (λ (a : Answer). a.number) (sym (verdict c.before.before)) ∙ c.if-checked-ne0.false)
 
-returns-4 : tie.Need-returns-4
+returns-4 : tie.Need-returns-then-length-t
 unfolding hopping hop_says tested tested_by packet_in
 returns-4 c =
-    let f : tie.Else3 = c.before.before in
+    let f : tie.Else-checked-ne0 = c.before.before in
     let (good, place) = passed (first (second f)) in
-    rw (on_place_next, lt-ltb _ _ (second f).if2.false, whole f, ne_eqb _ _ c.if4.true)
+    rw (on_place_next, lt-ltb _ _ (second f).if-t-hops.false, whole f, ne_eqb _ _ c.if-length-t.true)
 
-returns-5 : tie.Need-returns-5
+returns-5 : tie.Need-returns-then-over-length
 unfolding hopping hop_says tested tested_by packet_in
 returns-5 c =
-    let g : tie.Else4 = c.before.before in
-    let f : tie.Else3 = g.before.before in
+    let g : tie.Else-length-t = c.before.before in
+    let f : tie.Else-checked-ne0 = g.before.before in
     let (good, place) = passed (first (second f)) in
-    rw (on_place_next, lt-ltb _ _ (second f).if2.false, whole f, eq-eqb _ _ g.if4.false)
-    (points_at _ _ _ 23 _ c.before.first-over.ensures c.if5.true)
+    rw (on_place_next, lt-ltb _ _ (second f).if-t-hops.false, whole f, eq-eqb _ _ g.if-length-t.false)
+    (points_at _ _ _ 23 _ c.first_over-over.ensures c.if-over-length.true)
 
-hop-by-requires : tie.Need-hop-by-requires
+hop-by-requires : tie.Need-hop_by-requires
 hop-by-requires c κs =
-    let g : tie.Else4 = c.before.before in
-    let f : tie.Else3 = g.before.before in
+    let g : tie.Else-length-t = c.before.before in
+    let f : tie.Else-checked-ne0 = g.before.before in
     let (good, place) = passed (first (second f)) in (
-      record { on_sound = good; holds = f.before.before.before.of.ensures; passes = whole f },
+      record { on_sound = good; holds = f.of-a.ensures; passes = whole f },
       place,
-      (second f).if2.false,
-      g.if4.false,
+      (second f).if-t-hops.false,
+      g.if-length-t.false,
     )
 
-returns-6 : tie.Need-returns-6
+returns-6 : tie.Need-returns
 unfolding hopping tested tested_by tested_over packet_in
 returns-6 c =
-    let h : tie.Else5 = c.before in
-    let g : tie.Else4 = h.before.before in
-    let f : tie.Else3 = g.before.before in
+    let h : tie.Else-over-length = c.before in
+    let g : tie.Else-length-t = h.before.before in
+    let f : tie.Else-checked-ne0 = g.before.before in
     let (good, place) = passed (first (second f)) in
     rw (
       on_place_next,
-      lt-ltb _ _ (second f).if2.false,
+      lt-ltb _ _ (second f).if-t-hops.false,
       whole f,
-      eq-eqb _ _ g.if4.false,
-      none_points _ _ h.before.first-over.ensures h.if5.false,
-    ) c.hop-by.ensures
+      eq-eqb _ _ g.if-length-t.false,
+      none_points _ _ h.first_over-over.ensures h.if-over-length.false,
+    ) c.hop_by.ensures
 
 pub hop_spec : {M : Type 1} → statement M
 hop_spec =

@@ -10,7 +10,7 @@ use table::unchecked::reading;
 use topology_types::{Place, ROUTERS, Rank, Topology};
 
 // The greatest hop count of every place, as far as it is known: a hop bound is a rank, 255 where a place has none (02, #107).
-#[derive(Drop)]
+#[derive(Clone, Copy)]
 pub struct Bounds {
     pub by: [Rank; ROUTERS],
 }

@@ -12,7 +12,7 @@ use table::unchecked::reading;
 use topology_types::{NEIGHBOURS, Place, Topology};
 
 // Where a packet goes next, if anywhere.
-#[derive(Drop)]
+#[derive(Clone, Copy)]
 pub(crate) enum Next {
     To(Place),
     Nowhere,

@@ -23,43 +23,43 @@ use Rattle.paths.proofs.Start.{beyond, within, needed, front}
 use Rattle.paths.proofs.write.Statement.{statement}
 use Rattle.paths.proofs.write.Tie as tie
 
-returns : tie.Need-returns
+returns : tie.Need-returns-then-refused-ne0
 unfolding writing_paths turned_away
-returns c = on_place_refused _ _ _ c.before.before.refused-at.ensures _ _ c.if1.true
+returns c = on_place_refused _ _ _ c.refused_at-refused.ensures _ _ c.if-refused-ne0.true
 
 -- the topology is sound, and the start is one of its places
-abbrev args : tie.Else1 → tie.Start
+abbrev args : tie.Else-refused-ne0 → tie.Start
 args c = c.before.before.before.before.before
 
-passed : (c : tie.Else1) → T (sound (args c).args.t) × ((args c).args.start.0 < (args c).args.t.routers)
-passed c = on_place_passed _ _ _ c.before.before.refused-at.ensures c.if1.false
+passed : (c : tie.Else-refused-ne0) → T (sound (args c).args.t) × ((args c).args.start.0 < (args c).args.t.routers)
+passed c = on_place_passed _ _ _ c.refused_at-refused.ensures c.if-refused-ne0.false
 
 -- what judging the table answered is what checking it answers
-verdict : (c : tie.After-check) → let a = (args c.before.before).args in c.check.result ≡ table_checking a.t a.table.now
-verdict c = c.check.ensures ∙ judged_checked _ _ (passed c.before.before).0
+verdict : (c : tie.After-check-checked) → let a = (args c.before.before).args in c.check-checked.result ≡ table_checking a.t a.table.now
+verdict c = c.check-checked.ensures ∙ judged_checked _ _ (passed c.before.before).0
 
-returns-2 : tie.Need-returns-2
+returns-2 : tie.Need-returns-then-checked-ne0
 unfolding writing_paths turned_away unless_refused
 returns-2 c =
-    let (good, place) = passed c.before.before.before.before in rw (on_place_next, ← verdict c.before.before, ne_eqb _ _ c.if2.true)
+    let (good, place) = passed c.before.before.before.before in rw (on_place_next, ← verdict c.before.before, ne_eqb _ _ c.if-checked-ne0.true)
 
 -- the table is accepted
-module _ (c : tie.Else2) where
+module _ (c : tie.Else-checked-ne0) where
   abbrev its : tie.Start
   its = args c.before.before.before.before
 
   whole : table_checking its.args.t its.args.table.now ≡ record { number = 0; at = 0 }
-  whole = passed_table _ _ (ap (λ (a : Answer). a.number) (sym (verdict c.before.before)) ∙ c.if2.false)
+  whole = passed_table _ _ (ap (λ (a : Answer). a.number) (sym (verdict c.before.before)) ∙ c.if-checked-ne0.false)
 
   on : Passed its.args.t its.args.table.now its.args.start.0
   on = let (good, place) = passed c.before.before.before.before in record { is-sound = good; accepted = whole; place = place }
 
-gather-requires : tie.Need-gather-requires
-gather-requires c κs = (on c.before.before, omega (arith, c.before.room-for-paths.ensures))
+gather-requires : tie.Need-gather-count-requires
+gather-requires c κs = (on c.before.before, omega (arith, c.room_for_paths-paths.ensures))
 
 -- what the call makes of the paths, once the table was accepted
-module _ (c : tie.After-gather) where
-  abbrev tested : tie.Else2
+module _ (c : tie.After-gather-count) where
+  abbrev tested : tie.Else-checked-ne0
   tested = c.before.before.before
 
   abbrev start : tie.Start
@@ -70,44 +70,39 @@ module _ (c : tie.After-gather) where
       (given (paths_bytes start.args.t start.args.table.now start.args.start.0) buffer)
   left buffer = on_passed _ _ _ buffer (on tested)
 
-  bytes : c.gather.result ≤ 512 → take (64 * c.gather.result) c.gather.new.1.1.1.0
+  bytes : c.gather-count.result ≤ 512 → take (64 * c.gather-count.result) c.gather-count.new.out
       ≡ paths_bytes start.args.t start.args.table.now start.args.start.0
-  bytes few = front c.gather.ensures few (omega (arith, c.before.before.room-for-paths.ensures))
+  bytes few = front c.gather-count.ensures few (omega (arith, c.room_for_paths-paths.ensures))
 
-returns-3 : tie.Need-returns-3
+returns-3 : tie.Need-returns-then-count-gt-PATHS
 unfolding turned_away
 returns-3 c =
-    let g = c.before.before.before in
-    rw (left g _, beyond g.gather.ensures c.before.if3.true, ← c.index.ensures)
+    rw (left c.before.before.before _, beyond c.gather-count.ensures c.if-count-gt-PATHS.true, ← c.index.ensures)
 
-returns-4 : tie.Need-returns-4
+returns-4 : tie.Need-returns-then-out-needed
 unfolding given turned_away
 returns-4 c =
-    let g = c.before.before.before in
-    let few = c.before.if3.false in
-    rw (left g _, within g.gather.ensures few, needed g.gather.ensures few, lt-ltb _ _ c.if4.true)
+    let few = c.if-count-gt-PATHS.false in
+    rw (left c.before.before.before _, within c.gather-count.ensures few, needed c.gather-count.ensures few, lt-ltb _ _ c.if-out-needed.true)
 
-slice-aggregate-put : tie.Need-slice-aggregate-put
+slice-aggregate-put : tie.Need-slice_bounds-put-end
 slice-aggregate-put c =
-    let g = c.before.before.before.before.before in
-    let few = c.before.before.before.if3.false in
-    sym (ap length (bytes g few) ∙ needed g.gather.ensures few)
+    let few = c.if-count-gt-PATHS.false in
+    sym (ap length (bytes c.before.before.before.before.before few) ∙ needed c.gather-count.ensures few)
 
 put-requires : tie.Need-put-requires
 put-requires c κs =
-    let g = c.before.before.before.before.before in
-    let few = c.before.before.before.if3.false in
-    omega (arith, ap length (bytes g few) ∙ needed g.gather.ensures few, c.before.before.if4.false)
+    let few = c.if-count-gt-PATHS.false in
+    omega (arith, ap length (bytes c.before.before.before.before.before few) ∙ needed c.gather-count.ensures few, c.if-out-needed.false)
 
-returns-5 : tie.Need-returns-5
+returns-5 : tie.Need-returns
 unfolding given
 returns-5 c =
-    let g = c.before.before.before.before.before.before.before.before in
-    let few = c.before.before.before.before.before.before.if3.false in
-    let fits = c.before.before.before.before.before.if4.false in
-    let long = needed g.gather.ensures few in
-    let put = put_start (rw (bytes g few) at c.before.before.put.ensures) (omega (arith, long, fits)) in
-    rw (left g _, within g.gather.ensures few, put, long, le-ltb _ _ fits)
+    let few = c.if-count-gt-PATHS.false in
+    let fits = c.if-out-needed.false in
+    let long = needed c.gather-count.ensures few in
+    let put = put_start (rw (bytes c.before.before.before.before.before.before.before.before few) at c.put.ensures) (omega (arith, long, fits)) in
+    rw (left c.before.before.before.before.before.before.before.before _, within c.gather-count.ensures few, put, long, le-ltb _ _ fits)
 
 pub write_spec : {M : Type 1} → statement M
 write_spec =

@@ -10,4 +10,4 @@ pub is_moved_spec : {M : Type 1} → statement M
 unfolding is_moved_lem hop_says
 is_moved_spec =
     tie.close (tie.spec (λ c. search rules) (λ c. search rules) (λ c. search rules) (λ c. search rules)
-    (λ c. rw c.enum_told.given.1) (λ c. rw c.enum-told2.given.1) (λ c. rw c.enum-told3.given.1) (λ c. rw c.enum-told4.given.1))
+    (λ c. rw c.in-Delivered.is) (λ c. rw c.in-Moved.is) (λ c. rw c.in-Dropped.is) (λ c. rw c.in-Refused.is))

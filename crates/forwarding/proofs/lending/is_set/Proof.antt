@@ -9,4 +9,4 @@ use Rattle.forwarding.proofs.lending.is_set.Tie as tie
 pub is_set_spec : {M : Type 1} → statement M
 unfolding is_set setting_says
 is_set_spec =
-    tie.close (tie.spec (λ c. search rules) (λ c. search rules) (λ c. rw c.enum_told.given.1) (λ c. rw c.enum-told2.given.1))
+    tie.close (tie.spec (λ c. search rules) (λ c. search rules) (λ c. rw c.in-Set.is) (λ c. rw c.in-Refused.is))

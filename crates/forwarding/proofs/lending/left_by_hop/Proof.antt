@@ -7,4 +7,4 @@ use Rattle.forwarding.proofs.lending.left_by_hop.Tie as tie
 
 pub left_by_hop_spec : {M : Type 1} → statement M
 unfolding hopping_packet
-left_by_hop_spec = tie.close (tie.spec (λ c κs. search rules) (λ c κs. search rules) (λ c. rw (← c.before.hop.ensures, c.packet-after-hop.ensures)))
+left_by_hop_spec = tie.close (tie.spec (λ c κs. search rules) (λ c κs. search rules) (λ c. rw (← c.hop-answer.ensures, c.packet_after_hop-after.ensures)))

@@ -7,4 +7,4 @@ use Rattle.forwarding.proofs.lending.left_by_setting.Tie as tie
 
 pub left_by_setting_spec : {M : Type 1} → statement M
 unfolding setting_packet
-left_by_setting_spec = tie.close (tie.spec (λ c κs. search rules) (λ c κs. search rules) (λ c. rw (← c.before.set.ensures, c.packet-after-setting.ensures)))
+left_by_setting_spec = tie.close (tie.spec (λ c κs. search rules) (λ c κs. search rules) (λ c. rw (← c.set-answer.ensures, c.packet_after_setting-after.ensures)))

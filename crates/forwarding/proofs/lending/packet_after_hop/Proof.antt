@@ -10,4 +10,4 @@ pub packet_after_hop_spec : {M : Type 1} → statement M
 unfolding packet_after_hop_lem hop_says
 packet_after_hop_spec =
     tie.close (tie.spec (λ c. search rules) (λ c. search rules) (λ c. search rules) (λ c. search rules)
-    (λ c. rw c.enum_told.given.1) (λ c. rw c.before.answer.given.1) (λ c. rw c.enum-told2.given.1) (λ c. rw c.enum-told3.given.1))
+    (λ c. rw c.in-Delivered.is) (λ c. rw c.in-Moved.is) (λ c. rw c.in-Dropped.is) (λ c. rw c.in-Refused.is))

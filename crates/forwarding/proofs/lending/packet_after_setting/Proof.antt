@@ -9,4 +9,4 @@ use Rattle.forwarding.proofs.lending.packet_after_setting.Tie as tie
 pub packet_after_setting_spec : {M : Type 1} → statement M
 unfolding packet_after_setting_lem setting_says
 packet_after_setting_spec =
-    tie.close (tie.spec (λ c. search rules) (λ c. search rules) (λ c. rw c.before.answer.given.1) (λ c. rw c.enum_told.given.1))
+    tie.close (tie.spec (λ c. search rules) (λ c. search rules) (λ c. rw c.in-Set.is) (λ c. rw c.in-Refused.is))

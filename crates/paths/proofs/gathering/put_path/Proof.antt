@@ -6,14 +6,13 @@ use Rattle.paths.proofs.Behind.{one, full}
 use Rattle.paths.proofs.gathering.put_path.Statement.{statement}
 use Rattle.paths.proofs.gathering.put_path.Tie as tie
 
-returns : tie.Need-returns
-returns c = full c.before.before.requires.0 c.if1.true
+returns : tie.Need-returns-then-count-ge-PATHS
+returns c = full c.requires.0 c.if-count-ge-PATHS.true
 
-returns-2 : tie.Need-returns-2
+returns-2 : tie.Need-returns
 returns-2 c =
-    let start = c.before.before.before.before.before.before.before in
-    let e : tie.Else1 = c.before.before.before.before.before in
-    one (omega (arith, start.well_formed)) e.if1.false c.before.before.put.ensures
+    let e : tie.Else-count-ge-PATHS = c.before.before.before.before.before in
+    one (omega (arith, c.well_formed)) e.if-count-ge-PATHS.false c.put.ensures
 
 pub put_path_spec : {M : Type 1} → statement M
 put_path_spec =

@@ -7,21 +7,19 @@ use Rattle.paths.proofs.Start.{listed}
 use Rattle.paths.proofs.unchecked.gather.Statement.{statement}
 use Rattle.paths.proofs.unchecked.gather.Tie as tie
 
-from-station-requires : tie.Need-from-station-requires
+from-station-requires : tie.Need-from_station-requires
 from-station-requires c κs =
-    let start = c.before.before.before in
     record {
-      topology = start.args.t;
-      on = start.requires.0;
-      short = omega (arith, rank_few start.requires.0);
+      topology = c.args.t;
+      on = c.requires.0;
+      short = omega (arith, rank_few c.requires.0);
       few = omega arith;
-      room = start.requires.1;
+      room = c.requires.1;
     }
 
 returns : tie.Need-returns
 returns c =
-    let start = c.before.before.before.before.before.before in
-    listed start.requires.0 (c.before.before.from-station.ensures start.args.t start.requires.0)
+    listed c.requires.0 (c.from_station.ensures c.args.t c.requires.0)
 
 pub gather_spec : {M : Type 1} → statement M
 gather_spec = tie.close (tie.spec from-station-requires (λ c. search rules) returns)

@@ -18,10 +18,10 @@ use Rattle.forwarding_steps.proofs.unchecked.counting.greatest_of.Tie as tie
 abbrev over : List Rank → ℕ → ℕ
 over by v = suc (bound_of by v)
 
-abbrev invariant-loop : tie.invariant-loop
+abbrev invariant-loop : tie.invariant-loop-i
 invariant-loop row bounds best₀ i₀ best i = (i ≤ length row) × (best.0 ≡ greatest_by (over bounds.by) (drop i row))
 
-abbrev decreases-loop : tie.decreases-loop
+abbrev decreases-loop : tie.decreases-loop-i
 decreases-loop row bounds best₀ i₀ best i = i
 
 none_left : (by : List Rank) (row : List ℕ) → 0 ≡ greatest_by (over by) (drop (length row) row)
@@ -38,37 +38,37 @@ turned by row i best some h e =
     ∙ ap (max (suc (bound_of by (get_or row (i - 1) 0)))) (sym e)
 
 -- the entry of a turn stands in the row, and is a place, whose bound is known
-module _ (c : tie.In-loop invariant-loop decreases-loop) where
+module _ (c : tie.In-loop-i invariant-loop decreases-loop) where
   abbrev start : tie.Start invariant-loop decreases-loop
   start = c.before.before
 
-  stands : Memᴰ (get_or start.args.row.now (c.before.loop.i - 1) 0) start.args.row.now
-  stands = get_d_mem start.args.row.now (c.before.loop.i - 1) 0 (omega (arith, c.loop-test.true, c.before.loop.invariant.0))
+  stands : Memᴰ (get_or start.args.row.now (c.loop-i.i - 1) 0) start.args.row.now
+  stands = get_d_mem start.args.row.now (c.loop-i.i - 1) 0 (omega (arith, c.loop-i-test.true, c.loop-i.invariant.0))
 
-  best_next : greatest_by (over start.args.t2.by) (drop (c.before.loop.i - 1) start.args.row.now)
-      ≡ max (suc (bound_of start.args.t2.by (get_or start.args.row.now (c.before.loop.i - 1) 0))) c.before.loop.best.0
+  best_next : greatest_by (over start.args.bounds.by) (drop (c.loop-i.i - 1) start.args.row.now)
+      ≡ max (suc (bound_of start.args.bounds.by (get_or start.args.row.now (c.loop-i.i - 1) 0))) c.loop-i.best.0
   best_next =
-      let at = c.before.loop in
-      turned start.args.t2.by start.args.row.now at.i at.best.0 (omega (arith, c.loop-test.true)) at.invariant.0 at.invariant.1
+      let at = c.loop-i in
+      turned start.args.bounds.by start.args.row.now at.i at.best.0 (omega (arith, c.loop-i-test.true)) at.invariant.0 at.invariant.1
 
-loop-holds : tie.Need-loop-init invariant-loop decreases-loop
-loop-holds c = (omega arith, none_left c.args.t2.by c.args.row.now)
+loop-holds : tie.Need-loop-i-init invariant-loop decreases-loop
+loop-holds c = (omega arith, none_left c.args.bounds.by c.args.row.now)
 
-add-t12 : tie.Need-overflow-add-t12 invariant-loop decreases-loop
+add-t12 : tie.Need-overflow_add-longer invariant-loop decreases-loop
 unfolding bound_of
-add-t12 c = let i = c.before.before.before.before in omega (arith, (start i).requires.few _ (stands i))
+add-t12 c = omega (arith, (start c.before.before.before.before).requires.few _ (stands c.before.before.before.before))
 
-loop-again : tie.Need-loop-preserved invariant-loop decreases-loop
+loop-again : tie.Need-loop-i-preserved-then-best-longer invariant-loop decreases-loop
 unfolding bound_of
 loop-again c = (omega arith, omega (arith, best_next c.before.before.before.before.before.before.before))
 
-loop-again-2 : tie.Need-loop-preserved-2 invariant-loop decreases-loop
+loop-again-2 : tie.Need-loop-i-preserved invariant-loop decreases-loop
 unfolding bound_of
 loop-again-2 c = (omega arith, omega (arith, best_next c.before.before.before.before.before.before.before))
 
 returns : tie.Need-returns invariant-loop decreases-loop
 returns c =
-    let at = c.before.loop in
+    let at = c.loop-i in
     let none : at.i ≡ 0 = omega arith in
     rw none at at.invariant.1
 
@@ -80,9 +80,9 @@ greatest_of_spec =
     decreases-loop
     loop-holds
     (λ c. search rules)
-    (λ c. omega (arith, c.before.loop-test.true, c.before.before.loop.invariant.0))
+    (λ c. omega (arith, c.loop-i-test.true, c.loop-i.invariant.0))
     (λ c. search rules)
-    (λ c. let i = c.before.before in (start i).requires.places _ (stands i))
+    (λ c. (start c.before.before).requires.places _ (stands c.before.before))
     add-t12
     (λ c. search rules)
     loop-again

@@ -14,49 +14,48 @@ use Rattle.forwarding_steps.specs.Inner.{bound_of}
 use Rattle.forwarding_steps.proofs.unchecked.counting.put_bounds.Statement.{statement}
 use Rattle.forwarding_steps.proofs.unchecked.counting.put_bounds.Tie as tie
 
-abbrev invariant-loop : tie.invariant-loop
+abbrev invariant-loop : tie.invariant-loop-u
 invariant-loop n out₀ bounds u₀ out u = (u ≤ n) × (out ≡ map (bound_of bounds.by) (below u) ++ drop u out₀)
 
-abbrev decreases-loop : tie.decreases-loop
+abbrev decreases-loop : tie.decreases-loop-u
 decreases-loop n out₀ bounds u₀ out u = n - u
 
-loop-holds : tie.Need-loop-init invariant-loop decreases-loop
+loop-holds : tie.Need-loop-u-init invariant-loop decreases-loop
 unfolding below numbers_from
 loop-holds c = (omega arith, refl)
 
-element-copy-out-bound : tie.Need-element-copy-out-bound invariant-loop decreases-loop
-element-copy-out-bound c = omega (arith, c.loop-test.true, c.before.before.requires.0)
+element-copy-out-bound : tie.Need-bounds-bounds-u invariant-loop decreases-loop
+element-copy-out-bound c = omega (arith, c.loop-u-test.true, c.requires.0)
 
-same : (c : tie.At-loop invariant-loop decreases-loop) → length c.loop.out ≡ length c.before.args.out.now
+same : (c : tie.At-loop-u invariant-loop decreases-loop) → length c.loop-u.out ≡ length c.args.out.now
 same c =
-    let put = c.loop.invariant.1 in
-    let long = length_map_below (bound_of c.before.args.t1.by) c.loop.u in
-    ap length put ∙ simp (length-append, length-drop) (omega (arith, long, c.loop.invariant.0, c.before.requires.1))
+    let put = c.loop-u.invariant.1 in
+    let long = length_map_below (bound_of c.args.bounds.by) c.loop-u.u in
+    ap length put ∙ simp (length-append, length-drop) (omega (arith, long, c.loop-u.invariant.0, c.requires.1))
 
-slice-write-out : tie.Need-slice-write-out invariant-loop decreases-loop
-slice-write-out c = omega (arith, same c.before.before, c.before.loop-test.true, c.before.before.before.requires.1)
+slice-write-out : tie.Need-bounds-out-u invariant-loop decreases-loop
+slice-write-out c = omega (arith, same c.before.before, c.loop-u-test.true, c.requires.1)
 
-add-u : tie.Need-overflow-add-u invariant-loop decreases-loop
-add-u c = omega (arith, c.before.loop-test.true)
+add-u : tie.Need-overflow_add-u invariant-loop decreases-loop
+add-u c = omega (arith, c.loop-u-test.true)
 
-loop-less : tie.Need-loop-smaller invariant-loop decreases-loop
-loop-less c = falls _ _ c.before.loop-test.true
+loop-less : tie.Need-loop-u-smaller invariant-loop decreases-loop
+loop-less c = falls _ _ c.loop-u-test.true
 
-loop-again : tie.Need-loop-preserved invariant-loop decreases-loop
+loop-again : tie.Need-loop-u-preserved invariant-loop decreases-loop
 unfolding bound_of
 loop-again c =
-    let at = c.before.before in
-    let h = c.before.loop-test.true in
-    let by = at.before.args.t1.by in (
+    let h = c.loop-u-test.true in
+    let by = c.args.bounds.by in (
       add-one-le h,
-      rw at.loop.invariant.1 (fill_more (bound_of by) 0 at.before.args.out.now at.loop.u (omega (arith, h, at.before.requires.1))),
+      rw c.loop-u.invariant.1 (fill_more (bound_of by) 0 c.args.out.now c.loop-u.u (omega (arith, h, c.requires.1))),
     )
 
-same_length : tie.Need-same-length invariant-loop decreases-loop
+same_length : tie.Need-shape_of-out invariant-loop decreases-loop
 same_length c = same c.before
 
 returns : tie.Need-returns invariant-loop decreases-loop
-returns c = let end : c.before.loop.u ≡ c.before.before.args.n = omega (arith, c.before.loop.invariant.0, c.loop-test.false) in rw end at c.before.loop.invariant.1
+returns c = let end : c.loop-u.u ≡ c.args.n = omega (arith, c.loop-u.invariant.0, c.loop-u-test.false) in rw end at c.loop-u.invariant.1
 
 pub put_bounds_spec : {M : Type 1} → statement M
 put_bounds_spec =

@@ -11,59 +11,58 @@ use Rattle.forwarding_steps.proofs.Steps.{few_routers, headed, arrives, link_slo
 use Rattle.forwarding_steps.proofs.unchecked.moving.hop_by.Statement.{statement}
 use Rattle.forwarding_steps.proofs.unchecked.moving.hop_by.Tie as tie
 
-destination-in-requires : tie.Need-destination-in-requires
-destination-in-requires c κs = headed c.before.before.before.before.requires.0 c.before.layout_of.ensures
+destination-in-requires : tie.Need-destination_in-home-requires
+destination-in-requires c κs = headed c.requires.0 c.layout_of-l.ensures
 
-returns : tie.Need-returns
+returns : tie.Need-returns-then-station-home
 unfolding hop_says packet_in
 returns c =
-    let start = c.before.before.before.before.before.before.before.before in
-    rw (arrives start.requires.0 _ (packet_in start.args.packet) (c.if1.true ∙ c.before.before.before.destination-in.ensures))
+    rw (arrives c.requires.0 _ (packet_in c.args.packet) (c.if-station-home.true ∙ c.destination_in-home.ensures))
 
 -- off d
-abbrev begun : tie.Else1 → tie.Start
+abbrev begun : tie.Else-station-home → tie.Start
 begun c = c.before.before.before.before.before.before.before.before
 
-off : (c : tie.Else1) → (begun c).args.packet.station.0 ≡ destination_in_lem (begun c).args.table.now → ⊥
-off c e = c.if1.false (e ∙ sym c.before.before.before.destination-in.ensures)
+off : (c : tie.Else-station-home) → (begun c).args.packet.station.0 ≡ destination_in_lem (begun c).args.table.now → ⊥
+off c e = c.if-station-home.false (e ∙ sym c.destination_in-home.ensures)
 
-row-in-requires : tie.Need-row-in-requires
+row-in-requires : tie.Need-row_in-row-requires
 row-in-requires c κs =
-    let e : tie.Else1 = c.before in rowed (begun e).requires.0 _ (begun e).requires.1 e.before.before.before.before.before.layout_of.ensures
+    let e : tie.Else-station-home = c.before in rowed (begun e).requires.0 _ (begun e).requires.1 e.layout_of-l.ensures
 
-element-copy-out-count : tie.Need-element-copy-out-count
-element-copy-out-count c = let start = begun c.before.before in omega (arith, few_routers start.pre.0, start.pre.1)
+element-copy-out-count : tie.Need-bounds-a-u
+element-copy-out-count c = let start = begun c.before.before in omega (arith, few_routers start.requires.0, start.requires.1)
 
-next-of-requires : tie.Need-next-of-requires
-next-of-requires c κs = let start = begun c.before.before.before.before.before.before in link_slots start.pre.0 _ start.pre.1 _ start.pre.3
+next-of-requires : tie.Need-next_of-requires
+next-of-requires c κs = let start = begun c.before.before.before.before.before in link_slots start.requires.0 _ start.requires.1 _ start.requires.3
 
 -- what was found in the row of the station
-found : (c : tie.After-next-of) → let s = begun c.before.before.before.before.before.before.before in
+found : (c : tie.After-next_of) → let s = begun c.before.before.before.before.before.before in
     next_place c.next_of.result
-    ≡ first_up s.args.t2.to s.args.t2.link s.args.states.now s.args.packet.station.0 (get_or s.args.t2.count s.args.packet.station.0 0)
+    ≡ first_up s.args.a.to s.args.a.link s.args.states.now s.args.packet.station.0 (get_or s.args.a.count s.args.packet.station.0 0)
     (places_in s.args.table.now s.args.packet.station.0)
-found c = c.next_of.ensures ∙ ap (first_up _ _ _ _ _) c.before.before.before.before.before.row_in.ensures
+found c = c.next_of.ensures ∙ ap (first_up _ _ _ _ _) c.row_in-row.ensures
 
-returns-2 : tie.Need-returns-2
+returns-2 : tie.Need-returns-in_default
 unfolding hop_says packet_in
 returns-2 c =
-    let call : tie.After-next-of = c.before.before in
-    let e : tie.Else1 = call.before.before.before.before.before.before.before in
+    let call : tie.After-next_of = c.before in
+    let e : tie.Else-station-home = call.before.before.before.before.before.before in
     let start = begun e in
-    rw (stops start.pre.0 _ start.pre.1 _ start.args.packet.hops (off e) _ (found call) c.enum_told.given.1)
+    rw (stops start.requires.0 _ start.requires.1 _ start.args.packet.hops (off e) _ (found call) c.in_default.is)
 
-add-t17 : tie.Need-overflow-add-t17
+add-t17 : tie.Need-overflow_add-result
 add-t17 c =
-    let start = begun c.before.before.before.before.before.before.before.before.before.before.before in
-    omega (arith, few_routers start.pre.0, start.pre.2)
+    let start = begun c.before.before.before.before.before.before.before.before in
+    omega (arith, few_routers start.requires.0, start.requires.2)
 
-returns-3 : tie.Need-returns-3
+returns-3 : tie.Need-returns
 unfolding hop_says packet_in
 returns-3 c =
-    let call : tie.After-next-of = c.before.before.before.before in
-    let e : tie.Else1 = call.before.before.before.before.before.before.before in
+    let call : tie.After-next_of = c.before.before in
+    let e : tie.Else-station-home = call.before.before.before.before.before.before in
     let start = begun e in
-    rw (goes start.pre.0 _ start.pre.1 _ start.args.packet.hops (off e) _ (found call) _ c.before.before.place.given.1).hop_is
+    rw (goes start.requires.0 _ start.requires.1 _ start.args.packet.hops (off e) _ (found call) _ c.in-To.is).hop_is
 
 pub hop_by_spec : {M : Type 1} → statement M
 hop_by_spec =

@@ -14,40 +14,35 @@ use Rattle.forwarding_steps.specs.Inner.{first_of, first_up, next_place}
 use Rattle.forwarding_steps.proofs.unchecked.moving.next_of.Statement.{statement}
 use Rattle.forwarding_steps.proofs.unchecked.moving.next_of.Tie as tie
 
-abbrev invariant-loop : tie.invariant-loop
+abbrev invariant-loop : tie.invariant-loop-i
 invariant-loop row to link states count u i₀ i = (i ≤ length row) × (first_up to link states u count row ≡ first_up to link states u count (drop i row))
 
-abbrev decreases-loop : tie.decreases-loop
+abbrev decreases-loop : tie.decreases-loop-i
 decreases-loop row to link states count u i₀ i = length row - i
 
 -- the entries from one on
 from : (row : List ℕ) (i : ℕ) → i < length row → drop i row ≡ get_or row i 0 ∷ drop (i + 1) row
 from row i h = rw (add-one, drop-cons row i 0)
 
-loop-holds : tie.Need-loop-init invariant-loop decreases-loop
+loop-holds : tie.Need-loop-i-init invariant-loop decreases-loop
 loop-holds c = (omega arith, refl)
 
-returns : tie.Need-returns invariant-loop decreases-loop
+returns : tie.Need-returns-then-is_up invariant-loop decreases-loop
 unfolding first_up first_of keep next_place
 returns c =
-    let turn = c.before.before.before in
-    let at = turn.before in
-    sym (at.loop.invariant.1 ∙ rw (from _ at.loop.i turn.loop-test.true, ← c.before.is_up.ensures, c.if1.true))
+    sym (c.loop-i.invariant.1 ∙ rw (from _ c.loop-i.i c.loop-i-test.true, ← c.is_up.ensures, c.if-is_up.true))
 
-loop-again : tie.Need-loop-preserved invariant-loop decreases-loop
+loop-again : tie.Need-loop-i-preserved invariant-loop decreases-loop
 unfolding first_up first_of keep
-loop-again c =
-    let turn = c.before.before.before in
-    let at = turn.before in (
-      add-one-le turn.loop-test.true,
-      at.loop.invariant.1 ∙ rw (from _ at.loop.i turn.loop-test.true, ← c.before.is_up.ensures, c.if1.false),
-    )
+loop-again c = (
+  add-one-le c.loop-i-test.true,
+  c.loop-i.invariant.1 ∙ rw (from _ c.loop-i.i c.loop-i-test.true, ← c.is_up.ensures, c.if-is_up.false),
+)
 
-returns-2 : tie.Need-returns-2 invariant-loop decreases-loop
+returns-2 : tie.Need-returns invariant-loop decreases-loop
 unfolding first_up first_of keep next_place
 returns-2 c =
-    let at = c.before in
-    sym (at.loop.invariant.1 ∙ rw (drop_of_length-le at.before.before.before.before.args.row.now {i = at.loop.i} c.loop-test.false))
+    sym (c.loop-i.invariant.1 ∙ rw (drop_of_length-le c.args.row.now {i = c.loop-i.i} c.loop-i-test.false))
 
 pub next_of_spec : {M : Type 1} → statement M
 next_of_spec =
@@ -57,10 +52,10 @@ next_of_spec =
     decreases-loop
     (λ c. search rules)
     loop-holds
-    (λ c. omega (arith, c.before.loop-test.true))
-    (λ c κs. c.before.before.before.before.before.before.requires)
+    (λ c. omega (arith, c.loop-i-test.true))
+    (λ c κs. c.requires)
     returns
-    (λ c. omega (arith, c.before.before.before.loop-test.true))
+    (λ c. omega (arith, c.loop-i-test.true))
     (λ c. omega arith)
     loop-again
     returns-2)

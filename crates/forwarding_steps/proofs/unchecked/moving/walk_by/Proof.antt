@@ -14,100 +14,96 @@ use Rattle.forwarding_steps.proofs.Turns.{Reached, begins, ends, fits, part_long
 use Rattle.forwarding_steps.proofs.unchecked.moving.walk_by.Statement.{statement}
 use Rattle.forwarding_steps.proofs.unchecked.moving.walk_by.Tie as tie
 
-abbrev invariant-loop : tie.invariant-loop
+abbrev invariant-loop : tie.invariant-loop-station
 invariant-loop t table schedule a l home station₀ hops₀ at₀ station hops at = Reached t table schedule station₀.0 station.0 hops at
 
-abbrev decreases-loop : tie.decreases-loop
+abbrev decreases-loop : tie.decreases-loop-station
 decreases-loop t table schedule a l home station₀ hops₀ at₀ station hops at = rank (order_in t.routers table) station.0
 
 -- from a turn back to the start
-abbrev begun : tie.At-loop invariant-loop decreases-loop → tie.Start invariant-loop decreases-loop
+abbrev begun : tie.At-loop-station invariant-loop decreases-loop → tie.Start invariant-loop decreases-loop
 begun c = c.before.before.before.before.before
 
-abbrev looped : tie.Then1 invariant-loop decreases-loop → tie.At-loop invariant-loop decreases-loop
+abbrev looped : tie.In-loop-station invariant-loop decreases-loop → tie.At-loop-station invariant-loop decreases-loop
 looped c = c.before.before.before
 
 -- the station of a turn is a router, and not d
-station_in : (at : tie.At-loop invariant-loop decreases-loop) → at.loop.station.0 < 64
-station_in at = omega (arith, few_routers (begun at).requires.0, at.loop.invariant.inside)
+station_in : (at : tie.At-loop-station invariant-loop decreases-loop) → at.loop-station.station.0 < 64
+station_in at = omega (arith, few_routers (begun at).requires.0, at.loop-station.invariant.inside)
 
-off : (c : tie.Then1 invariant-loop decreases-loop) → (looped c).loop.station.0 ≡ destination_in_lem (begun (looped c)).args.table.now → ⊥
-off c e = c.if1.true (e ∙ sym (looped c).before.destination-in.ensures)
+off : (c : tie.In-loop-station invariant-loop decreases-loop) → (looped c).loop-station.station.0 ≡ destination_in_lem (begun (looped c)).args.table.now → ⊥
+off c e = c.loop-station-test.true (e ∙ sym (looped c).destination_in-home.ensures)
 
-destination-in-requires : tie.Need-destination-in-requires invariant-loop decreases-loop
-destination-in-requires c κs = headed c.before.before.before.requires.0 c.layout_of.ensures
+destination-in-requires : tie.Need-destination_in-home-requires invariant-loop decreases-loop
+destination-in-requires c κs = headed c.requires.0 c.layout_of-l.ensures
 
-loop-holds : tie.Need-loop-init invariant-loop decreases-loop
-loop-holds c = let start = c.before.before.before.before in begins start.requires.0 start.requires.2 _ start.requires.1
+loop-holds : tie.Need-loop-station-init invariant-loop decreases-loop
+loop-holds c = begins c.requires.0 c.requires.2 _ c.requires.1
 
-add-end : tie.Need-overflow-add-end invariant-loop decreases-loop
+add-end : tie.Need-overflow_add-end invariant-loop decreases-loop
 add-end c =
-    let turn = c.before in
-    let start = begun (looped turn) in
-    omega (arith, fits start.pre.0 start.pre.2 (looped turn).loop.invariant (off turn))
+    let start = begun (looped c.before) in
+    omega (arith, fits start.requires.0 start.requires.2 (looped c.before).loop-station.invariant (off c.before))
 
-row-in-requires : tie.Need-row-in-requires invariant-loop decreases-loop
+row-in-requires : tie.Need-row_in-row-requires invariant-loop decreases-loop
 row-in-requires c κs =
-    let at = looped c.before.before in rowed (begun at).pre.0 _ at.loop.inv.inside at.before.before.layout_of.ensures
+    let at = looped c.before.before in rowed (begun at).requires.0 _ at.loop-station.invariant.inside at.layout_of-l.ensures
 
-cast-count : tie.Need-overflow-cast-count invariant-loop decreases-loop
-cast-count c = let at = looped c.before.before.before.before in omega (arith, few_slots (begun at).pre.0 _ at.loop.inv.inside)
+cast-count : tie.Need-overflow_cast-count invariant-loop decreases-loop
+cast-count c = let at = looped c.before.before.before.before in omega (arith, few_slots (begun at).requires.0 _ at.loop-station.invariant.inside)
 
-part-next-of-end : tie.Need-slice-bounds-next-of-end invariant-loop decreases-loop
+part-next-of-end : tie.Need-slice_bounds-next_of-end invariant-loop decreases-loop
 part-next-of-end c =
-    let turn = c.before.before.before.before.before.before.before in
-    let start = begun (looped turn) in
-    fits start.pre.0 start.pre.2 (looped turn).loop.invariant (off turn)
+    let start = begun (looped c.before.before.before.before.before.before) in
+    fits start.requires.0 start.requires.2 (looped c.before.before.before.before.before.before).loop-station.invariant (off c.before.before.before.before.before.before)
 
-next-of-requires : tie.Need-next-of-requires invariant-loop decreases-loop
+next-of-requires : tie.Need-next_of-requires invariant-loop decreases-loop
 next-of-requires c κs =
-    let turn = c.before.before.before.before.before.before.before.before in
-    let at = looped turn in
+    let at = looped c.before.before.before.before.before.before.before in
     let start = begun at in
-    link_slots start.pre.0 _ at.loop.inv.inside _ (part_long start.pre.0 start.pre.2 at.loop.inv (off turn))
+    link_slots start.requires.0 _ at.loop-station.invariant.inside _ (part_long start.requires.0 start.requires.2 at.loop-station.invariant (off c.before.before.before.before.before.before.before))
 
 -- what was found in the row of the station
-abbrev turned : tie.After-next-of invariant-loop decreases-loop → tie.Then1 invariant-loop decreases-loop
-turned c = c.before.before.before.before.before.before.before.before.before
+abbrev turned : tie.After-next_of invariant-loop decreases-loop → tie.In-loop-station invariant-loop decreases-loop
+turned c = c.before.before.before.before.before.before.before.before
 
-listed : (c : tie.After-next-of invariant-loop decreases-loop) → let at = looped (turned c) in
-    c.before.before.before.before.before.before.row_in.result.now ≡ places_in (begun at).args.table.now at.loop.station.0
-listed c = c.before.before.before.before.before.before.row_in.ensures
+listed : (c : tie.After-next_of invariant-loop decreases-loop) → let at = looped (turned c) in
+    c.row_in-row.result.now ≡ places_in (begun at).args.table.now at.loop-station.station.0
+listed c = c.row_in-row.ensures
 
-returns : tie.Need-returns invariant-loop decreases-loop
+returns : tie.Need-returns-in_default invariant-loop decreases-loop
 unfolding walk_says packet_in
 returns c =
-    let call : tie.After-next-of invariant-loop decreases-loop = c.before.before in
+    let call : tie.After-next_of invariant-loop decreases-loop = c.before in
     let at = looped (turned call) in
     let start = begun at in
     rw
-    (halts start.pre.0 start.pre.2 at.loop.inv (off (turned call))
-    (stops start.pre.0 _ at.loop.inv.inside _ _ (off (turned call)) _ (call.next_of.ensures ∙ ap (first_up _ _ _ _ _) (listed call)) c.enum_told.given.1))
+    (halts start.requires.0 start.requires.2 at.loop-station.invariant (off (turned call))
+    (stops start.requires.0 _ at.loop-station.invariant.inside _ _ (off (turned call)) _ (call.next_of.ensures ∙ ap (first_up _ _ _ _ _) (listed call)) c.in_default.is))
 
-add-hops : tie.Need-overflow-add-hops invariant-loop decreases-loop
+add-hops : tie.Need-overflow_add-hops invariant-loop decreases-loop
 add-hops c =
-    let at = looped (turned c.before.before.before) in omega (arith, few_routers (begun at).pre.0, at.loop.inv.ranked)
+    let at = looped (turned c.before) in omega (arith, few_routers (begun at).requires.0, at.loop-station.invariant.ranked)
 
-loop-less : tie.Need-loop-smaller invariant-loop decreases-loop
+loop-less : tie.Need-loop-station-smaller invariant-loop decreases-loop
 loop-less c =
-    let call : tie.After-next-of invariant-loop decreases-loop = c.before.before.before in
+    let call : tie.After-next_of invariant-loop decreases-loop = c.before in
     let at = looped (turned call) in
-    (goes (begun at).pre.0 _ at.loop.inv.inside _ at.loop.hops (off (turned call)) _ (call.next_of.ensures ∙ ap (first_up _ _ _ _ _) (listed call)) _ c.before.place.given.1).lower
+    (goes (begun at).requires.0 _ at.loop-station.invariant.inside _ at.loop-station.hops (off (turned call)) _ (call.next_of.ensures ∙ ap (first_up _ _ _ _ _) (listed call)) _ c.in-To.is).lower
 
-loop-again : tie.Need-loop-preserved invariant-loop decreases-loop
+loop-again : tie.Need-loop-station-preserved invariant-loop decreases-loop
 loop-again c =
-    let call : tie.After-next-of invariant-loop decreases-loop = c.before.before.before in
+    let call : tie.After-next_of invariant-loop decreases-loop = c.before in
     let at = looped (turned call) in
     let start = begun at in
-    goes_on start.pre.0 start.pre.2 at.loop.inv (off (turned call)) _
-    (goes start.pre.0 _ at.loop.inv.inside _ _ (off (turned call)) _ (call.next_of.ensures ∙ ap (first_up _ _ _ _ _) (listed call)) _ c.before.place.given.1)
+    goes_on start.requires.0 start.requires.2 at.loop-station.invariant (off (turned call)) _
+    (goes start.requires.0 _ at.loop-station.invariant.inside _ _ (off (turned call)) _ (call.next_of.ensures ∙ ap (first_up _ _ _ _ _) (listed call)) _ c.in-To.is)
 
-returns-2 : tie.Need-returns-2 invariant-loop decreases-loop
+returns-2 : tie.Need-returns invariant-loop decreases-loop
 unfolding walk_says packet_in
 returns-2 c =
-    let at = c.before.before.before in
-    let start = begun at in
-    rw (ends start.pre.0 start.pre.2 at.loop.invariant (c.if1.false ∙ at.before.destination-in.ensures))
+    let start = begun c.before.before.before in
+    rw (ends start.requires.0 start.requires.2 c.loop-station.invariant (c.loop-station-test.false ∙ c.destination_in-home.ensures))
 
 pub walk_by_spec : {M : Type 1} → statement M
 walk_by_spec =

@@ -23,41 +23,38 @@ use Rattle.forwarding_steps.proofs.unchecked.schedule.first_over.Tie as tie
 abbrev over : List ℕ → ℕ → Bool
 over states i = not (leb (get_or states i 0) 1)
 
-abbrev invariant-loop : tie.invariant-loop
+abbrev invariant-loop : tie.invariant-loop-i
 invariant-loop states i₀ i = (i ≤ length states) × ((k : ℕ) → k < i → over states k ≡ false)
 
-abbrev decreases-loop : tie.decreases-loop
+abbrev decreases-loop : tie.decreases-loop-i
 decreases-loop states i₀ i = length states - i
 
-returns : tie.Need-returns invariant-loop decreases-loop
+returns : tie.Need-returns-then-highest-le1 invariant-loop decreases-loop
 unfolding wrong_states first_or
 returns c =
-    let h = c.before in
-    let states = h.before.before.args.states.now in
-    rw (none_below (over states) (length states) (λ k l. rw (le-leb _ _ (le_trans (h.highest.ensures k l) c.if1.true))))
+    let states = c.args.states.now in
+    rw (none_below (over states) (length states) (λ k l. rw (le-leb _ _ (le_trans (c.highest.ensures k l) c.if-highest-le1.true))))
 
-loop-holds : tie.Need-loop-init invariant-loop decreases-loop
+loop-holds : tie.Need-loop-i-init invariant-loop decreases-loop
 loop-holds c = (omega arith, λ k h. absurd (omega arith))
 
-returns-2 : tie.Need-returns-2 invariant-loop decreases-loop
+returns-2 : tie.Need-returns-then-states-i-gt1 invariant-loop decreases-loop
 unfolding wrong_states
 returns-2 c =
-    let turn = c.before.before in
-    let at = turn.before.loop in
-    let states = turn.before.before.before.before.before.args.states.now in
-    sym (first_below (over states) (length states) at.i _ turn.loop-test.true at.invariant.1 (rw (lt-leb _ _ c.if2.true)))
+    let at = c.loop-i in
+    let states = c.args.states.now in
+    sym (first_below (over states) (length states) at.i _ c.loop-i-test.true at.invariant.1 (rw (lt-leb _ _ c.if-states-i-gt1.true)))
 
-loop-again : tie.Need-loop-preserved invariant-loop decreases-loop
+loop-again : tie.Need-loop-i-preserved invariant-loop decreases-loop
 loop-again c =
-    let turn = c.before.before in
-    let at = turn.before.loop in
-    (add-one-le turn.loop-test.true, below_more _ at.i at.invariant.1 (rw (le-leb _ _ c.if2.false)))
+    let at = c.loop-i in
+    (add-one-le c.loop-i-test.true, below_more _ at.i at.invariant.1 (rw (le-leb _ _ c.if-states-i-gt1.false)))
 
-returns-3 : tie.Need-returns-3 invariant-loop decreases-loop
+returns-3 : tie.Need-returns invariant-loop decreases-loop
 unfolding wrong_states first_or
 returns-3 c =
-    let at = c.before.loop in
-    let states = c.before.before.before.before.before.args.states.now in
+    let at = c.loop-i in
+    let states = c.args.states.now in
     let end : at.i ≡ length states = omega arith in
     rw (none_below (over states) (length states) (λ k h. at.invariant.1 k (omega arith))) end
 

@@ -10,27 +10,26 @@ use lib.ListN.{length, get_or}
 use Rattle.forwarding_steps.proofs.unchecked.schedule.highest.Statement.{statement}
 use Rattle.forwarding_steps.proofs.unchecked.schedule.highest.Tie as tie
 
-abbrev invariant-loop : tie.invariant-loop
+abbrev invariant-loop : tie.invariant-loop-i
 invariant-loop states most₀ i₀ most i = (i ≤ length states) × ((k : ℕ) → k < i → get_or states k 0 ≤ most)
 
-abbrev decreases-loop : tie.decreases-loop
+abbrev decreases-loop : tie.decreases-loop-i
 decreases-loop states most₀ i₀ most i = length states - i
 
-loop-holds : tie.Need-loop-init invariant-loop decreases-loop
+loop-holds : tie.Need-loop-i-init invariant-loop decreases-loop
 loop-holds c = (omega arith, λ k h. absurd (omega arith))
 
-loop-again : tie.Need-loop-preserved invariant-loop decreases-loop
+loop-again : tie.Need-loop-i-preserved invariant-loop decreases-loop
 loop-again c =
-    let at = c.before.before.before in
-    let states = at.before.args.states.now in
-    let next : (get_or states at.loop.i 0 ≤ c.if1.most) × (at.loop.most ≤ c.if1.most) =
-    ⊎_elim (λ w. (omega (arith, w.0.taken, w.2), omega (arith, w.0.taken, w.2))) (λ w. (omega (arith, w.0.left, w.1), omega (arith, w.1))) c.if1.branch in (
-      add-one-le c.before.before.loop-test.true,
-      below_more _ at.loop.i (λ k h. omega (arith, at.loop.invariant.1 k h, next.1)) next.0,
+    let states = c.args.states.now in
+    let next : (get_or states c.loop-i.i 0 ≤ c.if-most-states.most) × (c.loop-i.most ≤ c.if-most-states.most) =
+    ⊎_elim (λ w. (omega (arith, w.if-most-states.true, w.most-is), omega (arith, w.if-most-states.true, w.most-is))) (λ w. (omega (arith, w.if-most-states.false, w.most-is), omega (arith, w.most-is))) c.if-most-states.branch-raw in (
+      add-one-le c.loop-i-test.true,
+      below_more _ c.loop-i.i (λ k h. omega (arith, c.loop-i.invariant.1 k h, next.1)) next.0,
     )
 
 returns : tie.Need-returns invariant-loop decreases-loop
-returns c = λ i h. c.before.loop.invariant.1 i (omega arith)
+returns c = λ i h. c.loop-i.invariant.1 i (omega arith)
 
 pub highest_spec : {M : Type 1} → statement M
 highest_spec =

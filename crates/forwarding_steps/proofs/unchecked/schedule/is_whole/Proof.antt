@@ -17,10 +17,10 @@ use Rattle.forwarding_rules.proofs.Schedules.{counted, counts}
 use Rattle.forwarding_steps.proofs.unchecked.schedule.is_whole.Statement.{statement}
 use Rattle.forwarding_steps.proofs.unchecked.schedule.is_whole.Tie as tie
 
-abbrev invariant-loop : tie.invariant-loop
+abbrev invariant-loop : tie.invariant-loop-at
 invariant-loop n links bytes at₀ rows₀ at rows = (at ≡ rows * links) × (at ≤ bytes) × (rows ≤ at)
 
-abbrev decreases-loop : tie.decreases-loop
+abbrev decreases-loop : tie.decreases-loop-at
 decreases-loop n links bytes at₀ rows₀ at rows = bytes - at
 
 module _ (n links bytes : ℕ) where
@@ -51,33 +51,31 @@ module _ (n links bytes : ℕ) where
           let most : k ≤ rows = le_of_mul-le-mul_right {m = k} {n = rows} {k = links} (omega arith) some in
           few (omega arith)))
 
-returns : tie.Need-returns invariant-loop decreases-loop
-returns c = let args = c.before.args in empty args.n args.links args.bytes c.if1.true
+returns : tie.Need-returns-then-links-eq0 invariant-loop decreases-loop
+returns c = let args = c.args in empty args.n args.links args.bytes c.if-links-eq0.true
 
-loop-holds : tie.Need-loop-init invariant-loop decreases-loop
-loop-holds c = (sym (zero-mul c.before.args.links), omega arith, omega arith)
+loop-holds : tie.Need-loop-at-init invariant-loop decreases-loop
+loop-holds c = (sym (zero-mul c.args.links), omega arith, omega arith)
 
-returns-2 : tie.Need-returns-2 invariant-loop decreases-loop
+returns-2 : tie.Need-returns-then-bytes-at invariant-loop decreases-loop
 returns-2 c =
-    let at = c.before.before in
-    let args = at.before.before.args in
-    let rows = at.loop.rows in
+    let args = c.args in
+    let rows = c.loop-at.rows in
     sym (not_whole args.n args.links args.bytes
     (λ k e h.
     let more : rows < k = lt_of_mul-lt-mul_right args.links (omega arith) in
     let less : k < suc rows = lt_of_mul-lt-mul_right args.links (omega (arith, suc-mul rows args.links)) in
     omega arith))
 
-loop-again : tie.Need-loop-preserved invariant-loop decreases-loop
+loop-again : tie.Need-loop-at-preserved invariant-loop decreases-loop
 loop-again c =
-    let at = c.before.before in
-    let links = at.before.before.args.links in
-    (rw add-one (omega (arith, suc-mul at.loop.rows links)), omega arith, omega arith)
+    let links = c.args.links in
+    (rw add-one (omega (arith, suc-mul c.loop-at.rows links)), omega arith, omega arith)
 
-returns-3 : tie.Need-returns-3 invariant-loop decreases-loop
+returns-3 : tie.Need-returns invariant-loop decreases-loop
 returns-3 c =
-    let args = c.before.before.before.args in
-    enough args.n args.links args.bytes (omega arith) c.before.loop.rows (omega arith)
+    let args = c.args in
+    enough args.n args.links args.bytes (omega arith) c.loop-at.rows (omega arith)
 
 pub is_whole_spec : {M : Type 1} → statement M
 is_whole_spec =
