@@ -11,7 +11,7 @@ use table::unchecked::reading;
 use topology_types::{Place, Topology};
 
 // How many rows have two entries or more, and how many entries all have.
-#[derive(Drop)]
+#[derive(Clone, Copy)]
 pub(crate) struct Counts {
     pub two: usize,
     pub entries: usize,

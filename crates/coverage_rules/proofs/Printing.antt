@@ -17,7 +17,7 @@ use Rattle.coverage_rules.specs.Inner.{most_fraction, most_text}
 use Rattle.coverage_rules.specs.contracts.Coverage.{the_row}
 
 pub slots : (c : Coverage) (vs : List Val) → Is the_row c vs → length c.listed ≡ 64
-slots c vs p = rw length-map at p.1.1.1.1.1.1.1.0.1.0.1
+slots c vs p = p.1.1.1.1.1.1.1.0.1.0.1
 
 pub fraction_length : (end : ℕ) (f : Fraction) → length (fraction_text end f) ≤ most_fraction
 unfolding fraction_text spaced answer_text

@@ -129,9 +129,10 @@ in_order t good f =
     let links : (coverage t).links ≡ t.links = rw (is_counted t good) in
     let front : take (coverage t).destinations (coverage t).listed ≡ sums t good =
     rw (is_counted t good) (take_at (sums t good) _ t.routers (many t good)) in
-    rw (front, links)
+    rw front
     (ap (λ (l : List ℕ). f (record { part = (coverage t).covered; whole = (coverage t).pairs }) ++ l)
-    (joined_as f _ (λ n. f (record { part = n; whole = t.links })) (sums t good) (λ n m. refl)
+    (ap (λ (k : ℕ). joined_over f (over_links k (sums t good))) links
+    ∙ joined_as f _ (λ n. f (record { part = n; whole = t.links })) (sums t good) (λ n m. refl)
     ∙ joined_as _ (listed_for t) _ (below t.routers) (λ d m. rw (listed_at t good d (below_lt _ m)))))
 
 pub lines_right : FigureLinesRight

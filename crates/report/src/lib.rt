@@ -1,4 +1,6 @@
 // The listing (01, Two networks by hand): a line for each router, one destination at a time; and the coverage figures (02, #102).
+#![tactic(auto)]
+
 use topology_types::{Answer, Place, ROUTERS, Topology};
 
 mod printing;

@@ -1,2 +1,4 @@
 // The text of requests and answers, for the programs of this repository.
+#![tactic(auto)]
+
 pub mod unchecked;

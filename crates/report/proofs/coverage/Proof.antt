@@ -10,12 +10,12 @@ use borrow.Author.Rules.{rules}
 use Rattle.report.proofs.coverage.Statement.{statement}
 use Rattle.report.proofs.coverage.Tie as tie
 
-returns : tie.Need-returns
+returns : tie.Need-returns-then-not-is_sound
 unfolding coverage nothing_counted padded
-returns c = rw (sym c.before.is-sound.ensures ∙ not-true _ c.if1.true)
+returns c = rw (sym c.is_sound.ensures ∙ not-true _ c.if-not-is_sound.true-raw)
 
-good : (c : tie.Else1) → T (sound c.before.before.args.t)
-good c = rw (sym c.before.is-sound.ensures ∙ not-false _ c.if1.false) tt
+good : (c : tie.Else-not-is_sound) → T (sound c.args.t)
+good c = rw (sym c.is_sound.ensures ∙ not-false _ c.if-not-is_sound.false-raw) tt
 
 of-requires : tie.Need-of-requires
 of-requires c κs = good c

@@ -18,70 +18,68 @@ use borrow.Author.Rules.{rules}
 use Rattle.report.proofs.listing.Statement.{statement}
 use Rattle.report.proofs.listing.Tie as tie
 
-returns : tie.Need-returns
+returns : tie.Need-returns-then-refused-ne0
 unfolding listing turned_away
-returns c = on_place_refused _ _ _ c.before.before.refused-at.ensures _ _ c.if1.true
+returns c = on_place_refused _ _ _ c.refused_at-refused.ensures _ _ c.if-refused-ne0.true
 
 -- the topology is sound, and the destination is one of its places
-module _ (c : tie.Else1) where
+module _ (c : tie.Else-refused-ne0) where
   abbrev args : tie.Start
   args = c.before.before.before.before
 
   passed : T (sound args.args.t) × (args.args.destination.0 < args.args.t.routers)
-  passed = on_place_passed _ _ _ c.before.before.refused-at.ensures c.if1.false
+  passed = on_place_passed _ _ _ c.refused_at-refused.ensures c.if-refused-ne0.false
 
 of-requires : tie.Need-of-requires
 of-requires c κs = (passed c.before).0
 
-put-lines-requires : tie.Need-put-lines-requires
+put-lines-requires : tie.Need-put_lines-needed-requires
 put-lines-requires c κs =
     let (good, place) = passed c.before.before.before in
-    (good, c.before.of.ensures, place, omega (arith, c.before.before.room-for-lines.ensures))
+    (good, c.of.ensures, place, omega (arith, c.room_for_lines-lines.ensures))
 
 -- the lines that were put
-module _ (c : tie.After-put-lines) where
-  abbrev tested : tie.Else1
+module _ (c : tie.After-put_lines-needed) where
+  abbrev tested : tie.Else-refused-ne0
   tested = c.before.before.before.before
 
   abbrev its_lines : List ℕ
   its_lines = lines_for (args tested).args.t (args tested).args.destination.0
 
-  needed : length its_lines ≡ c.put-lines.result
-  needed = omega (arith, c.put-lines.ensures.after)
+  needed : length its_lines ≡ c.put_lines-needed.result
+  needed = omega (arith, c.put_lines-needed.ensures.after)
 
   few : length its_lines ≤ 3968
   few = lines_length (args tested).args.t (passed tested).0 _ (passed tested).1
 
-  room : length c.put-lines.new.1.1.1.0 ≡ 3968
-  room = put_length c.put-lines.ensures ∙ sym c.before.before.before.room-for-lines.ensures
+  room : length c.put_lines-needed.new.out ≡ 3968
+  room = put_length c.put_lines-needed.ensures ∙ sym c.room_for_lines-lines.ensures
 
-  front : take c.put-lines.result c.put-lines.new.1.1.1.0 ≡ its_lines
-  front = start _ its_lines _ _ c.put-lines.ensures.stored needed (omega (arith, needed, few, c.before.before.before.room-for-lines.ensures))
+  front : take c.put_lines-needed.result c.put_lines-needed.new.out ≡ its_lines
+  front = start _ its_lines _ _ c.put_lines-needed.ensures.stored needed (omega (arith, needed, few, c.room_for_lines-lines.ensures))
 
-returns-2 : tie.Need-returns-2
+returns-2 : tie.Need-returns-then-out-needed
 unfolding listing given turned_away
 returns-2 c =
-    let p = c.before.before in
-    let (good, place) = passed (tested p) in
-    rw (on_place_next, needed p, lt-ltb _ _ c.if2.true)
+    let (good, place) = passed (tested c.before.before) in
+    rw (on_place_next, needed c.before.before, lt-ltb _ _ c.if-out-needed.true)
 
-array-share-prefix-lines : tie.Need-array-share-prefix-lines
-array-share-prefix-lines c = let p = c.before.before.before in omega (arith, needed p, few p, room p)
+array-share-prefix-lines : tie.Need-slice_bounds-lines-end
+array-share-prefix-lines c = omega (arith, needed c.before.before.before, few c.before.before.before, room c.before.before.before)
 
-slice-aggregate-put : tie.Need-slice-aggregate-put
-slice-aggregate-put c = let p = c.before.before.before.before in sym (ap length (front p) ∙ needed p)
+slice-aggregate-put : tie.Need-slice_bounds-put-end
+slice-aggregate-put c = sym (ap length (front c.before.before.before.before) ∙ needed c.before.before.before.before)
 
 put-requires : tie.Need-put-requires
-put-requires c κs = let p = c.before.before.before.before in omega (arith, ap length (front p) ∙ needed p, c.before.before.if2.false)
+put-requires c κs = omega (arith, ap length (front c.before.before.before.before) ∙ needed c.before.before.before.before, c.if-out-needed.false)
 
-returns-3 : tie.Need-returns-3
+returns-3 : tie.Need-returns
 unfolding listing given
 returns-3 c =
-    let p = c.before.before.before.before.before.before.before in
-    let fits = c.before.before.before.before.before.if2.false in
-    let left = put_start (rw (front p) at c.before.before.put.ensures) (omega (arith, needed p, fits)) in
-    let (good, place) = passed (tested p) in
-    rw (on_place_next, left, needed p, le-ltb _ _ fits)
+    let fits = c.if-out-needed.false in
+    let left = put_start (rw (front c.before.before.before.before.before.before.before) at c.put.ensures) (omega (arith, needed c.before.before.before.before.before.before.before, fits)) in
+    let (good, place) = passed (tested c.before.before.before.before.before.before.before) in
+    rw (on_place_next, left, needed c.before.before.before.before.before.before.before, le-ltb _ _ fits)
 
 pub listing_spec : {M : Type 1} → statement M
 listing_spec =

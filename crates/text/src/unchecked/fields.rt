@@ -8,7 +8,7 @@ ghost use Rattle.text.specs.Numbers.{decimal, numeral};
 ghost use Rattle.text.specs.Numbers as numbers;
 
 // What a field holds, a number or a count of bytes; or that it holds neither.
-#[derive(Drop)]
+#[derive(Clone, Copy)]
 pub enum Value {
     Is(usize),
     Wrong,
@@ -113,6 +113,7 @@ fn all_decimal(s: &[u8]) -> bool
 }
 
 // Digits alone, with no zeros in front other than 0 itself.
+#[tactic(auto, using(crate::proofs::Numbers::not_plain, crate::proofs::Numbers::if_plain, crate::proofs::Numbers::plain_empty, crate::proofs::Numbers::plain_zero, crate::proofs::Numbers::plain_one, crate::proofs::Numbers::plain_more))]
 fn is_numeral(s: &[u8]) -> bool
     ensures { result ≡ numeral s.now }
 {

@@ -17,24 +17,24 @@ use Rattle.coverage_rules.proofs.Counting.{total_more, total_most}
 use Rattle.coverage_counts.proofs.tables.tally.Statement.{statement}
 use Rattle.coverage_counts.proofs.tables.tally.Tie as tie
 
-abbrev invariant-loop : tie.invariant-loop
+abbrev invariant-loop : tie.invariant-loop-u
 invariant-loop table n l two₀ entries₀ u₀ two entries u = (u ≤ n) × (two ≡ two_in table u) × (entries ≡ all_in table u)
 
-abbrev decreases-loop : tie.decreases-loop
+abbrev decreases-loop : tie.decreases-loop-u
 decreases-loop table n l two₀ entries₀ u₀ two entries u = n - u
 
-loop-holds : tie.Need-loop-init invariant-loop decreases-loop
+loop-holds : tie.Need-loop-u-init invariant-loop decreases-loop
 unfolding two_in all_in total below numbers_from keep
 loop-holds c = (omega arith, refl, refl)
 
-row-in-requires : tie.Need-row-in-requires invariant-loop decreases-loop
+row-in-requires : tie.Need-row_in-count-requires invariant-loop decreases-loop
 row-in-requires c κs =
-    let row = c.before.before.before.before.requires.row _ c.loop-test.true in
-    (c.before.before.layout_of.ensures, row.stands, row.few)
+    let row = c.requires.row _ c.loop-u-test.true in
+    (c.layout_of-l.ensures, row.stands, row.few)
 
 -- the row of a turn, and what was counted before
-module _ (c : tie.After-row-in invariant-loop decreases-loop) where
-  abbrev at : tie.At-loop invariant-loop decreases-loop
+module _ (c : tie.After-row_in-count invariant-loop decreases-loop) where
+  abbrev at : tie.At-loop-u invariant-loop decreases-loop
   at = c.before.before
 
   abbrev start : tie.Start invariant-loop decreases-loop
@@ -43,45 +43,45 @@ module _ (c : tie.After-row-in invariant-loop decreases-loop) where
   abbrev table : List ℕ
   table = start.args.table.now
 
-  count_is : length c.row_in.result.now ≡ listed_at table at.loop.u
-  count_is = ap length c.row_in.ensures
+  count_is : length c.row_in-count.result.now ≡ listed_at table at.loop-u.u
+  count_is = ap length c.row_in-count.ensures
 
-  turn : (at.loop.u < start.args.n) × (start.args.n ≤ 64)
-      × (length c.row_in.result.now ≤ 16) × (at.loop.two ≤ at.loop.u) × (at.loop.entries ≤ 16 * at.loop.u)
+  turn : (at.loop-u.u < start.args.n) × (start.args.n ≤ 64)
+      × (length c.row_in-count.result.now ≤ 16) × (at.loop-u.two ≤ at.loop-u.u) × (at.loop-u.entries ≤ 16 * at.loop-u.u)
   unfolding two_in all_in
   turn =
-      let h = c.before.loop-test.true in
-      let few : (v : ℕ) → v < start.args.n → listed_at table v ≤ 16 = λ v k. (entries_fit (start.pre.row v k)).few in
-      let i = at.loop.inv in (
+      let h = c.loop-u-test.true in
+      let few : (v : ℕ) → v < start.args.n → listed_at table v ≤ 16 = λ v k. (entries_fit (start.requires.row v k)).few in
+      let i = at.loop-u.invariant in (
         h,
-        start.pre.routers,
-        omega (arith, count_is, few at.loop.u h),
-        omega (arith, i.1, count_most (λ v. leb 2 (listed_at table v)) at.loop.u),
-        omega (arith, i.2, total_most (listed_at table) 16 at.loop.u (λ v k. few v (omega arith))),
+        start.requires.routers,
+        omega (arith, count_is, few at.loop-u.u h),
+        omega (arith, i.1, count_most (λ v. leb 2 (listed_at table v)) at.loop-u.u),
+        omega (arith, i.2, total_most (listed_at table) 16 at.loop-u.u (λ v k. few v (omega arith))),
       )
 
-  more_entries : at.loop.entries + length c.row_in.result.now ≡ all_in table (at.loop.u + 1)
+  more_entries : at.loop-u.entries + length c.row_in-count.result.now ≡ all_in table (at.loop-u.u + 1)
   unfolding all_in
-  more_entries = omega (arith, count_is, at.loop.inv.2, total_more (listed_at table) at.loop.u)
+  more_entries = omega (arith, count_is, at.loop-u.invariant.2, total_more (listed_at table) at.loop-u.u)
 
-  one_more : 2 ≤ length c.row_in.result.now → at.loop.two + 1 ≡ two_in table (at.loop.u + 1)
+  one_more : 2 ≤ length c.row_in-count.result.now → at.loop-u.two + 1 ≡ two_in table (at.loop-u.u + 1)
   unfolding two_in
-  one_more h = omega (arith, at.loop.inv.1, count_one (λ v. leb 2 (listed_at table v)) at.loop.u (le-leb 2 (listed_at table at.loop.u) (omega (arith, count_is))))
+  one_more h = omega (arith, at.loop-u.invariant.1, count_one (λ v. leb 2 (listed_at table v)) at.loop-u.u (le-leb 2 (listed_at table at.loop-u.u) (omega (arith, count_is))))
 
-  none_more : length c.row_in.result.now < 2 → at.loop.two ≡ two_in table (at.loop.u + 1)
+  none_more : length c.row_in-count.result.now < 2 → at.loop-u.two ≡ two_in table (at.loop-u.u + 1)
   unfolding two_in
-  none_more h = omega (arith, at.loop.inv.1, count_same (λ v. leb 2 (listed_at table v)) at.loop.u (lt-leb 2 (listed_at table at.loop.u) (omega (arith, count_is))))
+  none_more h = omega (arith, at.loop-u.invariant.1, count_same (λ v. leb 2 (listed_at table v)) at.loop-u.u (lt-leb 2 (listed_at table at.loop-u.u) (omega (arith, count_is))))
 
-loop-again : tie.Need-loop-preserved invariant-loop decreases-loop
-loop-again c = (omega (arith, turn c.before), one_more c.before c.if1.true, more_entries c.before)
+loop-again : tie.Need-loop-u-preserved-then-count-ge2 invariant-loop decreases-loop
+loop-again c = (omega (arith, turn c.before), one_more c.before c.if-count-ge2.true, more_entries c.before)
 
-loop-again-2 : tie.Need-loop-preserved-2 invariant-loop decreases-loop
-loop-again-2 c = (omega (arith, turn c.before), none_more c.before c.if1.false, more_entries c.before)
+loop-again-2 : tie.Need-loop-u-preserved invariant-loop decreases-loop
+loop-again-2 c = (omega (arith, turn c.before), none_more c.before c.if-count-ge2.false, more_entries c.before)
 
 returns : tie.Need-returns invariant-loop decreases-loop
 returns c =
-    let at = c.before.loop in
-    let all : at.u ≡ c.before.before.before.before.args.n = omega (arith, c.loop-test.false, at.invariant.0) in
+    let at = c.loop-u in
+    let all : at.u ≡ c.args.n = omega (arith, c.loop-u-test.false, at.invariant.0) in
     rw (← all) (at.invariant.1, at.invariant.2)
 
 pub tally_spec : {M : Type 1} → statement M

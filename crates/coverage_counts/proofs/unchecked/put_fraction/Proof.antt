@@ -11,15 +11,15 @@ use Rattle.coverage_rules.specs.Printed.{fraction_text}
 use Rattle.coverage_counts.proofs.unchecked.put_fraction.Statement.{statement}
 use Rattle.coverage_counts.proofs.unchecked.put_fraction.Tie as tie
 
-slice-write-out : tie.Need-slice-write-out
-slice-write-out c = omega (arith, ended c.before.before.put-pair.ensures (answer_length _ _))
+slice-write-out : tie.Need-bounds-out-end
+slice-write-out c = omega (arith, ended c.put_pair-end.ensures (answer_length _ _))
 
-add-result : tie.Need-overflow-add-result
-add-result c = omega (arith, ended c.before.before.put-pair.ensures (answer_length _ _))
+add-result : tie.Need-overflow_add-result
+add-result c = omega (arith, ended c.put_pair-end.ensures (answer_length _ _))
 
 returns : tie.Need-returns
 unfolding fraction_text spaced answer_text
-returns c = behind c.before.before.put-pair.ensures (put_byte _ _ _)
+returns c = behind c.put_pair-end.ensures (put_byte _ _ _)
 
 pub put_fraction_spec : {M : Type 1} → statement M
 put_fraction_spec =

@@ -11,11 +11,11 @@ use Rattle.paths_lines.proofs.printing.put_front.Statement.{statement}
 use Rattle.paths_lines.proofs.printing.put_front.Tie as tie
 
 put-requires : tie.Need-put-requires
-put-requires c κs = omega (arith, ended c.before.before.before.before.put-pair.ensures (answer_length _ _))
+put-requires c κs = omega (arith, ended c.put_pair-end.ensures (answer_length _ _))
 
 returns : tie.Need-returns
 unfolding start_text colon
-returns c = let put = c.before.before in behind put.before.before.before.before.before.put-pair.ensures put.put.ensures
+returns c = behind c.put_pair-end.ensures c.put.ensures
 
 pub put_front_spec : {M : Type 1} → statement M
 put_front_spec =
@@ -24,7 +24,6 @@ put_front_spec =
     (λ c. search rules)
     (λ c. search rules)
     (λ c κs. search rules)
-    (λ c. search rules)
     put-requires
     (λ c. search rules)
     returns)

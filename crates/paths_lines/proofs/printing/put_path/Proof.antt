@@ -16,65 +16,64 @@ use Rattle.paths_lines.proofs.printing.put_path.Statement.{statement}
 use Rattle.paths_lines.proofs.printing.put_path.Tie as tie
 
 -- the places that were found
-module _ (c : tie.After-width) where
-  abbrev front : tie.After-put-front
+module _ (c : tie.After-width-places) where
+  abbrev front : tie.After-put_front-middle
   front = c.before.before.before
 
   abbrev start : tie.Start
   start = front.before.before.before.before
 
-  places : take c.width.result start.args.path.now ≡ places_of start.args.path.now
+  places : take c.width-places.result start.args.path.now ≡ places_of start.args.path.now
   unfolding places_of
-  places = ap (λ (n : ℕ). take n start.args.path.now) c.width.ensures ∙ take_before 255 start.args.path.now
+  places = ap (λ (n : ℕ). take n start.args.path.now) c.width-places.ensures ∙ take_before 255 start.args.path.now
 
   few : length (places_of start.args.path.now) ≤ 64
   unfolding places_of
-  few = omega (arith, before_length 255 start.args.path.now, start.pre.2)
+  few = omega (arith, before_length 255 start.args.path.now, start.requires.2)
 
-slice-aggregate-put-fields : tie.Need-slice-aggregate-put-fields
+slice-aggregate-put-fields : tie.Need-slice_bounds-put_fields-end
 unfolding places_of
-slice-aggregate-put-fields c = let w = c.before.before in w.width.ensures ∙ sym (ap length (places w))
+slice-aggregate-put-fields c = c.width-places.ensures ∙ sym (ap length (places c.before))
 
-put-fields-requires : tie.Need-put-fields-requires
+put-fields-requires : tie.Need-put_fields-end-requires
 put-fields-requires c κs =
-    let w = c.before.before in
-    let pre = (start w).requires in
-    let put = ended (front w).put_front.ensures (front-length _ _ pre.0 pre.1) in
-    (rw (places w) pre.3, omega (arith, few w, put, ap length (places w), pre.4))
+    let pre = (start c.before).requires in
+    let put = ended (front c.before).put_front-middle.ensures (front-length _ _ pre.0 pre.1) in
+    (rw (places c.before) pre.3, omega (arith, few c.before, put, ap length (places c.before), pre.4))
 
 -- the front and the places end before the line's room does
-module _ (c : tie.After-slice-known3) where
-  abbrev put : tie.After-put-fields
+module _ (c : tie.After-slice_known-3-1) where
+  abbrev put : tie.After-put_fields-end
   put = c.before.before
 
-  abbrev found : tie.After-width
-  found = put.before.before.before
+  abbrev found : tie.After-width-places
+  found = put.before.before
 
-  within : put.put-fields.result < length put.put-fields.last.0
+  within : put.put_fields-end.result < length put.put_fields-end.new.out
   within =
-      let pre = (start found).pre in
-      let fields = rw (places found) at put.put-fields.ensures in
+      let pre = (start found).requires in
+      let fields = rw (places found) at put.put_fields-end.ensures in
       omega (
         arith,
-        ended (front found).put_front.ensures (front-length _ _ pre.0 pre.1),
+        ended (front found).put_front-middle.ensures (front-length _ _ pre.0 pre.1),
         ended fields (fields_length (places_of (start found).args.path.now) pre.3),
         few found,
         pre.4,
       )
 
-  same : length put.put-fields.last.0 ≡ length (start found).args.out.now
-  same = put_length put.put-fields.ensures ∙ put_length (front found).put_front.ensures
+  same : length put.put_fields-end.new.out ≡ length (start found).args.out.now
+  same = put_length put.put_fields-end.ensures ∙ put_length (front found).put_front-middle.ensures
 
-add-result : tie.Need-overflow-add-result
+add-result : tie.Need-overflow_add-result
 add-result c = omega (arith, within c, same c)
 
-same_length : tie.Need-same-length
+same_length : tie.Need-shape_of-out
 same_length c = simp length-set (same c)
 
 returns : tie.Need-returns
 returns c =
     rw (path_fields, ← places (found c))
-    (behind (front (found c)).put_front.ensures (behind (put c).put-fields.ensures (put_byte _ _ newline)))
+    (behind (front (found c)).put_front-middle.ensures (behind (put c).put_fields-end.ensures (put_byte _ _ newline)))
 
 pub put_path_spec : {M : Type 1} → statement M
 put_path_spec =

@@ -10,14 +10,13 @@ use Rattle.paths_lines.proofs.printing.put_too_many.Statement.{statement}
 use Rattle.paths_lines.proofs.printing.put_too_many.Tie as tie
 
 put-requires : tie.Need-put-requires
-put-requires c κs = omega (arith, ended c.before.before.before.before.put_front.ensures (front_most _ _))
+put-requires c κs = omega (arith, ended c.put_front-end.ensures (front_most _ _))
 
 returns : tie.Need-returns
 unfolding too_many
 returns c =
-    let put = c.before.before in
-    rw (too_many_fields _ _) (behind put.before.before.before.before.before.put_front.ensures put.put.ensures)
+    rw (too_many_fields _ _) (behind c.put_front-end.ensures c.put.ensures)
 
 pub put_too_many_spec : {M : Type 1} → statement M
 put_too_many_spec =
-    tie.close (tie.spec (λ c κs. search rules) (λ c. search rules) put-requires (λ c. search rules) returns)
+    tie.close (tie.spec (λ c κs. search rules) put-requires (λ c. search rules) returns)

@@ -17,81 +17,79 @@ use Rattle.listing_rules.proofs.Tables.{entries_fit}
 use Rattle.report.proofs.printing.put_table.Statement.{statement}
 use Rattle.report.proofs.printing.put_table.Tie as tie
 
-abbrev invariant-loop : tie.invariant-loop
+abbrev invariant-loop : tie.invariant-loop-u
 invariant-loop out₀ at table hops n destination l end₀ u₀ out end u =
     (u ≤ n) × SoFar (line_in table hops destination.0) most_listing_line out₀ at (below u) u end out
 
-abbrev decreases-loop : tie.decreases-loop
+abbrev decreases-loop : tie.decreases-loop-u
 decreases-loop out₀ at table hops n destination l end₀ u₀ out end u = n - u
 
-loop-holds : tie.Need-loop-init invariant-loop decreases-loop
+loop-holds : tie.Need-loop-u-init invariant-loop decreases-loop
 unfolding below numbers_from
 loop-holds c = (omega arith, none (line_in _ _ _) most_listing_line)
 
 -- the row of a turn stands in the table
-module _ (c : tie.In-loop invariant-loop decreases-loop) where
+module _ (c : tie.In-loop-u invariant-loop decreases-loop) where
   abbrev start : tie.Start invariant-loop decreases-loop
   start = c.before.before.before.before.before.before
 
-  turn : (c.before.loop.u < start.args.n) × (start.args.n ≤ 64)
-  turn = (c.loop-test.true, start.pre.0.routers)
+  turn : (c.loop-u.u < start.args.n) × (start.args.n ≤ 64)
+  turn = (c.loop-u-test.true, start.requires.0.routers)
 
-  row : RowOf start.args.table.now c.before.loop.u
-  row = start.pre.0.row _ c.loop-test.true
+  row : RowOf start.args.table.now c.loop-u.u
+  row = start.requires.0.row _ c.loop-u-test.true
 
   -- its line's fields
   abbrev front : Front
   front =
-      front_of_lem start.args.destination.0 c.before.loop.u (rank_in_lem start.args.table.now c.before.loop.u)
-      (get_or start.args.hops.now c.before.loop.u 0)
+      front_of_lem start.args.destination.0 c.loop-u.u (rank_in_lem start.args.table.now c.loop-u.u)
+      (get_or start.args.hops.now c.loop-u.u 0)
 
   small : Small front
   small =
-      let l = start.pre.0 in
-      let h = c.loop-test.true in
+      let l = start.requires.0 in
+      let h = c.loop-u-test.true in
       record {
         destination = omega (arith, l.destination, l.routers);
         router = omega (arith, h, l.routers);
         rank = l.rank _ h;
-        hops = l.hop-count _ h;
+        hops = l.hop_count _ h;
       }
 
-front-of-requires : tie.Need-front-of-requires invariant-loop decreases-loop
+front-of-requires : tie.Need-front_of-front-requires invariant-loop decreases-loop
 front-of-requires c κs =
-    (c.before.before.layout_of.ensures, (row c).stands, omega (arith, turn c, (start c).requires.0.counted))
+    (c.layout_of-l.ensures, (row c).stands, omega (arith, turn c, (start c).requires.0.counted))
 
-row-in-requires : tie.Need-row-in-requires invariant-loop decreases-loop
+row-in-requires : tie.Need-row_in-requires invariant-loop decreases-loop
 row-in-requires c κs =
-    let i = c.before.before in (i.before.before.layout_of.ensures, (row i).stands, (row i).few)
+    (c.layout_of-l.ensures, (row c.before.before).stands, (row c.before.before).few)
 
-put-line-requires : tie.Need-put-line-requires invariant-loop decreases-loop
+put-line-requires : tie.Need-put_line-end-requires invariant-loop decreases-loop
 put-line-requires c κs =
-    let i = c.before.before.before in
-    let at = i.before.loop.invariant.1 in (
-      rw c.before.before.front_of.ensures (small i),
-      rw c.row_in.ensures (entries_fit (row i)),
-      omega (arith, at.ends, at.long, (start i).requires.1, i.loop-test.true),
+    let at = c.loop-u.invariant.1 in (
+      rw c.front_of-front.ensures (small c.before.before.before),
+      rw c.row_in.ensures (entries_fit (row c.before.before.before)),
+      omega (arith, at.ends, at.long, (start c.before.before.before).requires.1, c.loop-u-test.true),
     )
 
 -- a line more
-loop-again : tie.Need-loop-preserved invariant-loop decreases-loop
+loop-again : tie.Need-loop-u-preserved invariant-loop decreases-loop
 unfolding line_in front_line
 loop-again c =
-    let read : tie.After-row-in invariant-loop decreases-loop = c.before.before.before in
-    let i = read.before.before.before in
-    let u = i.before.loop.u in
-    let args = (start i).args in
-    let few = line_length (front i) (places_in args.table.now u) (small i) (entries_fit (row i)) in (
-      omega (arith, turn i),
-      more (line_in args.table.now args.hops.now args.destination.0) most_listing_line i.before.loop.invariant.1 u few
-          (rw (read.before.before.front_of.ensures, read.row_in.ensures) at c.before.before.put-line.ensures) (below_more u),
+    let read : tie.After-row_in invariant-loop decreases-loop = c.before.before.before in
+    let u = read.loop-u.u in
+    let args = (start read.before.before.before).args in
+    let few = line_length (front read.before.before.before) (places_in args.table.now u) (small read.before.before.before) (entries_fit (row read.before.before.before)) in (
+      omega (arith, turn read.before.before.before),
+      more (line_in args.table.now args.hops.now args.destination.0) most_listing_line read.loop-u.invariant.1 u few
+          (rw (read.front_of-front.ensures, read.row_in.ensures) at c.put_line-end.ensures) (below_more u),
     )
 
 returns : tie.Need-returns invariant-loop decreases-loop
 unfolding table_text
 returns c =
-    let all : c.before.loop.u ≡ c.before.before.before.before.before.before.args.n = omega (arith, c.loop-test.false, c.before.loop.invariant.0) in
-    rw (← all) c.before.loop.invariant.1.put
+    let all : c.loop-u.u ≡ c.args.n = omega (arith, c.loop-u-test.false, c.loop-u.invariant.0) in
+    rw (← all) c.loop-u.invariant.1.put
 
 pub put_table_spec : {M : Type 1} → statement M
 put_table_spec =
@@ -107,5 +105,5 @@ put_table_spec =
     (λ c. omega (arith, turn c.before.before.before.before.before.before))
     (λ c. omega (arith, turn c.before.before.before.before.before.before))
     loop-again
-    (λ c. c.before.loop.invariant.1.long)
+    (λ c. c.loop-u.invariant.1.long)
     returns)

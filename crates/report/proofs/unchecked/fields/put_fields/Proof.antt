@@ -12,40 +12,37 @@ use Rattle.listing_rules.proofs.Fields.{field_length}
 use Rattle.report.proofs.unchecked.fields.put_fields.Statement.{statement}
 use Rattle.report.proofs.unchecked.fields.put_fields.Tie as tie
 
-abbrev invariant-loop : tie.invariant-loop
+abbrev invariant-loop : tie.invariant-loop-i
 invariant-loop out₀ at numbers end₀ i₀ out end i = (i ≤ length numbers) × SoFar spaced_number 3 out₀ at (take i numbers) i end out
 
-abbrev decreases-loop : tie.decreases-loop
+abbrev decreases-loop : tie.decreases-loop-i
 decreases-loop out₀ at numbers end₀ i₀ out end i = length numbers - i
 
-loop-holds : tie.Need-loop-init invariant-loop decreases-loop
+loop-holds : tie.Need-loop-i-init invariant-loop decreases-loop
 loop-holds c = (omega arith, none spaced_number 3)
 
-put-place-requires : tie.Need-put-place-requires invariant-loop decreases-loop
+put-place-requires : tie.Need-put_place-end-requires invariant-loop decreases-loop
 put-place-requires c κs =
-    let at = c.before.before.before in
-    (at.before.before.before.requires.0 at.loop.i c.before.before.loop-test.true, omega arith)
+    (c.requires.0 c.loop-i.i c.loop-i-test.true, omega arith)
 
-loop-again : tie.Need-loop-preserved invariant-loop decreases-loop
+loop-again : tie.Need-loop-i-preserved invariant-loop decreases-loop
 loop-again c =
-    let in-loop = c.before.before.before.before.before in
-    let at = in-loop.before.loop in
-    let s = in-loop.before.before.before.before in
-    let numbers = s.args.numbers.now in
-    let h : at.i < length numbers = in-loop.loop-test.true in (
+    let at = c.loop-i in
+    let numbers = c.args.numbers.now in
+    let h : at.i < length numbers = c.loop-i-test.true in (
       omega arith,
-      more spaced_number 3 at.invariant.1 (get_or numbers at.i 0) (field_length _ (s.requires.0 at.i h)) c.before.before.put-place.ensures
+      more spaced_number 3 at.invariant.1 (get_or numbers at.i 0) (field_length _ (c.requires.0 at.i h)) c.put_place-end.ensures
           (rw add-one (take-suc numbers at.i 0 h)),
     )
 
-same_length : tie.Need-same-length invariant-loop decreases-loop
-same_length c = c.before.loop.invariant.1.long
+same_length : tie.Need-shape_of-out invariant-loop decreases-loop
+same_length c = c.loop-i.invariant.1.long
 
 returns : tie.Need-returns invariant-loop decreases-loop
 unfolding fields_text
 returns c =
-    let at = c.before.loop in
-    let all : take at.i _ ≡ _ = take_all at.i c.before.before.before.before.args.numbers.now (omega (arith, c.loop-test.false)) in
+    let at = c.loop-i in
+    let all : take at.i _ ≡ _ = take_all at.i c.args.numbers.now (omega (arith, c.loop-i-test.false)) in
     rw all at at.invariant.1.put
 
 pub put_fields_spec : {M : Type 1} → statement M

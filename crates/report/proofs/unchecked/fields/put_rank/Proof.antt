@@ -12,26 +12,26 @@ use Rattle.report.proofs.unchecked.fields.put_rank.Statement.{statement}
 use Rattle.report.proofs.unchecked.fields.put_rank.Tie as tie
 
 -- the front digits end before the room does
-module _ (c : tie.After-slice-known3) where
+module _ (c : tie.After-slice_known-2-1) where
   abbrev start : tie.Start
   start = c.before.before.before.before.before.before
 
-  within : (c.before.before.put-field2.result < length c.before.before.put-field2.new.0) × (length c.before.before.put-field2.new.0 ≡ length start.args.out.now)
+  within : (c.put_field-end.result < length c.put_field-end.new.out) × (length c.put_field-end.new.out ≡ length start.args.out.now)
   within =
       let n = start.args.rank.0 in
-      let e = ended c.before.before.put-field2.ensures (field_length (n / 10) (omega arith)) in
+      let e = ended c.put_field-end.ensures (field_length (n / 10) (omega arith)) in
       (omega (arith, e), e.1)
 
-slice-write-out : tie.Need-slice-write-out
+slice-write-out : tie.Need-bounds-out-end
 slice-write-out c = (within c).0
 
-add-result : tie.Need-overflow-add-result
+add-result : tie.Need-overflow_add-result
 add-result c = omega (arith, within c)
 
-returns-2 : tie.Need-returns-2
+returns-2 : tie.Need-returns
 returns-2 c =
     let n = (start c).args.rank.0 in
-    rw (byte_digits n (omega arith) (omega arith)) (behind c.before.before.put-field2.ensures (put_byte _ _ (48 + n % 10)))
+    rw (byte_digits n (omega arith) (omega arith)) (behind c.put_field-end.ensures (put_byte _ _ (48 + n % 10)))
 
 pub put_rank_spec : {M : Type 1} → statement M
 put_rank_spec =

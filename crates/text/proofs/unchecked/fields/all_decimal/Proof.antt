@@ -11,32 +11,32 @@ use Rattle.text.proofs.Scan.{Left, next, end}
 use Rattle.text.proofs.unchecked.fields.all_decimal.Statement.{statement}
 use Rattle.text.proofs.unchecked.fields.all_decimal.Tie as tie
 
-abbrev invariant-loop : tie.invariant-loop
+abbrev invariant-loop : tie.invariant-loop-i
 invariant-loop s i₀ i = Left (every decimal) s i (every decimal s)
 
-abbrev decreases-loop : tie.decreases-loop
+abbrev decreases-loop : tie.decreases-loop-i
 decreases-loop s i₀ i = length s - i
 
-loop-holds : tie.Need-loop-init invariant-loop decreases-loop
+loop-holds : tie.Need-loop-i-init invariant-loop decreases-loop
 loop-holds c = record { inside = omega arith; makes = refl }
 
-returns : tie.Need-returns invariant-loop decreases-loop
+returns : tie.Need-returns-then-s-i-lt48 invariant-loop decreases-loop
 unfolding every
-returns c = rw (below_digits _ c.if1.true) at (next c.before.before.before.loop.invariant (omega arith))
+returns c = rw (below_digits _ c.if-s-i-lt48.true) at (next c.loop-i.invariant (omega arith))
 
-returns-2 : tie.Need-returns-2 invariant-loop decreases-loop
+returns-2 : tie.Need-returns-then-s-i-gt57 invariant-loop decreases-loop
 unfolding every
-returns-2 c = rw (above_digits _ c.if2.true) at (next c.before.before.before.before.before.loop.invariant (omega arith))
+returns-2 c = rw (above_digits _ c.if-s-i-gt57.true) at (next c.loop-i.invariant (omega arith))
 
-loop-again : tie.Need-loop-preserved invariant-loop decreases-loop
+loop-again : tie.Need-loop-i-preserved invariant-loop decreases-loop
 unfolding every
 loop-again c =
-    let digit = among_digits _ c.before.before.if1.false c.if2.false in
-    record { inside = omega arith; makes = rw digit at (next c.before.before.before.before.before.loop.invariant (omega arith)) }
+    let digit = among_digits _ c.if-s-i-lt48.false c.if-s-i-gt57.false in
+    record { inside = omega arith; makes = rw digit at (next c.loop-i.invariant (omega arith)) }
 
-returns-3 : tie.Need-returns-3 invariant-loop decreases-loop
+returns-3 : tie.Need-returns invariant-loop decreases-loop
 unfolding every
-returns-3 c = end c.before.loop.invariant (omega arith)
+returns-3 c = end c.loop-i.invariant (omega arith)
 
 pub all_decimal_spec : {M : Type 1} → statement M
 all_decimal_spec =

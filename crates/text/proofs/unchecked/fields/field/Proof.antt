@@ -8,7 +8,7 @@ use Rattle.text.proofs.unchecked.fields.field.Tie as tie
 
 returns : tie.Need-returns
 unfolding field
-returns c = cc (take_before space c.before.before.after.result.now)
+returns c = cc (take_before space c.after-rest.result.now)
 
 pub field_spec : {M : Type 1} → statement M
-field_spec = tie.close (tie.spec (λ c κs. search rules) (λ c κs. search rules) (λ c. cc (take_before space c.before.before.after.result.now)) returns)
+field_spec = tie.close (tie.spec (λ c κs. search rules) (λ c κs. search rules) (λ c. cc (take_before space c.after-rest.result.now)) returns)

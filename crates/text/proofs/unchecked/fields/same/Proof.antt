@@ -10,42 +10,42 @@ use Rattle.text.proofs.Scan.{rest, no_rest, same_length, Left, next, end}
 use Rattle.text.proofs.unchecked.fields.same.Statement.{statement}
 use Rattle.text.proofs.unchecked.fields.same.Tie as tie
 
-abbrev invariant-loop : tie.invariant-loop
+abbrev invariant-loop : tie.invariant-loop-i
 invariant-loop a b i₀ i = (length a ≡ length b) × Left (λ left. same_numbers left (drop i b)) a i (same_numbers a b)
 
-abbrev decreases-loop : tie.decreases-loop
+abbrev decreases-loop : tie.decreases-loop-i
 decreases-loop a b i₀ i = length a - i
 
-returns : tie.Need-returns invariant-loop decreases-loop
-returns c = sym (same_length _ _ c.if1.true)
+returns : tie.Need-returns-then-a-b invariant-loop decreases-loop
+returns c = sym (same_length _ _ c.if-a-b.true)
 
-loop-holds : tie.Need-loop-init invariant-loop decreases-loop
-loop-holds c = (c.if1.false, record { inside = omega arith; makes = refl })
+loop-holds : tie.Need-loop-i-init invariant-loop decreases-loop
+loop-holds c = (c.if-a-b.false, record { inside = omega arith; makes = refl })
 
-returns-2 : tie.Need-returns-2 invariant-loop decreases-loop
+returns-2 : tie.Need-returns-then-a-i invariant-loop decreases-loop
 unfolding same_numbers
 returns-2 c =
-    let b = c.before.before.before.before.before.before.args.b.now in
-    let l = c.before.before.before.before.loop in
-    rw (rest b l.i (omega arith), ne_eqb _ _ c.if2.true) at (next l.invariant.1 (omega arith))
+    let b = c.args.b.now in
+    let l = c.loop-i in
+    rw (rest b l.i (omega arith), ne_eqb _ _ c.if-a-i.true) at (next l.invariant.1 (omega arith))
 
-loop-again : tie.Need-loop-preserved invariant-loop decreases-loop
+loop-again : tie.Need-loop-i-preserved invariant-loop decreases-loop
 unfolding same_numbers
 loop-again c =
-    let b = c.before.before.before.before.before.before.args.b.now in
-    let l = c.before.before.before.before.loop in (
+    let b = c.args.b.now in
+    let l = c.loop-i in (
       l.invariant.0,
       record {
         inside = omega arith;
-        makes = rw (rest b l.i (omega arith), eq-eqb _ _ c.if2.false) at (next l.invariant.1 (omega arith));
+        makes = rw (rest b l.i (omega arith), eq-eqb _ _ c.if-a-i.false) at (next l.invariant.1 (omega arith));
       },
     )
 
-returns-3 : tie.Need-returns-3 invariant-loop decreases-loop
+returns-3 : tie.Need-returns invariant-loop decreases-loop
 unfolding same_numbers
 returns-3 c =
-    let l = c.before.loop in
-    rw (no_rest c.before.before.before.args.b.now l.i (omega arith)) at (end l.invariant.1 (omega arith))
+    let l = c.loop-i in
+    rw (no_rest c.args.b.now l.i (omega arith)) at (end l.invariant.1 (omega arith))
 
 pub same_spec : {M : Type 1} → statement M
 same_spec =

@@ -9,29 +9,29 @@ use Rattle.text.proofs.Scan.{Left, next, end}
 use Rattle.text.proofs.unchecked.fields.width.Statement.{statement}
 use Rattle.text.proofs.unchecked.fields.width.Tie as tie
 
-abbrev invariant-loop : tie.invariant-loop
+abbrev invariant-loop : tie.invariant-loop-i
 invariant-loop s stop i₀ i = Left (λ rest. i + length (before stop rest)) s i (length (before stop s))
 
-abbrev decreases-loop : tie.decreases-loop
+abbrev decreases-loop : tie.decreases-loop-i
 decreases-loop s stop i₀ i = length s - i
 
-loop-holds : tie.Need-loop-init invariant-loop decreases-loop
+loop-holds : tie.Need-loop-i-init invariant-loop decreases-loop
 loop-holds c = record { inside = omega arith; makes = omega arith }
 
-returns : tie.Need-returns invariant-loop decreases-loop
+returns : tie.Need-returns-then-s-i invariant-loop decreases-loop
 unfolding before
-returns c = omega (arith, rw (eq-eqb _ _ c.if1.true) at (next c.before.before.before.loop.invariant (omega arith)))
+returns c = omega (arith, rw (eq-eqb _ _ c.if-s-i.true) at (next c.loop-i.invariant (omega arith)))
 
-loop-again : tie.Need-loop-preserved invariant-loop decreases-loop
+loop-again : tie.Need-loop-i-preserved invariant-loop decreases-loop
 unfolding before
 loop-again c = record {
   inside = omega arith;
-  makes = omega (arith, rw (ne_eqb _ _ c.if1.false) at (next c.before.before.before.loop.invariant (omega arith)));
+  makes = omega (arith, rw (ne_eqb _ _ c.if-s-i.false) at (next c.loop-i.invariant (omega arith)));
 }
 
-returns-2 : tie.Need-returns-2 invariant-loop decreases-loop
+returns-2 : tie.Need-returns invariant-loop decreases-loop
 unfolding before
-returns-2 c = omega (arith, end c.before.loop.invariant (omega arith))
+returns-2 c = omega (arith, end c.loop-i.invariant (omega arith))
 
 pub width_spec : {M : Type 1} → statement M
 width_spec = tie.close (tie.spec invariant-loop decreases-loop (λ c. omega arith) (λ c. omega arith) returns (λ c. omega arith) (λ c. omega arith) loop-again returns-2)

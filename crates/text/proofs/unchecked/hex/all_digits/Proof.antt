@@ -11,33 +11,33 @@ use Rattle.text.proofs.Scan.{Left, next, end}
 use Rattle.text.proofs.unchecked.hex.all_digits.Statement.{statement}
 use Rattle.text.proofs.unchecked.hex.all_digits.Tie as tie
 
-abbrev invariant-loop : tie.invariant-loop
+abbrev invariant-loop : tie.invariant-loop-i
 invariant-loop s i₀ i = Left (every hexadecimal) s i (every hexadecimal s)
 
-abbrev decreases-loop : tie.decreases-loop
+abbrev decreases-loop : tie.decreases-loop-i
 decreases-loop s i₀ i = length s - i
 
-loop-holds : tie.Need-loop-init invariant-loop decreases-loop
+loop-holds : tie.Need-loop-i-init invariant-loop decreases-loop
 loop-holds c = record { inside = omega arith; makes = refl }
 
-returns : tie.Need-returns invariant-loop decreases-loop
+returns : tie.Need-returns-then-not-is_digit invariant-loop decreases-loop
 unfolding every
 returns c =
-    let digit = c.before.is_digit in
-    rw (sym digit.ensures ∙ not-true _ c.if1.true) at (next c.before.before.before.before.loop.invariant (omega arith))
+    let digit = c.is_digit in
+    rw (sym digit.ensures ∙ not-true _ c.if-not-is_digit.true-raw) at (next c.loop-i.invariant (omega arith))
 
-loop-again : tie.Need-loop-preserved invariant-loop decreases-loop
+loop-again : tie.Need-loop-i-preserved invariant-loop decreases-loop
 unfolding every
 loop-again c =
-    let digit = c.before.is_digit in
+    let digit = c.is_digit in
     record {
       inside = omega arith;
-      makes = rw (sym digit.ensures ∙ not-false _ c.if1.false) at (next c.before.before.before.before.loop.invariant (omega arith));
+      makes = rw (sym digit.ensures ∙ not-false _ c.if-not-is_digit.false-raw) at (next c.loop-i.invariant (omega arith));
     }
 
-returns-2 : tie.Need-returns-2 invariant-loop decreases-loop
+returns-2 : tie.Need-returns invariant-loop decreases-loop
 unfolding every
-returns-2 c = end c.before.loop.invariant (omega arith)
+returns-2 c = end c.loop-i.invariant (omega arith)
 
 pub all_digits_spec : {M : Type 1} → statement M
 all_digits_spec =

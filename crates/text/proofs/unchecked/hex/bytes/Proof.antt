@@ -13,41 +13,39 @@ use borrow.Author.Rules.{rules}
 use Rattle.text.proofs.unchecked.hex.bytes.Statement.{statement}
 use Rattle.text.proofs.unchecked.hex.bytes.Tie as tie
 
-returns : tie.Need-returns
+returns : tie.Need-returns-then-same
 unfolding none
 returns c =
-    let s = c.before.before.before.before.before.args.s.now in
-    let dash : same_numbers s none ≡ true = sym c.before.same.ensures ∙ c.if1.true in
+    let s = c.args.s.now in
+    let dash : same_numbers s none ≡ true = sym c.same.ensures ∙ c.if-same.true in
     (sym (none_count s dash), sym (sets_none _ 0 _ (none_bytes s dash)))
 
-returns-2 : tie.Need-returns-2
+returns-2 : tie.Need-returns-then-not-is_hex
 unfolding none
 returns-2 c =
-    let s = c.before.before.before.before.before.before.before.args.s.now in
-    let dash : same_numbers s none ≡ false = sym c.before.before.before.same.ensures ∙ c.before.before.if1.false in
-    let digits : in_hex s ≡ false = sym c.before.is-hex.ensures ∙ not-true c.before.is-hex.result c.if2.true in
+    let s = c.args.s.now in
+    let dash : same_numbers s none ≡ false = sym c.same.ensures ∙ c.if-same.false in
+    let digits : in_hex s ≡ false = sym c.is_hex.ensures ∙ not-true c.is_hex.result c.if-not-is_hex.true-raw in
     (sym (wrong_count s dash digits), sym (sets_none _ 0 _ (not_hex s digits)))
 
 decode-requires : tie.Need-decode-requires
 decode-requires c κs =
-    let s = c.before.before.before.before.before.before.before.before.args.s.now in
-    let digits : in_hex s ≡ true = sym c.before.before.is-hex.ensures ∙ not-false c.before.before.is-hex.result c.before.if2.false in
+    let s = c.args.s.now in
+    let digits : in_hex s ≡ true = sym c.is_hex.ensures ∙ not-false c.is_hex.result c.if-not-is_hex.false-raw in
     (subst T (sym digits) tt, omega arith)
 
-returns-3 : tie.Need-returns-3
+returns-3 : tie.Need-returns
 unfolding none
 returns-3 c =
-    let s = c.before.before.before.before.before.before.before.before.before.before.before.args.s.now in
-    let tested = c.before.before.before.before in
-    let dash : same_numbers s none ≡ false = sym tested.before.before.before.same.ensures ∙ tested.before.before.if1.false in
-    let digits : in_hex s ≡ true = sym tested.before.is-hex.ensures ∙ not-false tested.before.is-hex.result tested.if2.false in
-    (sym (hex_count s dash digits), rw (if_hex s digits) c.before.before.decode.ensures)
+    let s = c.args.s.now in
+    let dash : same_numbers s none ≡ false = sym c.same.ensures ∙ c.if-same.false in
+    let digits : in_hex s ≡ true = sym c.is_hex.ensures ∙ not-false c.is_hex.result c.if-not-is_hex.false-raw in
+    (sym (hex_count s dash digits), rw (if_hex s digits) c.decode.ensures)
 
 pub bytes_spec : {M : Type 1} → statement M
 bytes_spec =
     tie.close
     (tie.spec
-    (λ c. search rules)
     (λ c κs. search rules)
     returns
     (λ c κs. search rules)

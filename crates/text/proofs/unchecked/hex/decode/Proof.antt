@@ -12,43 +12,43 @@ use Rattle.text.proofs.Stores.{sets_next, sets_none}
 use Rattle.text.proofs.unchecked.hex.decode.Statement.{statement}
 use Rattle.text.proofs.unchecked.hex.decode.Tie as tie
 
-abbrev invariant-loop : tie.invariant-loop
+abbrev invariant-loop : tie.invariant-loop-i
 invariant-loop s out₀ i₀ out i = (i ≤ length s / 2) × (length out ≡ length out₀) × (sets out i (bytes_of (drop (2 * i) s)) ≡ sets out₀ 0 (bytes_of s))
 
-abbrev decreases-loop : tie.decreases-loop
+abbrev decreases-loop : tie.decreases-loop-i
 decreases-loop s out₀ i₀ out i = length s / 2 - i
 
-loop-holds : tie.Need-loop-init invariant-loop decreases-loop
+loop-holds : tie.Need-loop-i-init invariant-loop decreases-loop
 loop-holds c = (omega arith, refl, refl)
 
 worth-requires : tie.Need-worth-requires invariant-loop decreases-loop
 worth-requires c κs =
-    let s = c.before.before.before.before.before.args.s.now in
-    hex_at s (2 * c.before.before.loop.i) (as_true (in_hex s) c.before.before.before.before.before.requires.0) (omega arith)
+    let s = c.args.s.now in
+    hex_at s (2 * c.loop-i.i) (as_true (in_hex s) c.requires.0) (omega arith)
 
-worth-requires-2 : tie.Need-worth-requires-2 invariant-loop decreases-loop
+worth-requires-2 : tie.Need-worth-requires-in-loop-i invariant-loop decreases-loop
 worth-requires-2 c κs =
-    let s = c.before.before.before.before.before.before.before.args.s.now in
-    hex_at s (2 * c.before.before.before.before.loop.i + 1)
-    (as_true (in_hex s) c.before.before.before.before.before.before.before.requires.0) (omega arith)
+    let s = c.args.s.now in
+    hex_at s (2 * c.loop-i.i + 1)
+    (as_true (in_hex s) c.requires.0) (omega arith)
 
-loop-again : tie.Need-loop-preserved invariant-loop decreases-loop
+loop-again : tie.Need-loop-i-preserved invariant-loop decreases-loop
 loop-again c =
-    let s = c.before.before.before.before.before.before.before.before.args.s.now in
-    let out = c.before.before.before.before.before.loop.out in
-    let i = c.before.before.before.before.before.loop.i in
-    let inv = c.before.before.before.before.before.loop.invariant in
+    let s = c.args.s.now in
+    let out = c.loop-i.out in
+    let i = c.loop-i.i in
+    let inv = c.loop-i.invariant in
     (omega arith, simp (length-set) inv.1, cc (sets_next out i _ _ _ (bytes_next s i (omega arith))))
 
-same_length : tie.Need-same-length invariant-loop decreases-loop
-same_length c = c.before.loop.invariant.1
+same_length : tie.Need-shape_of-out invariant-loop decreases-loop
+same_length c = c.loop-i.invariant.1
 
 returns : tie.Need-returns invariant-loop decreases-loop
 returns c =
-    let s = c.before.before.before.before.args.s.now in
-    let i = c.before.loop.i in
-    let e = even s (as_true (in_hex s) c.before.before.before.before.requires.0) in
-    sym (sets_none c.before.loop.out i _ (bytes_end s (2 * i) (omega arith))) ∙ c.before.loop.invariant.2
+    let s = c.args.s.now in
+    let i = c.loop-i.i in
+    let e = even s (as_true (in_hex s) c.requires.0) in
+    sym (sets_none c.loop-i.out i _ (bytes_end s (2 * i) (omega arith))) ∙ c.loop-i.invariant.2
 
 pub decode_spec : {M : Type 1} → statement M
 decode_spec =
@@ -65,8 +65,8 @@ decode_spec =
     (λ c. omega arith)
     (λ c. omega arith)
     worth-requires-2
-    (λ c. omega (arith, c.before.before.worth.ensures.1, c.worth2.ensures.1))
-    (λ c. omega (arith, c.before.before.before.before.before.before.before.before.requires.1))
+    (λ c. omega (arith, c.worth.ensures.1, c.worth-in-loop-i.ensures.1))
+    (λ c. omega (arith, c.requires.1))
     (λ c. omega arith)
     (λ c. omega arith)
     loop-again

@@ -7,14 +7,14 @@ use borrow.Author.Rules.{rules}
 use Rattle.text.proofs.unchecked.hex.is_hex.Statement.{statement}
 use Rattle.text.proofs.unchecked.hex.is_hex.Tie as tie
 
-returns : tie.Need-returns
-returns c = sym (too_short _ c.if1.true)
+returns : tie.Need-returns-then-s-lt2
+returns c = sym (too_short _ c.if-s-lt2.true)
 
-returns-2 : tie.Need-returns-2
-returns-2 c = sym (odd _ (omega arith) c.if2.true)
+returns-2 : tie.Need-returns-then-s-ne0
+returns-2 c = sym (odd _ (omega arith) c.if-s-ne0.true)
 
-returns-3 : tie.Need-returns-3
-returns-3 c = c.all_digits.ensures ∙ sym (if_even _ (omega arith) c.before.if2.false)
+returns-3 : tie.Need-returns
+returns-3 c = c.all_digits.ensures ∙ sym (if_even _ (omega arith) c.if-s-ne0.false)
 
 pub is_hex_spec : {M : Type 1} → statement M
 is_hex_spec = tie.close (tie.spec returns returns-2 (λ c κs. search rules) returns-3)

@@ -10,13 +10,13 @@ use Rattle.text.proofs.unchecked.lines.put_answer_line.Tie as tie
 
 put-requires : tie.Need-put-requires
 put-requires c κs =
-    let a = c.before.before.before.before.before.before.before.args in
+    let a = c.args in
     omega (arith, answer_length a.number a.at)
 
 returns : tie.Need-returns
 unfolding answer_line
-returns c = behind c.before.before.before.before.before.before.before.put-answer.ensures c.before.before.put.ensures
+returns c = behind c.put_answer-end.ensures c.put.ensures
 
 pub put_answer_line_spec : {M : Type 1} → statement M
 put_answer_line_spec =
-    tie.close (tie.spec (λ c κs. search rules) (λ c. search rules) put-requires (λ c. search rules) returns)
+    tie.close (tie.spec (λ c κs. search rules) put-requires (λ c. search rules) returns)

@@ -7,7 +7,7 @@ use Rattle.text.proofs.unchecked.lines.put_error.Tie as tie
 
 returns : tie.Need-returns
 unfolding error_line
-returns c = c.before.before.put.ensures
+returns c = c.put.ensures
 
 pub put_error_spec : {M : Type 1} → statement M
-put_error_spec = tie.close (tie.spec (λ c. search rules) (λ c κs. search rules) (λ c. search rules) returns)
+put_error_spec = tie.close (tie.spec (λ c κs. search rules) (λ c. search rules) returns)

@@ -8,26 +8,25 @@ use borrow.Author.Rules.{rules}
 use Rattle.text.proofs.unchecked.lines.put_pair.Statement.{statement}
 use Rattle.text.proofs.unchecked.lines.put_pair.Tie as tie
 
-put-requires : tie.Need-put-requires
+put-requires : tie.Need-put-next-requires
 put-requires c κs =
-    omega (arith, number_length c.before.before.before.before.before.before.before.args.first)
+    omega (arith, number_length c.args.first)
 
-put-number-requires-2 : tie.Need-put-number-requires-2
+put-number-requires-2 : tie.Need-put_number-requires
 put-number-requires-2 c κs =
-    omega (arith, number_length c.before.before.before.before.before.before.before.before.before.before.before.args.first)
+    omega (arith, number_length c.args.first)
 
 returns : tie.Need-returns
 unfolding answer_text
 returns c =
-    let number = c.before.before.before.before.before.before.before.before.before.before.before.put-number.ensures in
-    behind number (behind c.before.before.before.before.before.before.put.ensures c.before.before.put-number2.ensures)
+    let number = c.put_number-space.ensures in
+    behind number (behind c.put-next.ensures c.put_number.ensures)
 
 pub put_pair_spec : {M : Type 1} → statement M
 put_pair_spec =
     tie.close
     (tie.spec
     (λ c κs. search rules)
-    (λ c. search rules)
     put-requires
     put-number-requires-2
     (λ c. search rules)
