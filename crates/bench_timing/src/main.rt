@@ -2,6 +2,8 @@
 // prints a sum over the results: bench/run and bench/walks time it. Standard input: the kind, how often, in two bytes, and a topology stream. The kind
 // is the mode, `s` or `f` for orders by the public call, `S` or `F` for tables with the topology tested once and its arcs laid out once; `g` for greatest
 // hop counts, and `w` for walks over a schedule of as many rows as a walk can use, `W` of ten times as many, both over the table of destination 0.
+#![tactic(auto)]
+
 ghost use Rattle.std.specs.Prelude.{◌≡◌, ◌<◌, ◌≤◌, T, length};
 ghost use Rattle.topology_sound.specs.Sound.{sound};
 

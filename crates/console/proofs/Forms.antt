@@ -15,7 +15,6 @@ use Rattle.console_held.specs.declared.unchecked.asked.Query.{Query}
 use Rattle.console_held.specs.declared.unchecked.asked.Queried.{Queried}
 use Rattle.console_held.specs.declared.unchecked.asked.Queried.TheVariants as queried
 use Rattle.console_held.specs.Questions.{question_of}
-use Rattle.console_held.specs.Requests.{no_request}
 use Rattle.console_held.specs.Inner.{question_said, count_said, room_said, Understood}
 use Rattle.console.specs.declared.requests.Request.{Request}
 use Rattle.console.specs.declared.requests.Inquiry.{Inquiry}

@@ -13,7 +13,7 @@ use console_held::unchecked::holding::{Holding, Reply, Step};
 use console_replies::unchecked::{putting, replies};
 
 // What a line leaves: what is held from then on, and how many bytes the line that answers has.
-#[derive(Drop)]
+#[derive(Clone, Copy)]
 pub struct Turn {
     pub held: Holding,
     pub count: usize,

@@ -23,10 +23,13 @@
 //
 // BUFFER is ROOM bytes of `aa`, at most 65,536 of them, as the call left it. D, START, STATION and HOPS are at most 255, and MODE is `shortest` or `free`.
 // Any other line, and one of more than 262,144 bytes, answers `error` and changes nothing.
+#![tactic(auto)]
+
 mod answers;
 mod requests;
 
 ghost use Rattle.std.specs.Prelude.{true, ◌≡◌, ◌≤◌, length};
+ghost use Rattle.std.specs.Counts.{IsPrefixLen};
 ghost use Rattle.topology_types.specs.Topology.{zeros};
 ghost use Rattle.console_held.specs.Questions.{most_line, most_table};
 ghost use Rattle.console_held.specs.Inner.{TableReady};
@@ -36,12 +39,15 @@ use console_held::unchecked::asked;
 use console_held::unchecked::holding::Holding;
 use console_replies::unchecked::putting;
 use forwarding::Packet;
-use libc::{STDIN_FILENO, STDOUT_FILENO};
+use std::io::{Read, Stdin};
 use text::unchecked::{fields, lines};
 use topology::{LINKS, Link, Place, ROUTERS, Topology};
 
+// Standard output.
+const STDOUT: i32 = 1;
+
 // What is held, but for the table's bytes; how many bytes of a line have come, LINE + 1 if it is too long; and whether to go on.
-#[derive(Drop)]
+#[derive(Clone, Copy)]
 struct Session {
     held: Holding,
     count: usize,
@@ -90,7 +96,7 @@ fn answer(s: Session, table: &mut [u8], line: &[u8]) -> Session
     let turn = answers::respond(h, table, line, count, &mut out);
     let held = turn.held;
     let n = turn.count;
-    let is_written = io::write_all(STDOUT_FILENO, &out[..n]);
+    let is_written = io::write_all(STDOUT, &out[..n]);
     Session {
         held: held,
         count: 0,
@@ -128,14 +134,23 @@ fn take(s: Session, table: &mut [u8], line: &mut [u8], text: &[u8]) -> Session
     next
 }
 
-// Reads once.
-fn read_some(s: Session, table: &mut [u8], line: &mut [u8]) -> Session
+// Reads once, and answers how many bytes are at the start of the slice: none at the end, or where reading fails.
+fn read_once(mut from: Stdin, text: &mut [u8]) -> usize
+    ensures { IsPrefixLen result text.new }
+{
+    match from.read(text) {
+        Ok(n) => n,
+        Err(_) => 0,
+    }
+}
+
+// Reads once, and takes what was read.
+fn read_some(s: Session, table: &mut [u8], line: &mut [u8], from: Stdin) -> Session
     requires { TableReady s.held table.old × (length line.old ≡ most_line) }
     ensures { result.held.size ≤ length table.new }
 {
     let mut text = io::large_buffer();
-    let got = libc::read(STDIN_FILENO, &mut text);
-    let n = io::count(got, &text);
+    let n = read_once(from, &mut text);
     if n == 0 {
         let mut last = s;
         last.open = false;
@@ -145,23 +160,23 @@ fn read_some(s: Session, table: &mut [u8], line: &mut [u8]) -> Session
 }
 
 // A proved loop has to end, and nothing says that the input does. So the loop counts its turns down, from a number that no run uses up.
-fn serve(table: &mut [u8], line: &mut [u8]) -> Session
+fn serve(table: &mut [u8], line: &mut [u8], from: Stdin) -> Session
     requires { (length table.old ≡ most_table) × (length line.old ≡ most_line) }
     ensures { result.held.size ≤ length table.new }
 {
     let mut s = begin();
     let mut turns: u64 = 1099511627776;
     while s.open && turns > 0 {
-        s = read_some(s, table, line);
+        s = read_some(s, table, line, from);
         turns -= 1;
     }
     s
 }
 
-fn main() {
+fn main(rt: HostRuntime) {
     let mut table = asked::room_for_bytes();
     let mut line = asked::room_for_line();
-    let s = serve(&mut table, &mut line);
+    let s = serve(&mut table, &mut line, rt.stdin());
     if 0 < s.count {
         answer(s, &mut table, &line);
     }

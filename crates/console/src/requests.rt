@@ -11,7 +11,7 @@ use console_replies::unchecked::replies::Call;
 use text::unchecked::fields;
 
 // Those that change what is held, and those that leave it.
-#[derive(Drop)]
+#[derive(Clone, Copy)]
 pub enum Request {
     Changes(Change),
     Replies(Call),
@@ -19,7 +19,7 @@ pub enum Request {
 }
 
 // What a line asks: a request, with what its fields hold; or nothing.
-#[derive(Drop)]
+#[derive(Clone, Copy)]
 pub enum Inquiry {
     Asks(Request, Query),
     Nothing,

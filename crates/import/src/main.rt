@@ -1,11 +1,17 @@
 // The import program (02, #106): takes a file of OSPF router-LSAs on standard input, at most 262,144 bytes, and writes the stream of the imported topology
 // to standard output. Of a refused file nothing goes there, and one line to standard error: `refused`, number, at. A longer file is not cut: nothing goes to
 // standard output, and the line is `too long`.
+#![tactic(auto)]
+
 ghost use Rattle.std.specs.Prelude.{◌≡◌, ◌≤◌, length};
 ghost use Rattle.import.specs.Output.{Writes};
 
-use libc::{STDERR_FILENO, STDOUT_FILENO};
 use text::unchecked::lines;
+
+// Standard output, and standard error.
+const STDOUT: i32 = 1;
+
+const STDERR: i32 = 2;
 
 // The longest file that is imported.
 const FILE: usize = 262144;
@@ -19,7 +25,7 @@ const STREAM: usize = 2883;
 const LINE: usize = 50;
 
 // How many bytes go to standard output and to standard error.
-#[derive(Drop)]
+#[derive(Clone, Copy)]
 struct Ends {
     stream: usize,
     line: usize,
@@ -83,6 +89,6 @@ fn main() {
     let ends = put_output(&input[..n], &mut stream, &mut line);
     let size = ends.stream;
     let width = ends.line;
-    io::write_all(STDOUT_FILENO, &stream[..size]);
-    io::write_all(STDERR_FILENO, &line[..width]);
+    io::write_all(STDOUT, &stream[..size]);
+    io::write_all(STDERR, &line[..width]);
 }

@@ -2,11 +2,14 @@
 // line for each destination and within it each router, by place: destination, router, rank, greatest hop count and row, `-` if it is empty; for
 // a router with no path to the destination 255, 255 and `-` (02, #107). A refused stream prints one line: `refused`, number, at. The rest of a longer
 // input is not read.
+#![tactic(auto)]
+
 ghost use Rattle.std.specs.Prelude.{◌≡◌, ◌≤◌, length};
 ghost use Rattle.text.specs.Inner.{Put};
 ghost use Rattle.listing.specs.Output.{listing_output};
 
-use libc::STDOUT_FILENO;
+// Standard output.
+const STDOUT: i32 = 1;
 
 // Room for every output: 3,968 bytes for each of 64 destinations.
 const OUTPUT: usize = 253952;
@@ -39,5 +42,5 @@ fn main() {
     let n = program_io::read_input(&mut input);
     let mut out = room();
     let end = put_output(&input[..n], &mut out);
-    io::write_all(STDOUT_FILENO, &out[..end]);
+    io::write_all(STDOUT, &out[..end]);
 }

@@ -1,13 +1,16 @@
 // What the programs share that read a topology stream, or a file of LSAs: standard input, and the line of a refusal.
+#![tactic(auto)]
+
 ghost use Rattle.std.specs.Prelude.{◌≡◌, length};
 ghost use Rattle.io.specs.Counts.{IsPrefixLen};
-
-use libc::STDIN_FILENO;
 
 pub mod unchecked;
 
 // 01, Two networks by hand: at most 65,536 bytes of input are read.
 const INPUT: usize = 65536;
+
+// Standard input.
+const STDIN: i32 = 0;
 
 // An array that comes out of a function is known by what the function ensures.
 pub fn room_for_input() -> [u8; INPUT]
@@ -20,5 +23,5 @@ pub fn room_for_input() -> [u8; INPUT]
 pub fn read_input(input: &mut [u8]) -> usize
     ensures { IsPrefixLen result input.new }
 {
-    io::read_full(STDIN_FILENO, input)
+    io::read_full(STDIN, input)
 }

@@ -1,15 +1,19 @@
 // The program for the repair crews (02, 103): reads a topology stream on standard input as the listing does, and prints, by the listing's tables, for each
 // destination and within it each start, by place, every path as places, one a line: destination, start, `:`, places. A start with more than 512 paths has
 // one line: destination, start, `: more than 512 paths`. A refused stream prints the listing's line: `refused`, number, at.
+#![tactic(auto)]
+
 ghost use Rattle.std.specs.Prelude.{◌≤◌, ◌<◌, T, length};
 ghost use Rattle.topology_sound.specs.Sound.{sound};
 ghost use Rattle.arcs.specs.Inner.{Laid};
 ghost use Rattle.paths_lines.specs.Inner.{most_path_lines};
 
 use arcs::Arcs;
-use libc::STDOUT_FILENO;
 use order::Mode;
 use topology::{Place, Topology};
+
+// Standard output.
+const STDOUT: i32 = 1;
 
 // Writes the lines of a destination, start by start, by place; answers whether that went well.
 fn write_to(t: Topology, a: Arcs, destination: Place, out: &mut [u8]) -> bool
@@ -27,7 +31,7 @@ fn write_to(t: Topology, a: Arcs, destination: Place, out: &mut [u8]) -> bool
             Place(u as u8),
             out,
         );
-        if !io::write_all(STDOUT_FILENO, &out[..end]) {
+        if !io::write_all(STDOUT, &out[..end]) {
             return false;
         }
         u += 1;
@@ -56,7 +60,7 @@ fn write_for(stream: &[u8], out: &mut [u8])
     let answer = reading.answer;
     if answer.number != 0 {
         let end = program_io::unchecked::put_refused(out, answer);
-        io::write_all(STDOUT_FILENO, &out[..end]);
+        io::write_all(STDOUT, &out[..end]);
         return;
     }
     let t = reading.topology;

@@ -6,16 +6,15 @@ use borrow.Author.Rules.{rules}
 use Rattle.bench_timing.proofs.all_orders.Statement.{statement}
 use Rattle.bench_timing.proofs.all_orders.Tie as tie
 
-abbrev invariant-loop : tie.invariant-loop
+abbrev invariant-loop : tie.invariant-loop-d
 invariant-loop t mode sum next₀ d₀ next d = (d ≤ 64) × (next < 65521)
 
-abbrev decreases-loop : tie.decreases-loop
+abbrev decreases-loop : tie.decreases-loop-d
 decreases-loop t mode sum next₀ d₀ next d = 64 - d
 
-with-bytes-requires : tie.Need-with-bytes-requires invariant-loop decreases-loop
+with-bytes-requires : tie.Need-with_bytes-next-requires invariant-loop decreases-loop
 with-bytes-requires c κs =
-    let here = c.before.before.before.before.before.before.before in
-    (here.loop.invariant.1, omega (arith, c.before.before.build.auto.1.1.1.0), omega arith, omega arith)
+    (c.loop-d.invariant.1, omega (arith, c.build.auto.out), omega arith, omega arith)
 
 pub all_orders_spec : {M : Type 1} → statement M
 all_orders_spec =

@@ -5,10 +5,10 @@ use borrow.Author.Rules.{rules}
 use Rattle.bench_timing.proofs.all_walks.Statement.{statement}
 use Rattle.bench_timing.proofs.all_walks.Tie as tie
 
-abbrev invariant-loop : tie.invariant-loop
+abbrev invariant-loop : tie.invariant-loop-u
 invariant-loop t table schedule sum next₀ u₀ next u = (u ≤ t.routers) × (next < 65521)
 
-abbrev decreases-loop : tie.decreases-loop
+abbrev decreases-loop : tie.decreases-loop-u
 decreases-loop t table schedule sum next₀ u₀ next u = t.routers - u
 
 pub all_walks_spec : {M : Type 1} → statement M

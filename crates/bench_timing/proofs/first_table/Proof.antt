@@ -8,7 +8,7 @@ use Rattle.bench_timing.proofs.first_table.Tie as tie
 
 build-requires : tie.Need-build-requires
 build-requires c κs =
-    let s = c.before.requires in (s, c.of.ensures, omega (arith, ((sound_exact _).0 s).routers_least))
+    let s = c.requires in (s, c.of.ensures, omega (arith, ((sound_exact _).0 s).routers_least))
 
 pub first_table_spec : {M : Type 1} → statement M
 first_table_spec = tie.close (tie.spec (λ c κs. search rules) build-requires (λ c. c.build.ensures.0))

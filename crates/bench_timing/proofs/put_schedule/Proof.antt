@@ -7,10 +7,10 @@ use lib.ListN.{length}
 use Rattle.bench_timing.proofs.put_schedule.Statement.{statement}
 use Rattle.bench_timing.proofs.put_schedule.Tie as tie
 
-abbrev invariant-loop : tie.invariant-loop
+abbrev invariant-loop : tie.invariant-loop-row
 invariant-loop rows links out₀ at₀ row₀ out at row = (row ≤ rows) × (at ≤ 256 * row) × (length out ≡ 161280)
 
-abbrev decreases-loop : tie.decreases-loop
+abbrev decreases-loop : tie.decreases-loop-row
 decreases-loop rows links out₀ at₀ row₀ out at row = rows - row
 
 pub put_schedule_spec : {M : Type 1} → statement M

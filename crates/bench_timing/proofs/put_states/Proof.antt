@@ -7,10 +7,10 @@ use lib.ListN.{length}
 use Rattle.bench_timing.proofs.put_states.Statement.{statement}
 use Rattle.bench_timing.proofs.put_states.Tie as tie
 
-abbrev invariant-loop : tie.invariant-loop
+abbrev invariant-loop : tie.invariant-loop-l
 invariant-loop row out₀ l₀ out l = (l ≤ length out₀) × (length out ≡ length out₀)
 
-abbrev decreases-loop : tie.decreases-loop
+abbrev decreases-loop : tie.decreases-loop-l
 decreases-loop row out₀ l₀ out l = length out₀ - l
 
 pub put_states_spec : {M : Type 1} → statement M

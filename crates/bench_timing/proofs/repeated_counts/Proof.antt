@@ -10,21 +10,21 @@ use Rattle.topology_sound.specs.Sound.{sound}
 use Rattle.bench_timing.proofs.repeated_counts.Statement.{statement}
 use Rattle.bench_timing.proofs.repeated_counts.Tie as tie
 
-abbrev invariant-loop : tie.invariant-loop
+abbrev invariant-loop : tie.invariant-loop-i
 invariant-loop t times bytes length sum₀ i₀ sum i = (i ≤ times) × (sum < 65521)
 
-abbrev decreases-loop : tie.decreases-loop
+abbrev decreases-loop : tie.decreases-loop-i
 decreases-loop t times bytes length sum₀ i₀ sum i = times - i
 
 -- the topology is sound
-passed : (c : tie.Else1 invariant-loop decreases-loop) → T (sound c.before.before.args.t)
-passed c = rw (sym c.before.is-sound.ensures ∙ not-false _ c.if1.false) tt
+passed : (c : tie.Else-not-is_sound invariant-loop decreases-loop) → T (sound c.args.t)
+passed c = rw (sym c.is_sound.ensures ∙ not-false _ c.if-not-is_sound.false-raw) tt
 
-first-table-requires : tie.Need-first-table-requires invariant-loop decreases-loop
+first-table-requires : tie.Need-first_table-built-requires invariant-loop decreases-loop
 first-table-requires c κs = passed c
 
-array-share-prefix-bytes : tie.Need-array-share-prefix-bytes invariant-loop decreases-loop
-array-share-prefix-bytes c = c.before.before.before.first-table.ensures
+array-share-prefix-bytes : tie.Need-slice_bounds-bytes-end invariant-loop decreases-loop
+array-share-prefix-bytes c = c.first_table-built.ensures
 
 pub repeated_counts_spec : {M : Type 1} → statement M
 repeated_counts_spec =

@@ -5,10 +5,10 @@ use borrow.Author.Rules.{rules}
 use Rattle.bench_timing.proofs.repeated_orders.Statement.{statement}
 use Rattle.bench_timing.proofs.repeated_orders.Tie as tie
 
-abbrev invariant-loop : tie.invariant-loop
+abbrev invariant-loop : tie.invariant-loop-i
 invariant-loop t mode times sum₀ i₀ sum i = (i ≤ times) × (sum < 65521)
 
-abbrev decreases-loop : tie.decreases-loop
+abbrev decreases-loop : tie.decreases-loop-i
 decreases-loop t mode times sum₀ i₀ sum i = times - i
 
 pub repeated_orders_spec : {M : Type 1} → statement M

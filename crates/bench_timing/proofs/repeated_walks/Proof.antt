@@ -14,57 +14,57 @@ use Rattle.topology_sound.proofs.Sound.{sound_exact}
 use Rattle.bench_timing.proofs.repeated_walks.Statement.{statement}
 use Rattle.bench_timing.proofs.repeated_walks.Tie as tie
 
-abbrev invariant-loop : tie.invariant-loop
+abbrev invariant-loop : tie.invariant-loop-i
 invariant-loop t long times bytes length most rows schedule end sum₀ i₀ sum i = (i ≤ times) × (sum < 65521)
 
-abbrev decreases-loop : tie.decreases-loop
+abbrev decreases-loop : tie.decreases-loop-i
 decreases-loop t long times bytes length most rows schedule end sum₀ i₀ sum i = times - i
 
 -- the topology is sound
-passed : (c : tie.Else1 invariant-loop decreases-loop) → T (sound c.before.before.args.t)
-passed c = rw (sym c.before.is-sound.ensures ∙ not-false _ c.if1.false) tt
+passed : (c : tie.Else-not-is_sound invariant-loop decreases-loop) → T (sound c.args.t)
+passed c = rw (sym c.is_sound.ensures ∙ not-false _ c.if-not-is_sound.false-raw) tt
 
-first-table-requires : tie.Need-first-table-requires invariant-loop decreases-loop
+first-table-requires : tie.Need-first_table-built-requires invariant-loop decreases-loop
 first-table-requires c κs = passed c
 
-sub-most : tie.Need-overflow-sub-most invariant-loop decreases-loop
+sub-most : tie.Need-overflow_sub-most invariant-loop decreases-loop
 sub-most c = omega (arith, ((sound_exact _).0 (passed c.before.before.before)).routers_least)
 
-mul-rows : tie.Need-overflow-mul-rows invariant-loop decreases-loop
+mul-rows : tie.Need-overflow_mul-rows invariant-loop decreases-loop
 mul-rows c = omega (arith, ((sound_exact _).0 (passed c.before.before.before.before)).routers_most)
 
 -- ten times 63 rows at most
-few : (c : tie.Joined2 invariant-loop decreases-loop) → c.if2.rows ≤ 630
+few : (c : tie.Joined-long invariant-loop decreases-loop) → c.if-long.rows ≤ 630
 few c =
     let most = ((sound_exact _).0 (passed c.before.before.before.before)).routers_most in
-    ⊎_elim (λ w. omega (arith, most)) (λ w. omega (arith, most)) c.if2.branch
+    ⊎_elim (λ w. omega (arith, most)) (λ w. omega (arith, most)) c.if-long.branch-raw
 
-put-schedule-requires : tie.Need-put-schedule-requires invariant-loop decreases-loop
+put-schedule-requires : tie.Need-put_schedule-end-requires invariant-loop decreases-loop
 put-schedule-requires c κs =
-    let rows : tie.Joined2 invariant-loop decreases-loop = c.before.before in
-    (few rows, ((sound_exact _).0 (passed rows.before.before.before.before)).links_most, c.before.room-for-schedule.ensures)
+    let rows : tie.Joined-long invariant-loop decreases-loop = c.before.before in
+    (few rows, ((sound_exact _).0 (passed rows.before.before.before.before)).links_most, c.room_for_schedule-schedule.ensures)
 
 -- the schedule's room is as long as it was
-long_schedule : (c : tie.After-put-schedule invariant-loop decreases-loop) → length c.put-schedule.new.1.1.0 ≡ 161280
-long_schedule c = c.put-schedule.auto.1.1.0 ∙ sym c.before.before.room-for-schedule.ensures
+long_schedule : (c : tie.After-put_schedule-end invariant-loop decreases-loop) → length c.put_schedule-end.new.out ≡ 161280
+long_schedule c = c.put_schedule-end.auto.out ∙ sym c.room_for_schedule-schedule.ensures
 
 -- from a turn back to the schedule, and to the table
-abbrev scheduled : tie.In-loop invariant-loop decreases-loop → tie.After-put-schedule invariant-loop decreases-loop
+abbrev scheduled : tie.In-loop-i invariant-loop decreases-loop → tie.After-put_schedule-end invariant-loop decreases-loop
 scheduled c = c.before.before.before
 
-abbrev built : tie.In-loop invariant-loop decreases-loop → tie.After-first-table invariant-loop decreases-loop
+abbrev built : tie.In-loop-i invariant-loop decreases-loop → tie.After-first_table-built invariant-loop decreases-loop
 built c = (scheduled c).before.before.before.before.before.before
 
-array-share-prefix-bytes : tie.Need-array-share-prefix-bytes invariant-loop decreases-loop
-array-share-prefix-bytes c = (built c).first-table.ensures
+array-share-prefix-bytes : tie.Need-slice_bounds-bytes-end invariant-loop decreases-loop
+array-share-prefix-bytes c = (built c).first_table-built.ensures
 
-array-share-prefix-schedule : tie.Need-array-share-prefix-schedule invariant-loop decreases-loop
-array-share-prefix-schedule c = let put = scheduled c.before in omega (arith, long_schedule put, put.put-schedule.ensures)
+array-share-prefix-schedule : tie.Need-slice_bounds-schedule-end invariant-loop decreases-loop
+array-share-prefix-schedule c = let put = scheduled c.before in omega (arith, long_schedule put, put.put_schedule-end.ensures)
 
-all-walks-requires : tie.Need-all-walks-requires invariant-loop decreases-loop
+all-walks-requires : tie.Need-all_walks-sum-requires invariant-loop decreases-loop
 all-walks-requires c κs =
-    let turn : tie.In-loop invariant-loop decreases-loop = c.before.before in
-    (((sound_exact _).0 (passed (built turn).before)).routers_most, turn.before.loop.invariant.1)
+    let turn : tie.In-loop-i invariant-loop decreases-loop = c.before.before in
+    (((sound_exact _).0 (passed (built turn).before)).routers_most, turn.loop-i.invariant.1)
 
 pub repeated_walks_spec : {M : Type 1} → statement M
 repeated_walks_spec =
@@ -78,7 +78,7 @@ repeated_walks_spec =
     sub-most
     mul-rows
     (λ c κs. search rules)
-    (λ c. c.before.room-for-schedule.ensures)
+    (λ c. c.room_for_schedule-schedule.ensures)
     put-schedule-requires
     (λ c. search rules)
     array-share-prefix-bytes

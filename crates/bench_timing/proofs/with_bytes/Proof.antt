@@ -7,10 +7,10 @@ use lib.ListN.{length}
 use Rattle.bench_timing.proofs.with_bytes.Statement.{statement}
 use Rattle.bench_timing.proofs.with_bytes.Tie as tie
 
-abbrev invariant-loop : tie.invariant-loop
+abbrev invariant-loop : tie.invariant-loop-i
 invariant-loop sum bytes step next₀ i₀ next i = next < 65521
 
-abbrev decreases-loop : tie.decreases-loop
+abbrev decreases-loop : tie.decreases-loop-i
 decreases-loop sum bytes step next₀ i₀ next i = length bytes - i
 
 pub with_bytes_spec : {M : Type 1} → statement M
@@ -22,8 +22,8 @@ with_bytes_spec =
     (λ c. search rules)
     (λ c. search rules)
     (λ c. search rules)
-    (λ c. omega (arith, c.shared-slice-known.given c.before.before.loop.i))
-    (λ c. omega (arith, c.shared-slice-known.given c.before.before.loop.i))
+    (λ c. omega (arith, c.shared_slice_known-1.given c.loop-i.i))
+    (λ c. omega (arith, c.shared_slice_known-1.given c.loop-i.i))
     (λ c. search rules)
     (λ c. search rules)
     (λ c. search rules)

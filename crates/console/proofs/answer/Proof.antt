@@ -7,7 +7,7 @@ use borrow.Author.Rules.{rules}
 use Rattle.console.proofs.answer.Statement.{statement}
 use Rattle.console.proofs.answer.Tie as tie
 
-slice-aggregate-write-all : tie.Need-slice-aggregate-write-all
+slice-aggregate-write-all : tie.Need-slice_bounds-write_all-end
 slice-aggregate-write-all c = sym (length-take-le _ _ (omega arith))
 
 pub answer_spec : {M : Type 1} → statement M

@@ -4,11 +4,11 @@ use borrow.Author.Rules.{rules}
 use Rattle.console.proofs.take_part.Statement.{statement}
 use Rattle.console.proofs.take_part.Tie as tie
 
-returns : tie.Need-returns
+returns : tie.Need-returns-then-is_last
 returns c =
-    let g = c.before.before.before.before.before.before.before.before.gather in
-    let last = c.before.before.before.before.before.if1.true in
-    let a = c.before.before.answer.ensures in
+    let g = c.gather in
+    let last = c.if-is_last.true in
+    let a = c.answer.ensures in
     record {
       count = g.result;
       gathered = g.ensures;
@@ -17,15 +17,15 @@ returns c =
       counted = rw (last) a.none;
     }
 
-returns-2 : tie.Need-returns-2
+returns-2 : tie.Need-returns-else-is_last
 returns-2 c =
-    let g = c.before.before.before.gather in
+    let g = c.gather in
     record {
       count = g.result;
       gathered = g.ensures;
-      held = rw c.if1.false;
-      size = c.before.before.before.before.before.before.before.before.requires.0.size;
-      counted = rw c.if1.false;
+      held = rw c.if-is_last.false;
+      size = c.requires.0.size;
+      counted = rw c.if-is_last.false;
     }
 
 pub take_part_spec : {M : Type 1} → statement M

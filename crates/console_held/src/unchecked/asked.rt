@@ -21,14 +21,14 @@ pub const BYTES: usize = LINE / 2;
 pub const ROOM: usize = 65536;
 
 // The mode that a word names; or that it names none.
-#[derive(Drop)]
+#[derive(Clone, Copy)]
 pub enum Chosen {
     Is(Mode),
     Wrong,
 }
 
 // What the fields hold, each by its kind, as if absent where there is none. The bytes stand at the start of a buffer: here is how many they are.
-#[derive(Drop)]
+#[derive(Clone, Copy)]
 pub struct Query {
     pub place: Place,
     pub hops: u8,
@@ -38,7 +38,7 @@ pub struct Query {
 }
 
 // What the fields hold; or that one is no such field.
-#[derive(Drop)]
+#[derive(Clone, Copy)]
 pub enum Queried {
     Is(Query),
     Wrong,

@@ -7,7 +7,7 @@ use super::asked::Query;
 use super::holding::{Holding, Step};
 use super::{holding, packets};
 
-#[derive(Drop)]
+#[derive(Clone, Copy)]
 pub enum Change {
     Topology,
     Import,

@@ -11,7 +11,7 @@ use text::unchecked::lines;
 use topology::{Answer, Topology};
 
 // What is held, but for the table's bytes, which stand at the start of a buffer: the topology, how many bytes the table has, and the packet.
-#[derive(Drop)]
+#[derive(Clone, Copy)]
 pub struct Holding {
     pub topology: Topology,
     pub size: usize,
@@ -19,7 +19,7 @@ pub struct Holding {
 }
 
 // What became of a packet.
-#[derive(Drop)]
+#[derive(Clone, Copy)]
 pub enum Fate {
     Set,
     Delivered,
@@ -29,7 +29,7 @@ pub enum Fate {
 
 // That the line is no request; a call's answer; that and as many bytes, from its start, of the buffer that was lent; a line of as many bytes, which
 // stand there, and its end; or what became of a packet, as it is now, or that the call refused.
-#[derive(Drop)]
+#[derive(Clone, Copy)]
 pub enum Reply {
     Error,
     Says(Answer),
@@ -40,7 +40,7 @@ pub enum Reply {
 }
 
 // What a request leaves: what is held from then on, and the reply.
-#[derive(Drop)]
+#[derive(Clone, Copy)]
 pub struct Step {
     pub held: Holding,
     pub reply: Reply,

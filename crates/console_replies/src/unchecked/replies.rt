@@ -7,7 +7,7 @@ use console_held::unchecked::asked::Query;
 use console_held::unchecked::holding::Reply;
 use topology::Topology;
 
-#[derive(Drop)]
+#[derive(Clone, Copy)]
 pub enum Call {
     Write,
     Order,

@@ -19,41 +19,38 @@ use Rattle.coverage.proofs.put_output.Statement.{statement}
 use Rattle.coverage.proofs.put_output.Tie as tie
 
 -- what was read
-module _ (c : tie.After-read) where
+module _ (c : tie.After-read-reading) where
   abbrev start : tie.Start
   start = c.before.before.before
 
-  its_topology : c.read.result.answer.number ≡ 0 → T (sound c.read.result.topology)
-  its_topology = read_sound start.args.stream.now (λ i. omega (arith, c.before.before.shared-slice-known.given i)) c.read.ensures
+  its_topology : c.read-reading.result.answer.number ≡ 0 → T (sound c.read-reading.result.topology)
+  its_topology = read_sound start.args.stream.now (λ i. omega (arith, c.shared_slice_known-1.given i)) c.read-reading.ensures
 
-  few : c.read.result.answer.number ≡ 0 → (coverage c.read.result.topology).destinations ≤ 64
+  few : c.read-reading.result.answer.number ≡ 0 → (coverage c.read-reading.result.topology).destinations ≤ 64
   few e = let good = its_topology e in omega (arith, (figures_right _ good).destinations, ((sound_exact _).0 good).routers_most)
 
-returns : tie.Need-returns
+returns : tie.Need-returns-then-answer-ne0
 unfolding coverage_output output_by printed
 returns c =
-    let r = c.before.before.before.before.before.before.before in
-    let put = c.before.before.Put-refused.ensures in
-    (omega (arith, refused_length r.read.result.answer, put.after), rw (← r.read.ensures, ne_eqb _ _ c.before.before.before.before.if1.true) put)
+    let put = c.put_refused.ensures in
+    (omega (arith, refused_length c.read-reading.result.answer, put.after), rw (← c.read-reading.ensures, ne_eqb _ _ c.if-answer-ne0.true) put)
 
 of-requires : tie.Need-of-requires
-of-requires c κs = its_topology c.before.before.before.before c.before.if1.false
+of-requires c κs = its_topology c.before.before.before.before c.if-answer-ne0.false
 
-coverage-requires : tie.Need-coverage-requires
-coverage-requires c κs = (its_topology c.before.before.before.before.before c.before.before.if1.false, c.of.ensures)
+coverage-requires : tie.Need-coverage-figures-requires
+coverage-requires c κs = (its_topology c.before.before.before.before.before c.if-answer-ne0.false, c.of.ensures)
 
-put-coverage-requires : tie.Need-put-coverage-requires
+put-coverage-requires : tie.Need-put_coverage-requires
 put-coverage-requires c κs =
-    let r = c.before.before.before.before.before.before.before in
-    (rw c.before.coverage.ensures (few r c.before.before.before.before.if1.false), (start r).requires)
+    (rw c.coverage-figures.ensures (few c.before.before.before.before.before.before.before c.if-answer-ne0.false), (start c.before.before.before.before.before.before.before).requires)
 
-returns-2 : tie.Need-returns-2
+returns-2 : tie.Need-returns
 unfolding coverage_output output_by printed figures_text coverage_text
 returns-2 c =
-    let r = c.before.before.before.before.before.before.before.before.before.before in
-    let none = c.before.before.before.before.before.before.before.if1.false in
-    let put = rw c.before.before.before.before.coverage.ensures at c.before.before.put-coverage.ensures in
-    (omega (arith, put.after, text_length 10 (coverage r.read.result.topology) (few r none)), rw (← r.read.ensures, eq-eqb _ _ none) put)
+    let none = c.if-answer-ne0.false in
+    let put = rw c.coverage-figures.ensures at c.put_coverage.ensures in
+    (omega (arith, put.after, text_length 10 (coverage c.read-reading.result.topology) (few c.before.before.before.before.before.before.before.before.before.before none)), rw (← c.read-reading.ensures, eq-eqb _ _ none) put)
 
 pub put_output_spec : {M : Type 1} → statement M
 put_output_spec =

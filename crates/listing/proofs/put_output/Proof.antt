@@ -15,37 +15,34 @@ use Rattle.listing.proofs.put_output.Statement.{statement}
 use Rattle.listing.proofs.put_output.Tie as tie
 
 -- what was read
-module _ (c : tie.After-read) where
+module _ (c : tie.After-read-reading) where
   abbrev start : tie.Start
   start = c.before.before.before
 
-  its_topology : c.read.result.answer.number ≡ 0 → T (sound c.read.result.topology)
-  its_topology = read_sound start.args.stream.now (λ i. omega (arith, c.before.before.shared-slice-known.given i)) c.read.ensures
+  its_topology : c.read-reading.result.answer.number ≡ 0 → T (sound c.read-reading.result.topology)
+  its_topology = read_sound start.args.stream.now (λ i. omega (arith, c.shared_slice_known-1.given i)) c.read-reading.ensures
 
-returns : tie.Need-returns
+returns : tie.Need-returns-then-answer-ne0
 unfolding listing_output output_by printed
 returns c =
-    let r = c.before.before.before.before.before.before.before in
-    let put = c.before.before.Put-refused.ensures in
-    (omega (arith, refused_length r.read.result.answer, put.after), rw (← r.read.ensures, ne_eqb _ _ c.before.before.before.before.if1.true) put)
+    let put = c.put_refused.ensures in
+    (omega (arith, refused_length c.read-reading.result.answer, put.after), rw (← c.read-reading.ensures, ne_eqb _ _ c.if-answer-ne0.true) put)
 
 of-requires : tie.Need-of-requires
-of-requires c κs = its_topology c.before.before.before.before c.before.if1.false
+of-requires c κs = its_topology c.before.before.before.before c.if-answer-ne0.false
 
-put-all-requires : tie.Need-put-all-requires
+put-all-requires : tie.Need-put_all-requires
 put-all-requires c κs =
-    let r = c.before.before.before.before.before.before in
-    let good = its_topology r c.before.before.before.if1.false in
-    (good, c.before.of.ensures, omega (arith, ((sound_exact _).0 good).routers_most, (start r).requires))
+    let good = its_topology c.before.before.before.before.before.before c.if-answer-ne0.false in
+    (good, c.of.ensures, omega (arith, ((sound_exact _).0 good).routers_most, (start c.before.before.before.before.before.before).requires))
 
-returns-2 : tie.Need-returns-2
+returns-2 : tie.Need-returns
 unfolding listing_output output_by printed
 returns-2 c =
-    let r = c.before.before.before.before.before.before.before.before.before in
-    let none = c.before.before.before.before.before.before.if1.false in
-    let good = its_topology r none in
-    let put = c.before.before.put_all_lem.ensures in
-    (omega (arith, put.after, all_length _ good, ((sound_exact _).0 good).routers_most), rw (← r.read.ensures, eq-eqb _ _ none) put)
+    let none = c.if-answer-ne0.false in
+    let good = its_topology c.before.before.before.before.before.before.before.before.before none in
+    let put = c.put_all.ensures in
+    (omega (arith, put.after, all_length _ good, ((sound_exact _).0 good).routers_most), rw (← c.read-reading.ensures, eq-eqb _ _ none) put)
 
 pub put_output_spec : {M : Type 1} → statement M
 put_output_spec =

@@ -14,24 +14,22 @@ use Rattle.routes.proofs.write_for.Statement.{statement}
 use Rattle.routes.proofs.write_for.Tie as tie
 
 -- the line of a refused stream
-fits : (c : tie.After-put-refused) → c.Put-refused.result ≤ length c.Put-refused.new.0
+fits : (c : tie.After-put_refused-end) → c.put_refused-end.result ≤ length c.put_refused-end.new.out
 fits c =
-    let start = c.before.before.before.before.before.before.before.before in
-    omega (arith, ended c.Put-refused.ensures (refused_length _), start.requires)
+    omega (arith, ended c.put_refused-end.ensures (refused_length _), c.requires)
 
-slice-aggregate-write-all : tie.Need-slice-aggregate-write-all
-slice-aggregate-write-all c = sym (length-take-le _ _ (fits c.before.before.before))
+slice-aggregate-write-all : tie.Need-slice_bounds-write_all-end-then-answer-ne0
+slice-aggregate-write-all c = sym (length-take-le _ _ (fits c.before.before))
 
 -- what was read
-its_topology : (c : tie.Else1) → T (sound c.before.before.before.read.result.topology)
+its_topology : (c : tie.Else-answer-ne0) → T (sound c.read-reading.result.topology)
 its_topology c =
-    let r = c.before.before.before in
-    read_sound r.before.before.before.args.stream.now (λ i. omega (arith, r.before.before.shared-slice-known.given i)) r.read.ensures c.if1.false
+    read_sound c.args.stream.now (λ i. omega (arith, c.shared_slice_known-1.given i)) c.read-reading.ensures c.if-answer-ne0.false
 
-write-each-requires : tie.Need-write-each-requires
+write-each-requires : tie.Need-write_each-requires
 write-each-requires c κs =
-    let else : tie.Else1 = c.before.before.before in
-    (its_topology else, c.before.of.ensures, else.before.before.before.before.before.before.requires)
+    let else : tie.Else-answer-ne0 = c.before.before.before in
+    (its_topology else, c.of.ensures, else.requires)
 
 pub write_for_spec : {M : Type 1} → statement M
 write_for_spec =

@@ -21,12 +21,9 @@ put_first {b} {text} {n} {b'} p h =
 
 returns : tie.Need-returns
 returns c =
-    let stepped = c.before.before.before.before.before.before.before.before.before in
-    let asked = stepped.before.before.before.before.before.before in
-    let entry = asked.before.before.before.before.before.before in
-    let s = rw (asked.inquiry-in.ensures.says (held_in entry.args.h entry.args.table.now)) at stepped.step.ensures in
-    let p = c.before.before.put-reply.ensures in
-    let first = put_first p.1 (omega (arith, p.0, entry.requires.2, asked.inquiry-in.auto.1.1.0)) in
+    let s = rw (c.inquiry_in-inquiry.ensures.says (held_in c.args.h c.args.table.now)) at c.step-next.ensures in
+    let p = c.put_reply-n.ensures in
+    let first = put_first p.1 (omega (arith, p.0, c.requires.2, c.inquiry_in-inquiry.auto.bytes)) in
     record { held = s.held; size = s.size; within = first.0; text = first.1 ∙ s.replies.says }
 
 pub respond_spec : {M : Type 1} → statement M

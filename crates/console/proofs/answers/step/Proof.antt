@@ -1,7 +1,7 @@
 -- A request is done by the function of its kind, and where it changes nothing the reply is all of it.
 -- Assumes nothing.
 use Prim.Native.Nat.{◌≤◌}
-use mathlib.Core.Path.{◌≡◌, sym}
+use mathlib.Core.Path.{sym}
 use native.Mathlib.Omega.{arith}
 use borrow.Author.Rules.{rules}
 use lib.ListN.{length}
@@ -16,50 +16,45 @@ use Rattle.console.proofs.answers.step.Statement.{statement}
 use Rattle.console.proofs.answers.step.Tie as tie
 
 -- what is asked keeps to its limits
-module _ (c : tie.After-known-told) where
+module _ (c : tie.In-Asks) where
   abbrev entry : tie.Start
-  entry = c.before.before.before.before.before.before
+  entry = c.before.before.before.before
 
-  within : c.before.inquiry.given.0.1.0.count ≤ length entry.args.bytes.now
+  within : c.in-Asks.q.count ≤ length entry.args.bytes.now
   unfolding count_asked
-  within = (ready_so c.before.inquiry.given.1 entry.pre.0).within
+  within = (ready_so c.in-Asks.is entry.requires.0).within
 
-  few : c.before.inquiry.given.0.1.0.count ≤ most_table
+  few : c.in-Asks.q.count ≤ most_table
   unfolding count_asked
-  few = (ready_so c.before.inquiry.given.1 entry.pre.0).few
+  few = (ready_so c.in-Asks.is entry.requires.0).few
 
-  room : c.before.inquiry.given.0.1.0.room ≤ most_room
+  room : c.in-Asks.q.room ≤ most_room
   unfolding room_asked
-  room = (ready_so c.before.inquiry.given.1 entry.pre.0).room
+  room = (ready_so c.in-Asks.is entry.requires.0).room
 
-returns : tie.Need-returns
+returns : tie.Need-returns-in_default
 unfolding inquiry_answer
-returns c = rw c.enum_told.given.1 (error_step c.before.before.before.before.before.requires.1.size)
+returns c = rw c.in_default.is (error_step c.requires.1.size)
 
-change-by-requires : tie.Need-change-by-requires
+change-by-requires : tie.Need-change_by-requires
 change-by-requires c κs =
-    let known = c.before.before.before.before.before in
-    let size = length-take-le known.before.inquiry.given.0.1.0.count (entry known).args.bytes.now (within known) in
-    ((entry known).requires.1, omega (arith, few known))
+    let size = length-take-le c.in-Asks.q.count (entry c.before.before).args.bytes.now (within c.before.before) in
+    ((entry c.before.before).requires.1, omega (arith, few c.before.before))
 
-returns-2 : tie.Need-returns-2
+returns-2 : tie.Need-returns-in-Changes
 unfolding inquiry_answer answer_to
 returns-2 c =
-    let told = c.before.before.before.before.before in
-    rw (told.before.before.before.before.inquiry.given.1, told.before.request.given.1) (c.before.before.change-by.ensures _)
+    rw (c.in-Asks.is, c.in-Changes.is) (c.change_by.ensures _)
 
-returns-3 : tie.Need-returns-3
+returns-3 : tie.Need-returns-in-Replies
 unfolding inquiry_answer answer_to leaving held_in
 returns-3 c =
-    let told = c.before.before.before.before.before.before.before in
-    let known = told.before.before.before in
-    rw (known.before.inquiry.given.1, told.before.request2.given.1) (kept_step (entry known).requires.1.size c.before.before.reply-by.ensures)
+    rw (c.in-Asks.is, c.in-Replies.is) (kept_step (entry c.before.before.before.before.before.before).requires.1.size c.reply_by.ensures)
 
-returns-4 : tie.Need-returns-4
+returns-4 : tie.Need-returns-in-Unknown
 unfolding inquiry_answer answer_to
 returns-4 c =
-    let known = c.before.before in
-    rw (known.before.inquiry.given.1, c.enum-told2.given.1) (error_step (entry known).requires.1.size)
+    rw (c.in-Asks.is, c.in-Unknown.is) (error_step (entry c.before).requires.1.size)
 
 pub step_spec : {M : Type 1} → statement M
 step_spec =
@@ -69,13 +64,13 @@ step_spec =
     (λ c. search rules)
     returns
     (λ c. search rules)
-    (λ c. sym (length-take-le _ _ (within c.before.before.before.before)))
+    (λ c. sym (length-take-le _ _ (within c.before)))
     change-by-requires
     (λ c. search rules)
-    (λ c. sym (length-take-le _ _ (within c.before.before.before.before.before)))
+    (λ c. sym (length-take-le _ _ (within c.before.before)))
     (λ c. search rules)
-    (λ c. sym (length-take-le _ _ (entry c.before.before.before.before.before.before).pre.1.size))
-    (λ c κs. let known = c.before.before.before.before.before.before.before in record { room = room known; filled = (entry known).requires.2 })
+    (λ c. sym (length-take-le _ _ (entry c.before.before).requires.1.size))
+    (λ c κs. record { room = room c.before.before.before; filled = (entry c.before.before.before).requires.2 })
     (λ c. search rules)
     (λ c. search rules)
     returns-2

@@ -14,10 +14,10 @@ use Rattle.console.specs.Inner.{form_number}
 use Rattle.console.proofs.requests.form_in.Statement.{statement}
 use Rattle.console.proofs.requests.form_in.Tie as tie
 
-abbrev invariant-loop : tie.invariant-loop
+abbrev invariant-loop : tie.invariant-loop-k
 invariant-loop line words kinds k₀ k = (k ≤ most_forms) × (form_number words kinds line most_forms 0 ≡ form_number words kinds line (most_forms - k) k)
 
-abbrev decreases-loop : tie.decreases-loop
+abbrev decreases-loop : tie.decreases-loop-k
 decreases-loop line words kinds k₀ k = most_forms - k
 
 -- the first of those that are left is tried
@@ -33,26 +33,26 @@ finished : (words kinds line : List ℕ) (k : ℕ) {n : ℕ} → n ≡ form_numb
 unfolding form_number
 finished words kinds line k e h = e ∙ rw h
 
-loop-holds : tie.Need-loop-init invariant-loop decreases-loop
+loop-holds : tie.Need-loop-k-init invariant-loop decreases-loop
 loop-holds c = (omega arith, refl)
 
 -- in a turn
 module _ (c : tie.After-asks invariant-loop decreases-loop) where
-  next : let l = c.before.before.before.before.loop in let a = c.before.before.before.before.before.before.before.before.args in
+  next : let l = c.loop-k in let a = c.args in
       form_number a.words.now a.kinds.now a.line.now most_forms 0 ≡
       cond c.asks.result l.k (form_number a.words.now a.kinds.now a.line.now (most_forms - (l.k + 1)) (l.k + 1))
   next =
-      tried _ _ _ _ c.before.before.before.before.loop.invariant.1 (omega arith) c.before.field2.ensures
-      c.before.before.field.ensures c.asks.ensures
+      tried _ _ _ _ c.loop-k.invariant.1 (omega arith) c.field.ensures
+      c.field-sorts.ensures c.asks.ensures
 
-returns : tie.Need-returns invariant-loop decreases-loop
-returns c = sym (next c.before ∙ rw c.if1.true)
+returns : tie.Need-returns-then-asks invariant-loop decreases-loop
+returns c = sym (next c.before ∙ rw c.if-asks.true)
 
-loop-again : tie.Need-loop-preserved invariant-loop decreases-loop
-loop-again c = (omega arith, next c.before ∙ rw c.if1.false)
+loop-again : tie.Need-loop-k-preserved invariant-loop decreases-loop
+loop-again c = (omega arith, next c.before ∙ rw c.if-asks.false)
 
-returns-2 : tie.Need-returns-2 invariant-loop decreases-loop
-returns-2 c = sym (finished _ _ _ _ c.before.loop.invariant.1 (omega arith))
+returns-2 : tie.Need-returns invariant-loop decreases-loop
+returns-2 c = sym (finished _ _ _ _ c.loop-k.invariant.1 (omega arith))
 
 pub form_in_spec : {M : Type 1} → statement M
 form_in_spec =

@@ -8,10 +8,9 @@ use Rattle.console.proofs.Forms.{within_line, too-long}
 use Rattle.console.proofs.requests.inquiry_in.Statement.{statement}
 use Rattle.console.proofs.requests.inquiry_in.Tie as tie
 
-line-asks-requires : tie.Need-line-asks-requires
+line-asks-requires : tie.Need-line_asks-requires
 line-asks-requires c κs =
-    let entry = c.before.before.before.before.before in
-    (omega (arith, length-take-le entry.args.count entry.args.line.now (omega arith)), entry.requires.1)
+    (omega (arith, length-take-le c.args.count c.args.line.now (omega arith)), c.requires.1)
 
 pub inquiry_in_spec : {M : Type 1} → statement M
 inquiry_in_spec =
@@ -20,5 +19,5 @@ inquiry_in_spec =
     (λ c. sym (length-take-le _ _ (omega arith)))
     line-asks-requires
     (λ c. search rules)
-    (λ c. within_line _ _ c.before.before.before.before.before.if1.true c.before.before.line-asks.ensures)
-    (λ c. too-long _ _ c.if1.false))
+    (λ c. within_line _ _ c.if-count-line.true c.line_asks.ensures)
+    (λ c. too-long _ _ c.if-count-line.false))

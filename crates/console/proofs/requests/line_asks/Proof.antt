@@ -8,37 +8,31 @@ use Rattle.console.proofs.Forms.{parted, form_words, form_kinds, first_form, fir
 use Rattle.console.proofs.requests.line_asks.Statement.{statement}
 use Rattle.console.proofs.requests.line_asks.Tie as tie
 
-abbrev begun : tie.After-form-in → tie.Start
+abbrev begun : tie.After-form_in-k → tie.Start
 begun c = c.before.before.before.before.before.before.before
 
 -- the form that was found
-found : (c : tie.After-form-in) → form_for forms (begun c).args.line.now ≡ form_at c.form_in.result forms
+found : (c : tie.After-form_in-k) → form_for forms (begun c).args.line.now ≡ form_at c.form_in-k.result forms
 unfolding form_words form_kinds parted forms form
-found c = first_form (begun c).args.line.now _ _ c.form_in.ensures refl refl
+found c = first_form (begun c).args.line.now _ _ c.form_in-k.ensures refl refl
 
 -- its kinds
 sorts : (c : tie.After-field) → c.field.result.now ≡ (form_for forms (begun c.before.before).args.line.now).kinds
 unfolding form_words form_kinds parted forms form
-sorts c = first_kinds (begun c.before.before).args.line.now _ _ c.before.before.form_in.ensures refl refl c.field.ensures
+sorts c = first_kinds (begun c.before.before).args.line.now _ _ c.form_in-k.ensures refl refl c.field.ensures
 
-returns : tie.Need-returns
+returns : tie.Need-returns-in_default
 unfolding response_to
 returns c =
-    let called = c.before.before.before.before in
-    let sorted = called.before.before in
-    let line = (begun sorted.before.before).args.line.now in
-    asks_nothing (form_for forms line) line (understood_so line (sorts sorted) c.enum_told.given.1 called.query-in.ensures)
+    let line = (begun c.before.before.before.before.before.before.before).args.line.now in
+    asks_nothing (form_for forms line) line (understood_so line (sorts c.before.before.before.before.before) c.in_default.is c.query_in.ensures)
 
-returns-2 : tie.Need-returns-2
+returns-2 : tie.Need-returns
 unfolding response_to
 returns-2 c =
-    let known = c.before in
-    let called = known.before.before.before.before.before in
-    let sorted = called.before.before in
-    let chosen = sorted.before.before in
-    let line = (begun chosen).args.line.now in
-    asks_so (form_for forms line) line _ (c.request-of.ensures ∙ ap (λ f. f.answer) (sym (found chosen)))
-    (understood_so line (sorts sorted) known.before.query.given.1 called.query-in.ensures)
+    let line = (begun c.before.before.before.before.before.before.before.before).args.line.now in
+    asks_so (form_for forms line) line _ (c.request_of-request.ensures ∙ ap (λ f. f.answer) (sym (found c.before.before.before.before.before.before.before.before)))
+    (understood_so line (sorts c.before.before.before.before.before.before) c.in-Is.is c.query_in.ensures)
 
 pub line_asks_spec : {M : Type 1} → statement M
 line_asks_spec =

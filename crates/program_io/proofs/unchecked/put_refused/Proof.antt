@@ -8,7 +8,7 @@ use Rattle.program_io.proofs.unchecked.put_refused.Tie as tie
 
 returns : tie.Need-returns
 unfolding refused_line refused_word
-returns c = c.before.before.put-word-line.ensures
+returns c = c.put_word_line.ensures
 
 pub put_refused_spec : {M : Type 1} → statement M
-put_refused_spec = tie.close (tie.spec (λ c. search rules) (λ c κs. search rules) (λ c. search rules) returns)
+put_refused_spec = tie.close (tie.spec (λ c κs. search rules) (λ c. search rules) returns)

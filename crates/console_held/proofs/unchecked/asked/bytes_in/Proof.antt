@@ -15,23 +15,21 @@ use Rattle.console_held.proofs.unchecked.asked.bytes_in.Tie as tie
 
 bytes-requires : tie.Need-bytes-requires
 bytes-requires c κs =
-    let entry = c.before.before.before.before.before.before in
-    let fits = text_fits bytes_field entry.args.kinds.now entry.args.line.now (45 ∷ []) most_line entry.requires.0 (omega arith) in
-    omega (arith, ap length c.before.text_of.ensures, entry.requires.1)
+    let fits = text_fits bytes_field c.args.kinds.now c.args.line.now (45 ∷ []) most_line c.requires.0 (omega arith) in
+    omega (arith, ap length c.text_of-digits.ensures, c.requires.1)
 
 returns : tie.Need-returns
 unfolding none
 returns c =
-    let entry = c.before.before.before.before.before.before.before.before.before in
-    let s = text_of_lem bytes_field entry.args.kinds.now entry.args.line.now none in
-    let fits = text_fits bytes_field entry.args.kinds.now entry.args.line.now none most_line entry.requires.0 (omega arith) in
-    let f : c.before.before.before.before.text_of.result.now ≡ s = c.before.before.before.before.text_of.ensures in
-    let called = c.before.before.bytes.ensures in
+    let s = text_of_lem bytes_field c.args.kinds.now c.args.line.now none in
+    let fits = text_fits bytes_field c.args.kinds.now c.args.line.now none most_line c.requires.0 (omega arith) in
+    let f : c.text_of-digits.result.now ≡ s = c.text_of-digits.ensures in
+    let called = c.bytes.ensures in
     let stored = rw f at called.1 in
     record {
       counted = rw f at called.0;
-      start = λ (n : ℕ) e. let d = decoded s _ _ stored n (omega (arith, entry.requires.1)) e in (d.0, d.1, omega (arith, (counted s n e).1));
+      start = λ (n : ℕ) e. let d = decoded s _ _ stored n (omega (arith, c.requires.1)) e in (d.0, d.1, omega (arith, (counted s n e).1));
     }
 
 pub bytes_in_spec : {M : Type 1} → statement M
-bytes_in_spec = tie.close (tie.spec (λ c. search rules) (λ c κs. search rules) bytes-requires (λ c. search rules) returns)
+bytes_in_spec = tie.close (tie.spec (λ c κs. search rules) bytes-requires (λ c. search rules) returns)

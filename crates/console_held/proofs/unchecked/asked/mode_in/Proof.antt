@@ -8,7 +8,7 @@ use Rattle.console_held.proofs.unchecked.asked.mode_in.Tie as tie
 
 returns : tie.Need-returns
 unfolding shortest_word
-returns c = c.Mode-of.ensures ∙ ap mode_named c.before.text_of.ensures
+returns c = c.mode_of.ensures ∙ ap mode_named c.text_of-word.ensures
 
 pub mode_in_spec : {M : Type 1} → statement M
-mode_in_spec = tie.close (tie.spec (λ c. search rules) (λ c κs. search rules) (λ c κs. search rules) returns)
+mode_in_spec = tie.close (tie.spec (λ c κs. search rules) (λ c κs. search rules) returns)

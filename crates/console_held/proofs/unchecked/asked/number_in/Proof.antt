@@ -9,7 +9,7 @@ use Rattle.console_held.proofs.unchecked.asked.number_in.Tie as tie
 
 returns : tie.Need-returns
 unfolding zero_text
-returns c = c.number.ensures ∙ ap (number _) c.before.text_of.ensures
+returns c = c.number.ensures ∙ ap (number _) c.text_of-digits.ensures
 
 pub number_in_spec : {M : Type 1} → statement M
-number_in_spec = tie.close (tie.spec (λ c. search rules) (λ c κs. search rules) (λ c κs. search rules) returns)
+number_in_spec = tie.close (tie.spec (λ c κs. search rules) (λ c κs. search rules) returns)

@@ -14,79 +14,75 @@ use Rattle.console_held.proofs.Asking.{not_asked}
 use Rattle.console_held.proofs.unchecked.asked.query_in.Statement.{statement}
 use Rattle.console_held.proofs.unchecked.asked.query_in.Tie as tie
 
-abbrev begun : tie.After-known-told → tie.Start
-begun c = c.before.before.before.before.before.before.before
+abbrev begun : tie.In-Is → tie.Start
+begun c = c.before.before.before.before.before
 
-placed : (c : tie.After-known-told) → let a = (begun c).args in
-    number most_byte (text_of_lem place_field a.kinds.now a.line.now zero_text) ≡ Is c.before.u.given.0.0
-placed c = sym c.before.before.before.number_in.ensures ∙ c.before.u.given.1
+placed : (c : tie.In-Is) → let a = (begun c).args in
+    number most_byte (text_of_lem place_field a.kinds.now a.line.now zero_text) ≡ Is c.in-Is.u
+placed c = sym c.number_in.ensures ∙ c.in-Is.is
 
 -- then the hops
-abbrev first : tie.After-known-told2 → tie.After-known-told
-first c = c.before.before.before.before
+abbrev first : tie.In-Is-number_in → tie.In-Is
+first c = c.before.before
 
-hopped : (c : tie.After-known-told2) → let a = (begun (first c)).args in
-    number most_byte (text_of_lem hops_field a.kinds.now a.line.now zero_text) ≡ Is c.before.k.given.0.0
-hopped c = sym c.before.before.before.number-in2.ensures ∙ c.before.k.given.1
+hopped : (c : tie.In-Is-number_in) → let a = (begun (first c)).args in
+    number most_byte (text_of_lem hops_field a.kinds.now a.line.now zero_text) ≡ Is c.in-Is-number_in.k
+hopped c = sym c.number_in-2.ensures ∙ c.in-Is-number_in.is
 
 -- then the mode
-abbrev second : tie.After-known-told3 → tie.After-known-told2
-second c = c.before.before.before.before
+abbrev second : tie.In-Is-mode_in → tie.In-Is-number_in
+second c = c.before.before
 
-named : (c : tie.After-known-told3) → let a = (begun (first (second c))).args in
-    mode_named (text_of_lem mode_field a.kinds.now a.line.now shortest_word) ≡ chosen.Is c.before.mode.given.0.0
-named c = sym c.before.before.before.mode-in.ensures ∙ c.before.mode.given.1
+named : (c : tie.In-Is-mode_in) → let a = (begun (first (second c))).args in
+    mode_named (text_of_lem mode_field a.kinds.now a.line.now shortest_word) ≡ chosen.Is c.in-Is-mode_in.mode
+named c = sym c.mode_in.ensures ∙ c.in-Is-mode_in.is
 
 -- then the room
-abbrev third : tie.After-known-told4 → tie.After-known-told3
-third c = c.before.before.before.before
+abbrev third : tie.In-Is-number_in-2 → tie.In-Is-mode_in
+third c = c.before.before
 
-roomed : (c : tie.After-known-told4) → let a = (begun (first (second (third c)))).args in
-    number most_room (text_of_lem room_field a.kinds.now a.line.now zero_text) ≡ Is c.before.room.given.0.0
-roomed c = sym c.before.before.before.number-in3.ensures ∙ c.before.room.given.1
+roomed : (c : tie.In-Is-number_in-2) → let a = (begun (first (second (third c)))).args in
+    number most_room (text_of_lem room_field a.kinds.now a.line.now zero_text) ≡ Is c.in-Is-number_in-2.room
+roomed c = sym c.number_in-3.ensures ∙ c.in-Is-number_in-2.is
 
 -- then the bytes
-abbrev fourth : tie.After-known-told5 → tie.After-known-told4
-fourth c = c.before.before.before.before.before.before.before
+abbrev fourth : tie.In-Is-bytes_in → tie.In-Is-number_in-2
+fourth c = c.before.before.before.before.before
 
-counted : (c : tie.After-known-told5) → let a = (begun (first (second (third (fourth c))))).args in
-    byte_count (text_of_lem bytes_field a.kinds.now a.line.now none) ≡ Is c.before.n.given.0.0
-counted c = sym c.before.before.before.before.before.bytes-in.ensures.counted ∙ c.before.n.given.1
+counted : (c : tie.In-Is-bytes_in) → let a = (begun (first (second (third (fourth c))))).args in
+    byte_count (text_of_lem bytes_field a.kinds.now a.line.now none) ≡ Is c.in-Is-bytes_in.n
+counted c = sym c.bytes_in.ensures.counted ∙ c.in-Is-bytes_in.is
 
-returns : tie.Need-returns
+returns : tie.Need-returns-in_default
 unfolding question_of question
-returns c = not_asked (rw (← c.before.before.number_in.ensures, c.enum_told.given.1))
+returns c = not_asked (rw (← c.number_in.ensures, c.in_default.is))
 
-returns-2 : tie.Need-returns-2
+returns-2 : tie.Need-returns-in_default-number_in
 unfolding question_of question
-returns-2 c = not_asked (rw (placed c.before.before.before, ← c.before.before.number-in2.ensures, c.enum-told2.given.1))
+returns-2 c = not_asked (rw (placed c.before.before, ← c.number_in-2.ensures, c.in_default-number_in.is))
 
-returns-3 : tie.Need-returns-3
+returns-3 : tie.Need-returns-in_default-mode_in
 unfolding question_of question
 returns-3 c =
-    let hops = c.before.before.before in
-    not_asked (rw (placed (first hops), hopped hops, ← c.before.before.mode-in.ensures, c.enum-told3.given.1))
+    not_asked (rw (placed (first c.before.before), hopped c.before.before, ← c.mode_in.ensures, c.in_default-mode_in.is))
 
-returns-4 : tie.Need-returns-4
+returns-4 : tie.Need-returns-in_default-number_in-2
 unfolding question_of question
 returns-4 c =
-    let mode = c.before.before.before in
-    not_asked (rw (placed (first (second mode)), hopped (second mode), named mode, ← c.before.before.number-in3.ensures, c.enum-told4.given.1))
+    not_asked (rw (placed (first (second c.before.before)), hopped (second c.before.before), named c.before.before, ← c.number_in-3.ensures, c.in_default-number_in-2.is))
 
-returns-5 : tie.Need-returns-5
+returns-5 : tie.Need-returns-in_default-bytes_in
 unfolding question_of question
 returns-5 c =
-    let called = c.before.before.before.before in
-    let room = called.before.before in
-    let mode = third room in
-    not_asked (rw (placed (first (second mode)), hopped (second mode), named mode, roomed room, ← called.bytes-in.ensures.counted, c.enum-told5.given.1))
+    let mode = third c.before.before.before.before.before in
+    not_asked (rw (placed (first (second mode)), hopped (second mode), named mode, roomed c.before.before.before.before.before, ← c.bytes_in.ensures.counted, c.in_default-bytes_in.is))
 
-returns-6 : tie.Need-returns-6
+returns-6 : tie.Need-returns
 unfolding question_of question question_said question_in count_said room_said
 returns-6 c =
     let room = fourth c in
     let mode = third room in
-    let start = c.before.before.before.before.before.bytes-in.ensures.start _ (counted c) in
+    let start = c.bytes_in.ensures.start _ (counted c) in
     record {
       says = rw (placed (first (second mode)), hopped (second mode), named mode, roomed room, counted c, ← start.0);
       within = start.1;

@@ -8,7 +8,7 @@ use Rattle.console_held.proofs.unchecked.holding.import.Tie as tie
 
 returns : tie.Need-returns
 unfolding import_by question_in
-returns c buffer = rw (← c.before.import.ensures) (c.hold.ensures _ _ c.before.before.before.before.requires.0.size)
+returns c buffer = rw (← c.import-reading.ensures) (c.hold.ensures _ _ c.requires.0.size)
 
 pub import_spec : {M : Type 1} → statement M
 import_spec = tie.close (tie.spec (λ c κs. search rules) (λ c κs. search rules) returns)

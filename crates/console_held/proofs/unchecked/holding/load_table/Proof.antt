@@ -16,13 +16,12 @@ use Rattle.console_held.proofs.unchecked.holding.load_table.Tie as tie
 returns : tie.Need-returns
 unfolding load_by held_in question_in answer_of
 returns c buffer =
-    let called = c.before.before.before.before.put in
-    let entry = c.before.before.before.before.before.before.before.before in
+    let called = c.put-n in
     let put = called.ensures in
     let long = simp length-sets at (ap length put.stored) in
-    let fits : called.result ≤ length entry.args.table.now = omega (arith, put.after, entry.requires.1, entry.requires.0.room) in
+    let fits : called.result ≤ length c.args.table.now = omega (arith, put.after, c.requires.1, c.requires.0.room) in
     record {
-      held = rw (start entry.args.table.now entry.args.bytes.now _ called.result put.stored (omega (arith, put.after)) fits);
+      held = rw (start c.args.table.now c.args.bytes.now _ called.result put.stored (omega (arith, put.after)) fits);
       size = omega arith;
       replies = answer_reply refl;
     }

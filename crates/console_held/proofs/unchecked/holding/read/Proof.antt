@@ -8,7 +8,7 @@ use Rattle.console_held.proofs.unchecked.holding.read.Tie as tie
 
 returns : tie.Need-returns
 unfolding read_by question_in
-returns c buffer = rw (← c.before.read.ensures) (c.hold.ensures _ _ c.before.before.before.before.requires.0.size)
+returns c buffer = rw (← c.read-reading.ensures) (c.hold.ensures _ _ c.requires.0.size)
 
 pub read_spec : {M : Type 1} → statement M
 read_spec = tie.close (tie.spec (λ c κs. search rules) (λ c κs. search rules) returns)

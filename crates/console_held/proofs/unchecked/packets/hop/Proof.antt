@@ -12,17 +12,15 @@ use Rattle.console_held.proofs.unchecked.packets.hop.Tie as tie
 returns : tie.Need-returns
 unfolding hop_by_lem hop_answer held_in question_in
 returns c buffer =
-    let called = c.before.before.before in
-    let entry = called.before.before.before.before.before.before in
-    rw (← called.lend-to-hop.ensures)
-    (carried_step entry.args.h _ c.carry.ensures entry.requires.0.size (c.before.hop-reply.ensures _))
+    rw (← c.lend_to_hop-after.ensures)
+    (carried_step c.args.h _ c.carry.ensures c.requires.0.size (c.hop_reply.ensures _))
 
 pub hop_spec : {M : Type 1} → statement M
 hop_spec =
     tie.close
     (tie.spec
     (λ c. search rules)
-    (λ c. sym (length-take-le _ _ c.before.before.before.before.before.requires.0.size))
+    (λ c. sym (length-take-le _ _ c.requires.0.size))
     (λ c κs. search rules)
     (λ c κs. search rules)
     (λ c κs. search rules)

@@ -12,8 +12,7 @@ use Rattle.console_held.proofs.unchecked.packets.load.Tie as tie
 returns : tie.Need-returns
 unfolding load_packet_by question_in packet_in answer_of
 returns c buffer =
-    let entry = c.before.before.before.before in
-    carried_step entry.args.h _ c.carry.ensures entry.requires.0.size (answer_reply refl)
+    carried_step c.args.h _ c.carry.ensures c.requires.0.size (answer_reply refl)
 
 pub load_spec : {M : Type 1} → statement M
 load_spec = tie.close (tie.spec (λ c κs. search rules) returns)

@@ -10,10 +10,8 @@ use Rattle.console_held.proofs.unchecked.packets.set.Tie as tie
 returns : tie.Need-returns
 unfolding setting_by set_answer held_in question_in
 returns c buffer =
-    let called = c.before.before.before in
-    let entry = called.before.before.before.before.before.before in
-    rw (← called.lend-to-set.ensures)
-    (carried_step entry.args.h _ c.carry.ensures entry.requires.0.size (c.before.setting-reply.ensures _))
+    rw (← c.lend_to_set-after.ensures)
+    (carried_step c.args.h _ c.carry.ensures c.requires.0.size (c.setting_reply.ensures _))
 
 pub set_spec : {M : Type 1} → statement M
 set_spec = tie.close (tie.spec (λ c κs. search rules) (λ c κs. search rules) (λ c κs. search rules) returns)

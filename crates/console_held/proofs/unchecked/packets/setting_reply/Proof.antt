@@ -16,5 +16,5 @@ setting_reply_spec =
     (tie.spec
     (λ c. search rules)
     (λ c. search rules)
-    (λ c buffer. rw c.enum_told.given.1 (plain_reply refl))
-    (λ c buffer. rw c.before.answer.given.1 (plain_reply refl)))
+    (λ c buffer. rw c.in-Set.is (plain_reply refl))
+    (λ c buffer. rw c.in-Refused.is (plain_reply refl)))

@@ -11,16 +11,14 @@ use Rattle.console_replies.proofs.unchecked.calls.build_order.Tie as tie
 returns : tie.Need-returns
 unfolding order_by question_in
 returns c =
-    let called = c.before.before in
-    let entry = called.before.before.before.before.before.before in
-    left_reply entry.requires (building entry.args.t _ _) called.build.ensures called.build.auto.1.1.1.0
+    left_reply c.requires (building c.args.t _ _) c.build-answer.ensures c.build-answer.auto.out
 
 pub build_order_spec : {M : Type 1} → statement M
 build_order_spec =
     tie.close
     (tie.spec
-    (λ c. within c.before.before.before.before.requires)
-    (λ c. sized c.before.before.before.before.before.requires)
+    (λ c. within c.requires)
+    (λ c. sized c.requires)
     (λ c κs. search rules)
     (λ c. search rules)
     returns)

@@ -9,7 +9,7 @@ use Rattle.console_replies.proofs.unchecked.calls.check_order.Tie as tie
 
 returns : tie.Need-returns
 unfolding check_order_by question_in
-returns c = answer_reply c.check.ensures
+returns c = answer_reply c.check-answer.ensures
 
 pub check_order_spec : {M : Type 1} → statement M
 check_order_spec = tie.close (tie.spec (λ c κs. search rules) returns)

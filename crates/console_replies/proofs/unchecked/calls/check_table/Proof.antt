@@ -8,7 +8,7 @@ use Rattle.console_replies.proofs.unchecked.calls.check_table.Tie as tie
 
 returns : tie.Need-returns
 unfolding check_table_by
-returns c = answer_reply c.check.ensures
+returns c = answer_reply c.check-answer.ensures
 
 pub check_table_spec : {M : Type 1} → statement M
 check_table_spec = tie.close (tie.spec (λ c κs. search rules) returns)

@@ -11,16 +11,14 @@ use Rattle.console_replies.proofs.unchecked.calls.count_hops.Tie as tie
 returns : tie.Need-returns
 unfolding count_by question_in
 returns c =
-    let called = c.before.before in
-    let entry = called.before.before.before.before.before in
-    left_reply entry.requires (counting_hops entry.args.t entry.args.table.now) called.greatest-hops.ensures called.greatest-hops.auto.1.1.0
+    left_reply c.requires (counting_hops c.args.t c.args.table.now) c.greatest_hops-answer.ensures c.greatest_hops-answer.auto.out
 
 pub count_hops_spec : {M : Type 1} → statement M
 count_hops_spec =
     tie.close
     (tie.spec
-    (λ c. within c.before.before.before.requires)
-    (λ c. sized c.before.before.before.before.requires)
+    (λ c. within c.requires)
+    (λ c. sized c.requires)
     (λ c κs. search rules)
     (λ c. search rules)
     returns)

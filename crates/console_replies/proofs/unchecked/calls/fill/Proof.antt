@@ -11,16 +11,14 @@ use Rattle.console_replies.proofs.unchecked.calls.fill.Tie as tie
 returns : tie.Need-returns
 unfolding fill_by question_in
 returns c =
-    let called = c.before.before in
-    let entry = called.before.before.before.before.before.before in
-    left_reply entry.requires (filling entry.args.t _ _) called.fill.ensures called.fill.auto.1.1.1.0
+    left_reply c.requires (filling c.args.t _ _) c.fill-answer.ensures c.fill-answer.auto.out
 
 pub fill_spec : {M : Type 1} → statement M
 fill_spec =
     tie.close
     (tie.spec
-    (λ c. within c.before.before.before.before.requires)
-    (λ c. sized c.before.before.before.before.before.requires)
+    (λ c. within c.requires)
+    (λ c. sized c.requires)
     (λ c κs. search rules)
     (λ c. search rules)
     returns)

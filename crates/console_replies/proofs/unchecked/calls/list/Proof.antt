@@ -11,16 +11,14 @@ use Rattle.console_replies.proofs.unchecked.calls.list.Tie as tie
 returns : tie.Need-returns
 unfolding list_by question_in
 returns c =
-    let called = c.before.before in
-    let entry = called.before.before.before.before.before.before in
-    left_reply entry.requires (listing entry.args.t _) called.listing.ensures called.listing.auto.1.1.0
+    left_reply c.requires (listing c.args.t _) c.listing-answer.ensures c.listing-answer.auto.out
 
 pub list_spec : {M : Type 1} → statement M
 list_spec =
     tie.close
     (tie.spec
-    (λ c. within c.before.before.before.before.requires)
-    (λ c. sized c.before.before.before.before.before.requires)
+    (λ c. within c.requires)
+    (λ c. sized c.requires)
     (λ c κs. search rules)
     (λ c. search rules)
     returns)

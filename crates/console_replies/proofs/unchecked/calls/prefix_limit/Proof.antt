@@ -11,16 +11,14 @@ use Rattle.console_replies.proofs.unchecked.calls.prefix_limit.Tie as tie
 returns : tie.Need-returns
 unfolding old_stream_by question_in
 returns c =
-    let called = c.before.before in
-    let entry = called.before.before.before.before.before in
-    left_reply entry.requires (with_old_limit_lem _) called.with-old-limit.ensures called.with-old-limit.auto.1.0
+    left_reply c.requires (with_old_limit_lem _) c.with_old_limit-answer.ensures c.with_old_limit-answer.auto.out
 
 pub prefix_limit_spec : {M : Type 1} → statement M
 prefix_limit_spec =
     tie.close
     (tie.spec
-    (λ c. within c.before.before.before.requires)
-    (λ c. sized c.before.before.before.before.requires)
+    (λ c. within c.requires)
+    (λ c. sized c.requires)
     (λ c κs. search rules)
     (λ c. search rules)
     returns)

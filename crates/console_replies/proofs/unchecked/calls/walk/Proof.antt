@@ -8,7 +8,7 @@ use Rattle.console_replies.proofs.unchecked.calls.walk.Tie as tie
 
 returns : tie.Need-returns
 unfolding walk_by_lem question_in
-returns c = rw (← c.before.walk.ensures) (c.walk-reply.ensures _)
+returns c = rw (← c.walk-walked.ensures) (c.walk_reply.ensures _)
 
 pub walk_spec : {M : Type 1} → statement M
 walk_spec = tie.close (tie.spec (λ c κs. search rules) (λ c κs. search rules) returns)

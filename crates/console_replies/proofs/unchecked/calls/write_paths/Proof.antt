@@ -11,16 +11,14 @@ use Rattle.console_replies.proofs.unchecked.calls.write_paths.Tie as tie
 returns : tie.Need-returns
 unfolding paths_by question_in
 returns c =
-    let called = c.before.before in
-    let entry = called.before.before.before.before.before.before in
-    left_reply entry.requires (writing_paths entry.args.t entry.args.table.now _) called.write.ensures called.write.auto.1.1.1.0
+    left_reply c.requires (writing_paths c.args.t c.args.table.now _) c.write-answer.ensures c.write-answer.auto.out
 
 pub write_paths_spec : {M : Type 1} → statement M
 write_paths_spec =
     tie.close
     (tie.spec
-    (λ c. within c.before.before.before.before.requires)
-    (λ c. sized c.before.before.before.before.before.requires)
+    (λ c. within c.requires)
+    (λ c. sized c.requires)
     (λ c κs. search rules)
     (λ c. search rules)
     returns)

@@ -9,9 +9,7 @@ use Rattle.console_replies.proofs.unchecked.costs.numbers_of.Tie as tie
 returns : tie.Need-returns
 unfolding cost_numbers
 returns c =
-    let first = c.before.before.before in
-    let patterns = first.before.before.before in
-    rw (patterns.before.pattern.ensures, patterns.pattern2.ensures, first.presence.ensures, c.before.presence2.ensures, c.presence3.ensures) refl
+    rw (c.pattern-maximum.ensures, c.pattern-reservable.ensures, c.presence.ensures, c.presence-2.ensures, c.presence-3.ensures) refl
 
 pub numbers_of_spec : {M : Type 1} → statement M
 numbers_of_spec =

@@ -5,11 +5,11 @@ use Rattle.console_replies.specs.Calls as said
 use Rattle.console_replies.proofs.unchecked.costs.presence.Statement.{statement}
 use Rattle.console_replies.proofs.unchecked.costs.presence.Tie as tie
 
-returns : tie.Need-returns
+returns : tie.Need-returns-then-has
 unfolding said.presence
 returns c = search rules
 
-returns-2 : tie.Need-returns-2
+returns-2 : tie.Need-returns
 unfolding said.presence
 returns-2 c = search rules
 

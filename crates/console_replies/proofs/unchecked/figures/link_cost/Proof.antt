@@ -12,18 +12,16 @@ use Rattle.console_replies.proofs.unchecked.figures.link_cost.Tie as tie
 returns : tie.Need-returns
 unfolding te_by cost_line question_in
 returns c =
-    let put = c.before.before in
-    let numbered = put.before.before.before in
-    rw (← numbered.before.cost.ensures, ← numbered.Numbers-of.ensures)
-    (numbers_reply numbered.Numbers-of.result put.put-numbers.ensures (omega (arith, whole numbered.before.before.before.before.before.requires)))
+    rw (← c.cost-c.ensures, ← c.numbers_of-numbers.ensures)
+    (numbers_reply c.numbers_of-numbers.result c.put_numbers-end.ensures (omega (arith, whole c.requires)))
 
 pub link_cost_spec : {M : Type 1} → statement M
 link_cost_spec =
     tie.close
     (tie.spec
     (λ c κs. search rules)
-    (λ c κs. no_nans _ c.cost.ensures)
+    (λ c κs. no_nans _ c.cost-c.ensures)
     (λ c. search rules)
-    (λ c κs. (omega arith, omega (arith, whole c.before.before.before.before.before.before.before.requires)))
+    (λ c κs. (omega arith, omega (arith, whole c.requires)))
     (λ c. search rules)
     returns)

@@ -8,7 +8,7 @@ use Rattle.console_replies.proofs.unchecked.putting.put_packet.Tie as tie
 
 returns : tie.Need-returns
 unfolding packet_line packet_in
-returns c = c.before.before.put-word-line.ensures
+returns c = c.put_word_line.ensures
 
 pub put_packet_spec : {M : Type 1} → statement M
 put_packet_spec = tie.close (tie.spec (λ c. search rules) (λ c κs. search rules) (λ c. search rules) returns)

@@ -29,69 +29,58 @@ fate_short Moved = omega arith
 fate_short Dropped = omega arith
 
 -- the buffer has the bytes that the reply names
-within : (c : tie.After-known-told2) → c.before.reply2.given.0.1.0 ≤ length c.before.before.before.before.before.args.buffer.now
+within : (c : tie.In-Leaves) → c.in-Leaves.n ≤ length c.args.buffer.now
 unfolding room_of
-within c = rw c.before.reply2.given.1 at c.before.before.before.before.before.requires.0
+within c = rw c.in-Leaves.is at c.requires.0
 
-put-buffer-line-requires : tie.Need-put-buffer-line-requires
+put-buffer-line-requires : tie.Need-put_buffer_line-requires
 put-buffer-line-requires c κs =
-    let known = c.before.before in
-    let start = known.before.before.before.before.before in
-    let size = length-take-le known.before.reply2.given.0.1.0 start.args.buffer.now (within known) in
-    omega (arith, within known, start.requires.1, start.requires.2)
+    let size = length-take-le c.in-Leaves.n c.args.buffer.now (within c.before) in
+    omega (arith, within c.before, c.requires.1, c.requires.2)
 
 -- the same of a line
-line_within : (c : tie.After-known-told3) → c.before.reply3.given.0.0 ≤ length c.before.before.before.before.before.args.buffer.now
+line_within : (c : tie.In-Line) → c.in-Line.n ≤ length c.args.buffer.now
 unfolding room_of
-line_within c = rw c.before.reply3.given.1 at c.before.before.before.before.before.requires.0
+line_within c = rw c.in-Line.is at c.requires.0
 
-put-line-requires : tie.Need-put-line-requires
+put-line-requires : tie.Need-put_line-requires
 put-line-requires c κs =
-    let known = c.before.before in
-    let start = known.before.before.before.before.before in
-    let size = length-take-le known.before.reply3.given.0.0 start.args.buffer.now (line_within known) in
-    omega (arith, line_within known, start.requires.1, start.requires.2)
+    let size = length-take-le c.in-Line.n c.args.buffer.now (line_within c.before) in
+    omega (arith, line_within c.before, c.requires.1, c.requires.2)
 
-returns : tie.Need-returns
+returns : tie.Need-returns-in-Error
 unfolding reply_text error_line
-returns c = rw c.before.before.before.before.enum_told.given.1 (omega arith, c.before.before.put-error.ensures)
+returns c = rw c.in-Error.is (omega arith, c.put_error.ensures)
 
-returns-2 : tie.Need-returns-2
+returns-2 : tie.Need-returns-in-Says
 unfolding reply_text answer_of
 returns-2 c =
-    let r = c.before.before.before.before.before.reply.given in
-    rw r.1 (omega (arith, answer_line_length r.0.0.number r.0.0.at), c.before.before.put-answer-line.ensures)
+    let a = c.in-Says.answer in
+    rw c.in-Says.is (omega (arith, answer_line_length a.number a.at), c.put_answer_line.ensures)
 
-returns-3 : tie.Need-returns-3
+returns-3 : tie.Need-returns-in-Leaves
 unfolding reply_text
 returns-3 c =
-    let known = c.before.before.before.before.before in
-    let start = known.before.before.before.before.before in
-    let r = known.before.reply2.given in
-    let size = length-take-le r.0.1.0 start.args.buffer.now (within known) in
-    let short = buffer_line_length r.0.0.number r.0.0.at (take r.0.1.0 start.args.buffer.now) in
-    rw r.1 (omega (arith, within known, short, start.requires.1), c.before.before.put-buffer-line.ensures)
+    let a = c.in-Leaves.answer in
+    let size = length-take-le c.in-Leaves.n c.args.buffer.now (within c.before.before.before.before) in
+    let short = buffer_line_length a.number a.at (take c.in-Leaves.n c.args.buffer.now) in
+    rw c.in-Leaves.is (omega (arith, within c.before.before.before.before, short, c.requires.1), c.put_buffer_line.ensures)
 
-returns-4 : tie.Need-returns-4
+returns-4 : tie.Need-returns-in-Line
 unfolding reply_text
 returns-4 c =
-    let known = c.before.before.before.before.before in
-    let start = known.before.before.before.before.before in
-    let r = known.before.reply3.given in
-    let size = length-take-le r.0.0 start.args.buffer.now (line_within known) in
-    rw r.1 (simp length-append (omega (arith, line_within known, start.requires.1)), c.before.before.put-line.ensures)
+    let size = length-take-le c.in-Line.n c.args.buffer.now (line_within c.before.before.before.before) in
+    rw c.in-Line.is (simp length-append (omega (arith, line_within c.before.before.before.before, c.requires.1)), c.put_line.ensures)
 
-returns-5 : tie.Need-returns-5
+returns-5 : tie.Need-returns-in-Finds
 unfolding reply_text packet_line
 returns-5 c =
-    let r = c.before.before.before.before.before.reply4.given in
-    rw r.1 (word_fits _ _ _ (fate_short r.0.0), c.before.before.put-found.ensures)
+    rw c.in-Finds.is (word_fits _ _ _ (fate_short c.in-Finds.fate), c.put_found.ensures)
 
-returns-6 : tie.Need-returns-6
+returns-6 : tie.Need-returns-in-Refused
 unfolding reply_text refused_word
 returns-6 c =
-    let r = c.before.before.before.before.before.before.reply5.given in
-    rw r.1 (word_fits _ _ _ (omega arith), c.before.before.put-word-line.ensures)
+    rw c.in-Refused.is (word_fits _ _ _ (omega arith), c.put_word_line.ensures)
 
 pub put_reply_spec : {M : Type 1} → statement M
 put_reply_spec =
@@ -102,14 +91,13 @@ put_reply_spec =
     (λ c. search rules)
     (λ c κs. search rules)
     (λ c. search rules)
-    (λ c. sym (length-take-le _ _ (within c.before.before)))
+    (λ c. sym (length-take-le _ _ (within c.before)))
     put-buffer-line-requires
     (λ c. search rules)
-    (λ c. sym (length-take-le _ _ (line_within c.before.before)))
+    (λ c. sym (length-take-le _ _ (line_within c.before)))
     put-line-requires
     (λ c. search rules)
     (λ c κs. search rules)
-    (λ c. search rules)
     (λ c. search rules)
     (λ c κs. search rules)
     (λ c. search rules)
