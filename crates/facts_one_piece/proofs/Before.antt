@@ -42,9 +42,8 @@ use Rattle.order.proofs.Runs.{map_same}
 use Rattle.order.proofs.Reached.{accepted_long, built_long}
 use Rattle.table_rows.specs.Layout.{narrow, row_start_lem, table_length}
 use Rattle.table.specs.Calls.{table_checking}
-use Rattle.table.proofs.Fields.{fields_read}
 use Rattle.table.proofs.Fills.{fills_well, given_is_filled}
-use Rattle.table.proofs.Verdicts.{accepted_given}
+use Rattle.table.proofs.Stands.{accepted_stands}
 use Rattle.forwarding_rules.specs.Calls.{figure, figure_byte, figures}
 use Rattle.forwarding_rules.specs.Theorems.{destination_byte, rank_byte, Reached}
 use Rattle.forwarding_rules.proofs.Listed.{ranks_tell}
@@ -179,7 +178,7 @@ module _ (t : Topology) (good : T (sound t)) (one : InOnePiece t) where
 
   module _ (table : List ℕ) (right : table_checking t table ≡ answer 0 0) where
     goal : destination_byte table < t.routers
-    goal = rw (fields_read table).destination (accepted_given t good table right).place
+    goal = (accepted_stands t good table right).place
 
     all : (u : ℕ) → u < t.routers → Reached t table u
     all u h = paths (destination_byte table) u goal h

@@ -1,44 +1,40 @@
--- A router table that is accepted obeys the laws, so that demand 3 holds of it: network's laws for its order are those of what it lists; its calls do what
--- forwarding by it does; a schedule is its rows laid end to end; its figures are the longest ways; and the rule, said of its bytes, is first-live.
+-- A router table that is accepted obeys the laws, so that demand 3 holds of it: network's laws for rows along which ranks fall hold of what it lists; its
+-- calls do what forwarding by it does; a schedule is its rows laid end to end; its figures are the longest ways; and the rule, said of its bytes, is first-live.
 -- Assumes nothing.
 use Prim.Native.Nat.{ℕ, suc, pred, ◌<◌}
 use mathlib.Core.List.{List, Memᴰ}
 use mathlib.Core.Logic.Iff
 use mathlib.Core.Logic.{◌↔◌, ⊎_elim}
 use mathlib.Core.Option.{none, some, none-ne-some, some-injective}
-use mathlib.Core.Path.{◌≡◌, refl, sym, ap, ◌∙◌, subst}
+use mathlib.Core.Path.{◌≡◌, refl, sym, ◌∙◌, subst}
 use native.Mathlib.Decide.{dec_lt}
 use native.Mathlib.Omega.{arith}
-use lib.Dec.{T, eqb, eqb→eq}
+use lib.Dec.{T, eqb→eq}
 use Rattle.network.specs.Network.{Arc, Network, arcs_of}
-use Rattle.network.specs.Distance.{arrived, distance}
-use Rattle.network.specs.Order.{shortest-path, accepted}
-use Rattle.network.specs.Row.{rank}
+use Rattle.network.specs.Distance.{arrived}
+use Rattle.network.specs.Order.{shortest-path}
 use Rattle.network.specs.Forwarding.{Packet, start, longest}
 use Rattle.network.specs.Routing.{valid_states, first_live, cost_of_lem}
-use Rattle.network.specs.Theorems.Routing as network
-use Rattle.network.specs.Theorems.Routing.{FirstLive}
+use Rattle.network.specs.Theorems.Routing.{FirstLive, ShortestEntry}
 use Rattle.network.proofs.Tests.{eq_test}
 use Rattle.network.proofs.Live.{none_live, down_none, first-live, down_or_live}
-use Rattle.network.proofs.Rank.{rank_zero}
 use Rattle.network.proofs.Forwarding.{settled}
-use Rattle.network.proofs.Routing.{entry_arc}
 use Rattle.network.proofs.Order.{acceptance_exact}
-use Rattle.network.proofs.ShortestWalk as shortest
+use Rattle.network.proofs.ShortestWalk.{shortest_by_rows}
 use Rattle.topology_types.specs.declared.Topology.{Topology}
 use Rattle.topology_types.specs.Topology.{network_of}
 use Rattle.topology_types.specs.Outcome.{answer}
 use Rattle.topology_sound.specs.Sound.{sound}
-use Rattle.table.specs.Listed.{destination_in_lem, entries_in, listed}
+use Rattle.table.specs.Listed.{destination_in_lem, falling_rank, entries_in, listed, in_shortest_path_mode}
 use Rattle.table.specs.Calls.{table_checking}
 use Rattle.forwarding_rules.specs.Schedule.{rows_in}
 use Rattle.forwarding_rules.specs.Calls.{done, by, figure, setting_at}
 use Rattle.forwarding_rules.specs.Lent.{setting_packet, hopping_packet}
-use Rattle.forwarding_rules.specs.Theorems.{SoundSchedule, NoneUp, FirstUp, destination_byte, router_table, ShortestWalk, ShortestWalks, TablesMeet}
+use Rattle.forwarding_rules.specs.Theorems.{SoundSchedule, NoneUp, FirstUp, destination_byte, Reached, router_table, ShortestWalk, ShortestWalks, TablesMeet}
 use Rattle.forwarding_rules.specs.Theorems.{HopsByRule, WalksEnd, WalksByHops, CutOffDrops, CallsExact, CallsByRule, CallsInTurn}
 use Rattle.forwarding_rules.specs.Theorems.Demand3.{WalkCosts}
 use Rattle.forwarding_rules.specs.Inner.{LeftByAnswer, Laws}
-use Rattle.forwarding_rules.proofs.Listed.{Over, over, reached_or, rank_reached, figure_reached, figure_unreached, row_unreached}
+use Rattle.forwarding_rules.proofs.Listed.{Over, over, reached_or, figure_reached, figure_unreached, row_unreached}
 use Rattle.forwarding_rules.proofs.Rules.{down_none_up, first_live_up}
 use Rattle.forwarding_rules.proofs.Laid.{enough, row_there, all-up, valid_sound, schedule_of}
 use Rattle.forwarding_rules.proofs.Tested.{clash}
@@ -64,13 +60,9 @@ module _ (t : Topology) (good : T (sound t)) (table : List ℕ) (right : table_c
   abbrev Valid : List ℕ → Type 0
   Valid states = T (valid_states n states)
 
-  to_d : (u : ℕ) → u ≡ o.d → T (eqb u (destination_byte table))
-  to_d u e = eq_test (e ∙ sym o.destination_is)
-
   -- the arc behind an entry
   arc_of : (u : ℕ) (a : Arc) → Memᴰ a (entries_in n table u) → Memᴰ a (arcs_of n u)
-  arc_of u a m =
-      entry_arc n o.well_formed o.d o.inside o.limit o.order o.in_free u a (rw (o.entries_are u) at m)
+  arc_of = o.falling.arcs
 
   -- a setting that is not refused is below N
   set_below : (u : ℕ) (q : Packet ℕ) → setting_at t u ≡ done q → u < t.routers
@@ -86,7 +78,7 @@ module _ (t : Topology) (good : T (sound t)) (table : List ℕ) (right : table_c
   far u place =
       let all : suc (pred t.routers) ≡ t.routers = omega arith in
       subst (λ (left : ℕ). longest (by t table) left u ≡ longest (by t table) (pred t.routers) u) all
-      (settled (by t table) (rank o.order) Valid o.lawful (pred t.routers) u (omega (arith, o.rank_below u place)))
+      (settled (by t table) (falling_rank t.routers table) Valid o.lawful (pred t.routers) u (omega (arith, o.rank_below u place)))
 
   module _ (states : List ℕ) (u : ℕ) where
     abbrev entries : List Arc
@@ -111,7 +103,7 @@ module _ (t : Topology) (good : T (sound t)) (table : List ℕ) (right : table_c
   unfolding listed destination_in_lem start cost_of_lem
   laws =
       record {
-        rank = rank o.order;
+        rank = falling_rank t.routers table;
         valid = Valid;
         inside = λ u. u < t.routers;
         rows = pred t.routers;
@@ -131,13 +123,13 @@ module _ (t : Topology) (good : T (sound t)) (table : List ℕ) (right : table_c
         walks_only = λ u schedule w e. let (g, place, r, sound) = (walks_done t table u schedule).0 (w, e) in (place, sound);
         enough = enough t;
         row_there = row_there t;
-        row_past = λ schedule sound p left place none_left off. absurd (off (to_d p.station (rank_zero o.given.in_free p.station none_left)));
+        row_past = λ schedule sound p left place none_left off. absurd (off (eq_test (o.falling.only_home p.station none_left)));
         run_of = schedule_of t o.links_are;
-        either = λ u place. reached_or good o u;
+        either = λ u place. reached_or o u;
         figure_reached = λ u place path. figure_reached good o u place path ∙ sym (o.hops_are u) ∙ far u place;
-        within_bound = λ u place path. omega (arith, rank_reached good o u place path);
+        within_bound = λ u place path. omega (arith, o.rank_reached u place path);
         figure_unreached = figure_unreached good o;
-        row_unreached = λ u place out. (o.entries_are u ∙ row_unreached good o u place out, λ home. out (arrived (eqb→eq _ _ home)));
+        row_unreached = λ u place out. (row_unreached good o u place out, λ home. out (arrived (eqb→eq _ _ home)));
         home_is = λ p stands. (eqb→eq _ _, eq_test);
         chooses_none = λ states p stands sound. none_live_up states p.station;
         chooses = λ states p stands sound. first-up states p.station;
@@ -146,25 +138,22 @@ module _ (t : Topology) (good : T (sound t)) (table : List ℕ) (right : table_c
         one_more = λ u place a rest m. (a.cost, (a, arc_of u a m, refl, refl), refl);
       }
 
-  shortest_here : (schedule : List ℕ) (s : SoundSchedule t schedule) (u : ℕ) → u < t.routers →
-      network.ShortestWalk n o.d o.limit o.order (rows_in t.routers t.links schedule) u → ShortestWalk t table u schedule
-  unfolding laws
-  shortest_here schedule s u place x =
-      let xs = rows_in t.routers t.links schedule in
+  shortest_here : ShortestEntry n (destination_byte table) (entries_in n table) → (u : ℕ) → u < t.routers → Reached t table u →
+      (schedule : List ℕ) → SoundSchedule t schedule → ((b : ℕ) → Memᴰ b schedule → b ≡ 1) → ShortestWalk t table u schedule
+  unfolding laws listed
+  shortest_here first_entry u place path schedule s ones =
+      let x = shortest_by_rows n o.well_formed (destination_byte table) o.inside _ _ o.falling first_entry u path
+      (rows_in t.routers t.links schedule) (all-up t schedule s o.links_are ones) (omega (arith, enough t schedule s, o.rank_below u place)) in
       let (p, e, to) = x.arrives in
-      subst (WalkCosts (router_table t table) u schedule)
-      (ap cost_of_lem (o.route_is xs u) ∙ x.shortest ∙ ap (λ (d : ℕ). distance n d u) (sym o.destination_is))
-      (costs (router_table t table) laws schedule s u place p (o.walk_is xs (start u) ∙ e) (to ∙ sym o.destination_is))
+      subst (WalkCosts (router_table t table) u schedule) x.shortest (costs (router_table t table) laws schedule s u place p e to)
 
+-- first entries are shortest next hops in shortest-path mode
 pub shortest_walks : ShortestWalks
+unfolding in_shortest_path_mode
 shortest_walks t good table right mode u place path schedule s ones =
-    let v = over t good table right in
-    let n = network_of t in
-    let a : T (accepted n v.d shortest-path v.order) =
-    (acceptance_exact n v.well_formed v.d v.inside shortest-path v.order).1 (rw (v.destination_is, v.lists.ordered) at mode) in
-    shortest_here t good table right schedule s u place
-    (shortest.shortest_walks n v.well_formed v.d v.inside v.limit v.order a v.given.limit_least u (rw v.destination_is at path)
-    (rows_in t.routers t.links schedule) (all-up t schedule s v.links_are ones) (omega (arith, enough t schedule s, v.rank_below u place)))
+    let o = over t good table right in
+    let in_mode = (acceptance_exact (network_of t) o.well_formed (destination_byte table) o.inside shortest-path _).1 mode in
+    shortest_here t good table right (o.stands.falls.shortest (rw o.routers_are in_mode)) u place path schedule s ones
 
 pub tables_meet : TablesMeet
 tables_meet t good table right = systems_meet (router_table t table) (laws t good table right)

@@ -2,19 +2,16 @@
 -- is up, if there is one, is where network's hop goes. It is a router too, of a lower rank.
 -- Assumes nothing.
 use Prim.Native.Nat.{ℕ, ◌+◌, ◌≤◌, ◌<◌}
-use mathlib.Core.List.{List, Memᴰ}
+use mathlib.Core.List.{List}
 use mathlib.Core.Option.{none, map-eq-none_iff, map-eq-some_iff}
-use mathlib.Core.Path.{◌≡◌, sym, ap, ◌∙◌, subst}
+use mathlib.Core.Path.{◌≡◌, sym, ap, ◌∙◌}
 use native.Mathlib.Numerals.{add-one}
 use native.Mathlib.Omega.{arith}
 use borrow.Author.Tests.{eq-eqb, ne_eqb}
-use lib.ListN.{length, get_or}
+use lib.ListN.{get_or}
 use Rattle.network.specs.Network.{Arc, size}
-use Rattle.network.specs.Distance.{distances}
-use Rattle.network.specs.Row.{rank, row}
 use Rattle.network.specs.Forwarding.{Packet, delivered, moved, dropped, hop, hop_to}
 use Rattle.network.specs.Routing.{first_live}
-use Rattle.network.proofs.Row.{rows_sound}
 use Rattle.network.proofs.Live.{live_mem}
 use Rattle.topology_types.specs.declared.Place.{Place}
 use Rattle.topology_types.specs.declared.Topology.{Topology}
@@ -22,25 +19,20 @@ use Rattle.topology_types.specs.Topology.{network_of}
 use Rattle.arcs.specs.declared.Arcs.{Arcs}
 use Rattle.arcs.specs.Inner.{slot_arc}
 use Rattle.distances.proofs.Slots.{Held, sound_held, count_is, slot_sound}
-use Rattle.table_rows.specs.declared.Layout.{Layout}
-use Rattle.table_rows.specs.Layout.{narrow, header_length}
-use Rattle.topology_types.specs.Limits.{most_next_hops}
-use Rattle.table.specs.Inner.{HasRow}
-use Rattle.table.proofs.Fields.{place_one, rank_one}
-use Rattle.table.specs.Listed.{destination_in_lem, entry_count, places_in, entries_in, listed, order_in}
+use Rattle.table.specs.Listed.{destination_in_lem, places_in, falling_rank, entries_in, listed}
 use Rattle.forwarding_rules.specs.Calls.{by}
 use Rattle.forwarding_rules.proofs.Listed.{Over, over}
 use Rattle.forwarding_steps.specs.declared.unchecked.moving.Next.{Next}
 use Rattle.forwarding_steps.specs.declared.unchecked.moving.Next.TheVariants as next
 use Rattle.forwarding_steps.specs.Inner.{LinkSlots, first_up, next_place, Checked}
-use Rattle.forwarding_steps.proofs.Bounds.{row_of, entry_in}
+use Rattle.forwarding_steps.proofs.Bounds.{entry_in}
 use Rattle.forwarding_steps.proofs.Next.{place_of, first-up}
 
 -- a hop that moves a packet from u, after so many hops, to v
 pub record Goes (t : Topology) (table states : List ℕ) (u hops v : ℕ) : Type 0 where
   pub hop_is : hop (by t table) states (record { station = u; hops = hops }) ≡ moved (record { station = v; hops = hops + 1 })
   pub inside : v < t.routers
-  pub lower : rank (order_in t.routers table) v < rank (order_in t.routers table) u
+  pub lower : falling_rank t.routers table v < falling_rank t.routers table u
 
 module _ {t : Topology} {a : Arcs} {table : List ℕ} (checked : Checked t a table) where
   held : Held (network_of t) a t.routers
@@ -52,10 +44,6 @@ module _ {t : Topology} {a : Arcs} {table : List ℕ} (checked : Checked t a tab
   pub few_routers : t.routers ≤ 64
   few_routers = held.most
 
-  -- the table has its header
-  pub headed : {l : Layout} → l ≡ narrow → (l ≡ narrow) × (header_length l ≤ length table)
-  headed same = (same, omega (arith, place_one same, rank_one same, accepted.given.bytes.long))
-
   -- at d a packet is delivered
   pub arrives : (states : List ℕ) (p : Packet ℕ) → p.station ≡ destination_in_lem table → hop (by t table) states p ≡ delivered
   unfolding hop hop_to listed
@@ -64,9 +52,6 @@ module _ {t : Topology} {a : Arcs} {table : List ℕ} (checked : Checked t a tab
   module _ (u : ℕ) (u_in : u < t.routers) where
     listed-in : u < size (network_of t)
     listed-in = omega (arith, accepted.routers_are)
-
-    abbrev entries : List Arc
-    entries = row (network_of t) (distances (network_of t) accepted.d) accepted.limit accepted.order u
 
     pub few_slots : get_or a.count u 0 ≤ 16
     few_slots = omega (arith, held.few u u_in, count_is (network_of t) a t.routers held u u_in)
@@ -79,10 +64,6 @@ module _ {t : Topology} {a : Arcs} {table : List ℕ} (checked : Checked t a tab
           few = few_slots;
           numbered = λ j h. omega (arith, (slot_sound (network_of t) a t.routers held u u_in j h).numbered, accepted.links_are);
         }
-
-    -- and the row of u
-    pub rowed : {l : Layout} → l ≡ narrow → (l ≡ narrow) × HasRow table u × (entry_count table u ≤ most_next_hops)
-    rowed same = let r = row_of t checked.on_sound table accepted u u_in in (same, r.stands, r.few)
 
     -- off d, by what was found first in the row over a link that is up
     module _ (states : List ℕ) (hops : ℕ) (off : u ≡ destination_in_lem table → ⊥) (r : Next)
@@ -103,12 +84,9 @@ module _ {t : Topology} {a : Arcs} {table : List ℕ} (checked : Checked t a tab
       unfolding hop hop_to listed next_place
       goes v e =
           let (b, chosen, to) = (map-eq-some_iff (λ (b : Arc). b.to) _).0 (chosen_place ∙ ap next_place e) in
-          let m = subst (Memᴰ b) (accepted.entries_are u) (live_mem states (entries_in (network_of t) table u) b chosen) in
-          let v_in : v.0 < t.routers = omega (arith, entry_in t checked.on_sound table accepted u b m) in
-          let lower : rank accepted.order v.0 < rank accepted.order u =
-          rw (← to) ((rows_sound (network_of t) accepted.well_formed accepted.d accepted.inside accepted.limit accepted.order u).lower b m) in
+          let m = live_mem states (entries_in (network_of t) table u) b chosen in
           record {
             hop_is = rw (ne_eqb u (destination_in_lem table) off, chosen, to, add-one);
-            inside = v_in;
-            lower = rw accepted.lists.ordered lower;
+            inside = rw (← to) (entry_in accepted u b m);
+            lower = rw (← to) (accepted.falling.falls u b m);
           }

@@ -9,16 +9,14 @@ use native.Mathlib.Numerals.{add-one}
 use native.Mathlib.Omega.{arith}
 use borrow.Author.Tests.{eq-eqb}
 use lib.Dec.{T}
-use lib.ListN.{length, get_or, take, drop}
+use lib.ListN.{length, take, drop}
 use lib.Seq.{drop-cons}
 use Rattle.network.specs.Lists.{below}
-use Rattle.network.specs.Row.{rank}
 use Rattle.network.specs.Forwarding.{Packet, dropped, delivered_at, dropped_at, start, hop, walk, walk_on, walk_end}
 use Rattle.network.proofs.Below.{get_d_below, length_map_below}
-use Rattle.network.proofs.Rank.{rank_zero}
 use Rattle.topology_types.specs.declared.Topology.{Topology}
 use Rattle.arcs.specs.declared.Arcs.{Arcs}
-use Rattle.table.specs.Listed.{destination_in_lem, listed, order_in}
+use Rattle.table.specs.Listed.{destination_in_lem, falling_rank, listed}
 use Rattle.forwarding_rules.specs.Schedule.{row_in, rows_in}
 use Rattle.forwarding_rules.specs.Calls.{by}
 use Rattle.forwarding_rules.proofs.Schedules.{Rows, sound-length, rows_of, row_fits, row_long}
@@ -29,7 +27,7 @@ use Rattle.forwarding_steps.proofs.Steps.{Goes, accepted, arrives}
 pub record Reached (t : Topology) (table schedule : List ℕ) (s u hops at : ℕ) : Type 0 where
   pub inside : u < t.routers
   pub offset : at ≡ hops * t.links
-  pub ranked : hops + rank (order_in t.routers table) u < t.routers
+  pub ranked : hops + falling_rank t.routers table u < t.routers
   pub rest : walk (by t table) (rows_in t.routers t.links schedule) (start s)
       ≡ walk (by t table) (drop hops (rows_in t.routers t.links schedule)) (record { station = u; hops = hops })
 
@@ -50,7 +48,7 @@ module _ {t : Topology} {a : Arcs} {table : List ℕ} (checked : Checked t a tab
       record {
         inside = h;
         offset = sym (zero-mul t.links);
-        ranked = rw (accepted checked).lists.ordered (omega (arith, (accepted checked).rank_below s h));
+        ranked = omega (arith, (accepted checked).rank_below s h);
         rest = refl;
       }
 
@@ -64,9 +62,8 @@ module _ {t : Topology} {a : Arcs} {table : List ℕ} (checked : Checked t a tab
       -- off d a row is left
       left : hops < rows.count
       left =
-          let ranked : rank (accepted checked).order u ≡ 0 → ⊥ =
-          λ z. off (rank_zero (accepted checked).given.in_free u z ∙ sym (accepted checked).destination_is) in
-          omega (arith, rw (accepted checked).lists.ordered at reached.ranked, rows.enough)
+          let ranked : falling_rank t.routers table u ≡ 0 → ⊥ = λ z. off ((accepted checked).falling.only_home u z) in
+          omega (arith, reached.ranked, rows.enough)
 
       pub fits : at + t.links ≤ length schedule
       fits = omega (arith, reached.offset, row_fits t.links schedule rows.count rows.whole hops left)

@@ -2,7 +2,7 @@
 -- it, for what was tested before and for the greatest hop counts as ranks.
 -- Router u has the slots from u * most_neighbours on.
 -- Assumes nothing.
-use Rattle.std.specs.Prelude.{ℕ, ◌+◌, ◌*◌, ◌≤◌, ◌<◌, Bool, true, ◌&&◌, ◌≡◌, T, eqb, length, get_or}
+use Rattle.std.specs.Prelude.{ℕ, ◌+◌, ◌*◌, ◌≤◌, ◌<◌, Bool, true, ◌&&◌, ◌≢◌, ◌≡◌, T, eqb, length, get_or}
 use mathlib.Core.List.{List, [], ◌∷◌, Memᴰ}
 use Rattle.std.proofs.Math.Option.{Option, none, some}
 use Rattle.network.specs.Lists.{below, keep, any}
@@ -15,6 +15,7 @@ use Rattle.topology_sound.specs.Sound.{sound}
 use Rattle.arcs.specs.declared.Arcs.{Arcs}
 use Rattle.arcs.specs.Inner.{Laid}
 use Rattle.distances.specs.Inner.{slot_to}
+use Rattle.table.specs.Listed.{rank_in_lem}
 use Rattle.table.specs.Calls.{table_checking}
 use Rattle.forwarding_rules.specs.Schedule.{sound_length, wrong_states}
 use Rattle.forwarding_rules.specs.Calls.{figure_byte}
@@ -53,6 +54,16 @@ pub record Bounded (row : List ℕ) (by : List Rank) : Type 0 where
   pub long : length by ≡ most_routers
   pub places : (v : ℕ) → Memᴰ v row → v < most_routers
   pub few : (v : ℕ) → Memᴰ v row → bound_of by v < most_routers
+
+-- x is the lowest of the places from u on, n in all, that has the rank r, and 255 if none has
+pub record LowestFrom (n : ℕ) (table : List ℕ) (r u x : ℕ) : Type 0 where
+  pub stands : x ≢ 255 → (u ≤ x) × (x < n) × (rank_in_lem table x ≡ r)
+  pub none_before : (v : ℕ) → u ≤ v → v < n → v < x → rank_in_lem table v ≢ r
+
+-- of the places from u on the lowest of each rank, and after each of them the next one of its rank
+pub record Chained (n : ℕ) (table : List ℕ) (u : ℕ) (first next : List ℕ) : Type 0 where
+  pub firsts : (r : ℕ) → r < n → LowestFrom n table r u (get_or first r 0)
+  pub nexts : (v : ℕ) → u ≤ v → v < n → rank_in_lem table v < n → LowestFrom n table (rank_in_lem table v) (v + 1) (get_or next v 0)
 
 -- the table was checked on a sound topology, whose arcs are laid out
 pub record Checked (t : Topology) (a : Arcs) (table : List ℕ) : Type 0 where

@@ -35,7 +35,6 @@ use Rattle.forwarding_rules.specs.Calls.{figure_byte, figures}
 use Rattle.forwarding_rules.specs.Theorems.{Reached, ByRank}
 use Rattle.forwarding_rules.proofs.Listed.{Over, over, figure_unreached, ranks_tell}
 use Rattle.forwarding_rules.proofs.Figures.{figures_exact}
-use Rattle.forwarding_steps.proofs.Bounds.{row_of}
 use Rattle.listing_rules.specs.Listing.{table_for, line_for, lines_for, all_lines}
 use Rattle.listing_rules.specs.Inner.{most_listing_line, most_listing_lines, RowFits, Listable, front_of_lem, front_line, line_in, table_text}
 use Rattle.listing_rules.proofs.InTurn.{joined_most}
@@ -84,7 +83,7 @@ module _ (t : Topology) (good : T (sound t)) (d : ℕ) (place : d < t.routers) w
   -- a router's row, its entries, and its rank and hop count by whether it has a path
   module _ (u : ℕ) (h : u < t.routers) where
     pub row_stands : RowOf table u
-    row_stands = row_of t good table opened u h
+    row_stands = opened.stands.rows u h
 
     pub places : places_in table u ≡ map (λ (a : Arc). a.to) (row (network_of t) (distances (network_of t) d) t.limit order u)
     places =

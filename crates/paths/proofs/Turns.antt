@@ -5,25 +5,24 @@ use mathlib.Core.List.{List, [], ◌∷◌, ◌++◌}
 use mathlib.Core.Path.{◌≡◌}
 use native.Mathlib.Numerals.{add-one}
 use native.Mathlib.Omega.{arith}
-use lib.ListN.{length, set}
+use lib.ListN.{length, get_or, set}
 use Rattle.network.specs.Lists.{counted}
 use Rattle.network.specs.Row.{rank}
+use Rattle.network.specs.Theorems.Routing.{FallingRows}
 use Rattle.topology_types.specs.declared.Place.{Place}
 use Rattle.topology_types.specs.declared.Topology.{Topology}
-use Rattle.topology_types.specs.Limits.{most_next_hops}
+use Rattle.topology_types.specs.Topology.{network_of}
 use Rattle.topology_sound.proofs.Sound.{sound_exact}
 use Rattle.topology.specs.Written.{joined_over}
-use Rattle.table_rows.specs.declared.Layout.{Layout}
-use Rattle.table_rows.specs.Layout.{narrow, header_length, row_start_lem}
-use Rattle.table.specs.Listed.{destination_in_lem, entry_count, places_in, order_in}
-use Rattle.table.specs.Inner.{HasRow, RowOf}
-use Rattle.table.proofs.Fields.{places_long, place_one, rank_one}
+use Rattle.table.specs.Listed.{destination_in_lem, places_in, entries_in, order_in}
+use Rattle.table.specs.Inner.{TableStands}
+use Rattle.table.proofs.Fields.{places_long}
+use Rattle.table.proofs.Falls.{by_order}
 use Rattle.forwarding_rules.specs.Theorems.{rank_byte, ListsPlace}
 use Rattle.forwarding_rules.proofs.Listed.{Over}
-use Rattle.forwarding_steps.proofs.Bounds as bounds
 use Rattle.paths_rules.specs.Calls.{paths_of, paths_past}
 use Rattle.paths_rules.specs.Theorems.{Passed, PathRule}
-use Rattle.paths_rules.proofs.Listed.{o, law, lower}
+use Rattle.paths_rules.proofs.Listed.{o, lower}
 use Rattle.paths_rules.proofs.Entries.{turn}
 use Rattle.paths_rules.proofs.Rule.{paths_by_rule}
 use Rattle.paths.specs.declared.gathering.Entry.{Entry}
@@ -38,26 +37,27 @@ module _ {t : Topology} {table : List ℕ} {u : ℕ} (on : Passed t table u) whe
   abbrev listed : Over t table
   listed = o t on.is-sound table on.accepted
 
-  -- its row stands in the table, which has its header
-  row_of : RowOf table u
-  row_of = bounds.row_of t on.is-sound table listed u on.place
-
-  pub rowed : {l : Layout} → l ≡ narrow → (l ≡ narrow) × HasRow table u × (entry_count table u ≤ most_next_hops)
-  rowed same = (same, row_of.stands, row_of.few)
-
-  pub headed : {l : Layout} → l ≡ narrow → (l ≡ narrow) × (header_length l ≤ length table)
-  unfolding row_start_lem
-  headed same = (same, omega (arith, place_one same, rank_one same, row_of.stands.whole))
+  pub stands : TableStands t table
+  stands = listed.stands
 
   pub few_entries : length (places_in table u) ≤ 16
-  few_entries = omega (arith, places_long table u, row_of.few)
+  few_entries = omega (arith, places_long table u, (stands.rows u on.place).few)
 
   -- a rank by which every entry ranks lower: that in the order which the table's ranks form
   abbrev turn_of : ℕ → ℕ
   turn_of v = rank (order_in t.routers table) v
 
+  ordered : FallingRows (network_of t) (get_or table 1 0) (entries_in (network_of t) table) turn_of
+  ordered = by_order t on.is-sound table on.accepted
+
   pub rank_few : turn_of u < 64
-  rank_few = rw listed.lists.ordered (omega (arith, listed.rank_below u on.place, ((sound_exact t).0 on.is-sound).routers_most))
+  rank_few =
+      omega (
+        arith,
+        ordered.ranks_below u (omega (arith, listed.routers_are, on.place)),
+        listed.routers_are,
+        ((sound_exact t).0 on.is-sound).routers_most,
+      )
 
   module _ {route : List ℕ} {moves : ℕ} {b : List ℕ} {count r : ℕ} {b' : List ℕ} where
     -- at the destination
@@ -85,9 +85,7 @@ module _ {t : Topology} {table : List ℕ} {u : ℕ} (on : Passed t table u) whe
       record {
         stands = record { is-sound = on.is-sound; accepted = on.accepted; place = rw f.to at there };
         lower = rw f.to at less;
-        falls =
-            rw (listed.lists.ordered, ← f.to)
-            ((law t on.is-sound table on.accepted).falls u f.arc (rw (listed.entries_are u) at f.among));
+        falls = rw (← f.to) (ordered.falls u f.arc f.among);
         inside = l.0;
         paths = rw add-one (rule.entry i v l);
       }

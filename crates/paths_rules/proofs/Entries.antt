@@ -18,7 +18,7 @@ use Rattle.order.proofs.Ranges.{get_d_mem}
 use Rattle.table.specs.Listed.{places_in, entries_in}
 use Rattle.table.specs.Calls.{table_checking}
 use Rattle.forwarding_rules.specs.Theorems.{ListsPlace}
-use Rattle.paths_rules.proofs.Listed.{places}
+use Rattle.paths_rules.proofs.Listed.{o}
 
 -- the place of the arc behind others
 place_behind : (before : List Arc) (a : Arc) (behind : List Arc) → get_or (map (λ b. b.to) (before ++ (a ∷ behind))) (length before) 0 ≡ a.to
@@ -26,17 +26,20 @@ place_behind [] a behind = refl
 place_behind (b ∷ before) a behind = place_behind before a behind
 
 module _ (t : Topology) (good : T (sound t)) (table : List ℕ) (right : table_checking t table ≡ answer 0 0) (v : ℕ) where
+  places : places_in table v ≡ map (λ a. a.to) (entries_in (network_of t) table v)
+  places = (o t good table right).stands.places v
+
   -- an entry is listed at its turn
   pub lists : (before : List Arc) (a : Arc) (behind : List Arc) → entries_in (network_of t) table v ≡ before ++ (a ∷ behind) →
       ListsPlace table v (length before) a.to
   lists before a behind e =
-      rw (places t good table right v, e) (simp (length-map, length-append) (omega arith), place_behind before a behind)
+      rw (places, e) (simp (length-map, length-append) (omega arith), place_behind before a behind)
 
   pub listed : (a : Arc) → Memᴰ a (entries_in (network_of t) table v) → (j : ℕ) × ListsPlace table v j a.to
   listed a m = let (before, behind, e) = split m in (length before, lists before a behind e)
 
   many : length (places_in table v) ≡ length (entries_in (network_of t) table v)
-  many = ap length (places t good table right v) ∙ length-map (entries_in (network_of t) table v) (λ (a : Arc). a.to)
+  many = ap length places ∙ length-map (entries_in (network_of t) table v) (λ (a : Arc). a.to)
 
   -- what is listed is the place of the entry at its turn, and past the row there is none
   pub record Turn (j w : ℕ) : Type 0 where
@@ -52,7 +55,7 @@ module _ (t : Topology) (good : T (sound t)) (table : List ℕ) (right : table_c
       let inside : j < length arcs = omega (arith, many) in
       record {
         arc = get_or arcs j z;
-        to = sym (get_d_mapped (λ (a : Arc). a.to) arcs j 0 z inside) ∙ rw (← places t good table right v) e;
+        to = sym (get_d_mapped (λ (a : Arc). a.to) arcs j 0 z inside) ∙ rw (← places) e;
         among = get_d_mem arcs j z inside;
         parts = drop-cons arcs j z inside;
       }

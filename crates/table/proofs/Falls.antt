@@ -89,7 +89,7 @@ module _ (t : Topology) (good : T (sound t)) (table : List ℕ) (right : table_c
   unfolding listed
   carried claim = subst claim (sym (fun_ext (accepted_list t good table right).entries))
 
-  by_order : FallingRows n d (entries_in n table) (rank order)
+  pub by_order : FallingRows n d (entries_in n table) (rank order)
   by_order = carried (λ rows. FallingRows n d rows (rank order)) (orders_fall n wf d inside (get_or table 3 0) order (in_mode given.in_free))
 
   module _ (u : ℕ) (place : u < t.routers) where

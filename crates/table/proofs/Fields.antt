@@ -7,10 +7,12 @@ use native.Mathlib.Omega.{arith}
 use lib.ListN.{length, get_or, take, drop, length-drop}
 use lib.Seq.{length-take-le, get_or-take, get_or-drop, ext_get_or}
 use Rattle.network.proofs.Below.{get_d_below, length_map_below}
+use Rattle.topology_types.specs.declared.Topology.{Topology}
+use Rattle.topology_types.specs.Limits.{most_next_hops}
 use Rattle.table_rows.specs.declared.Layout.{Layout}
-use Rattle.table_rows.specs.Layout.{narrow, row_start_lem, table_length, number_at, spread}
-use Rattle.table.specs.Listed.{kind_in, destination_in_lem, count_in_lem, limit_in_lem, rank_in_lem, entry_count, places_in}
-use Rattle.table.specs.Inner.{HasRow}
+use Rattle.table_rows.specs.Layout.{narrow, header_length, row_start_lem, table_length, number_at, spread}
+use Rattle.table.specs.Listed.{layout_of, kind_in, destination_in_lem, count_in_lem, limit_in_lem, rank_in_lem, entry_count, places_in}
+use Rattle.table.specs.Inner.{HasRow, TableStands}
 use Rattle.table.specs.Theorems.{FieldsRead, LengthRight, NumbersRight}
 
 module _ (table : List ℕ) (u : ℕ) where
@@ -75,6 +77,15 @@ module _ {l : Layout} (same : l ≡ narrow) where
 pub row_within : (table : List ℕ) (n u : ℕ) → n ≤ 64 → u < n → table_length narrow n ≤ length table → HasRow table u
 unfolding row_start_lem
 row_within table n u few inside long = record { place = omega arith; whole = omega arith }
+
+-- so an accepted table, read by its layout, has its header, and the row of each router
+module _ {t : Topology} {table : List ℕ} (stands : TableStands t table) {l : Layout} (same : l ≡ layout_of table) where
+  pub headed : (l ≡ layout_of table) × (header_length l ≤ length table)
+  unfolding row_start_lem
+  headed = (same, rw same (omega (arith, stands.long)))
+
+  pub rowed : (u : ℕ) → u < t.routers → (l ≡ layout_of table) × HasRow table u × (entry_count table u ≤ most_next_hops)
+  rowed u inside = (same, (stands.rows u inside).stands, (stands.rows u inside).few)
 
 pub length_right : LengthRight
 unfolding row_start_lem

@@ -6,5 +6,6 @@ pub mod Accepting
 pub mod Verdicts
 pub mod Lists
 pub mod Falls
+pub mod Stands
 pub mod Fills
 pub mod Calling

@@ -1,8 +1,9 @@
 -- What the inner functions ask, and what they find; of the open contracts only those of `unchecked` name it, for what they ask of a row.
 -- Assumes nothing.
 use Rattle.std.specs.Prelude.{ℕ, ◌+◌, ◌≤◌, ◌<◌, cond, ◌≡◌, T, length, take}
-use mathlib.Core.List.{List, Memᴰ}
+use mathlib.Core.List.{List, map, Memᴰ}
 use Rattle.network.specs.Network.{Network}
+use Rattle.network.specs.Distance.{PathTo}
 use Rattle.network.specs.Order.{free}
 use Rattle.network.specs.Theorems.Order.{Accepted}
 use Rattle.topology_types.specs.declared.Topology.{Topology}
@@ -13,8 +14,9 @@ use Rattle.arcs.specs.declared.Arcs.{Arcs}
 use Rattle.order.specs.Calls.{order_bytes}
 use Rattle.order.specs.Inner.{Measured}
 use Rattle.table_rows.specs.Layout.{row_start_lem, row_length, table_length}
-use Rattle.table.specs.Listed.{layout_of, entry_count, places_in, destination_in_lem, by_rank, order_in}
+use Rattle.table.specs.Listed.{layout_of, destination_in_lem, rank_in_lem, entry_count, places_in, entries_in, by_rank, order_in}
 use Rattle.table.specs.Calls.{sound_header, sound_ranks, wrong_bytes}
+use Rattle.table.specs.Theorems.{TableFalls}
 
 -- the table has the whole row of u
 pub record HasRow (table : List ℕ) (u : ℕ) : Type 0 where
@@ -26,6 +28,17 @@ pub record RowOf (table : List ℕ) (u : ℕ) : Type 0 where
   pub stands : HasRow table u
   pub few : entry_count table u ≤ most_next_hops
   pub places : (v : ℕ) → Memᴰ v (places_in table u) → v < most_routers
+
+-- What is known of every accepted table, whichever ranks and rows make it right: its rows stand in it, each place that a row lists has its arc, ranks fall along
+-- the rows, and the rank of a router is below N where it has a path, and else 255.
+pub record TableStands (t : Topology) (table : List ℕ) : Type 0 where
+  pub long : length table ≡ table_length (layout_of table) t.routers
+  pub place : destination_in_lem table < t.routers
+  pub rows : (u : ℕ) → u < t.routers → RowOf table u
+  pub places : (u : ℕ) → places_in table u ≡ map (λ a. a.to) (entries_in (network_of t) table u)
+  pub falls : TableFalls t table
+  pub reached : (u : ℕ) → u < t.routers → PathTo (network_of t) (destination_in_lem table) u → rank_in_lem table u < t.routers
+  pub unreached : (u : ℕ) → u < t.routers → (PathTo (network_of t) (destination_in_lem table) u → ⊥) → rank_in_lem table u ≡ 255
 
 -- a table whose length and header were tested, the distances to its destination, and the order that its ranks form, which is accepted in free mode
 pub record Started (t : Topology) (a : Arcs) (ds table order : List ℕ) : Type 0 where

@@ -6,6 +6,7 @@ ghost use Rattle.topology_sound.specs.Sound.{sound};
 ghost use Rattle.table.specs.Calls.{table_checking};
 ghost use Rattle.forwarding_steps.specs.Inner.{bound_of, Bounded, FiguresIn};
 
+use super::chains::chains_of;
 use table::unchecked::reading;
 use topology_types::{Place, ROUTERS, Rank, Topology};
 
@@ -35,26 +36,30 @@ fn greatest_of(row: &[u8], bounds: Bounds) -> Rank
     best
 }
 
-// The greatest hop count of every place over an accepted table, from the lowest rank up: by then those of the row's entries are known. The order ends where
-// no place has the rank.
+// The greatest hop count of every place over an accepted table, from the lowest rank up, along the places of each: by then those of the row's entries are
+// known.
 pub fn bounds_of(t: Topology, table: &[u8]) -> Bounds
     requires { T (sound t) × (table_checking t table.now ≡ record { number = 0; at = 0 }) }
     ensures { FiguresIn t table.now result }
 {
     let l = reading::layout_of(table);
-    let order = table::unchecked::order_of(t.routers, table);
+    let chains = chains_of(t.routers, table);
     let mut by = [Rank(255); ROUTERS];
     let mut rank: usize = 0;
-    while rank < t.routers {
-        let place = Place(order[rank]);
+    let mut place = Place(255);
+    loop {
         let u = place.0 as usize;
         if u == 255 {
-            return Bounds { by: by };
+            if rank == t.routers {
+                return Bounds { by: by };
+            }
+            place = Place(chains.first[rank]);
+            rank += 1;
+        } else {
+            by[u] = greatest_of(reading::row_in(l, table, u), Bounds { by: by });
+            place = Place(chains.next[u]);
         }
-        by[u] = greatest_of(reading::row_in(l, table, u), Bounds { by: by });
-        rank += 1;
     }
-    Bounds { by: by }
 }
 
 // The bounds of the first n places, each a byte.

@@ -1,12 +1,13 @@
 -- Both go by the rule for paths, turn by turn.
 -- Assumes nothing.
 use Rattle.std.proofs.Common.{refl, sym, ◌∙◌, arith}
+use Rattle.table.proofs.Fields.{headed, rowed}
 use Rattle.paths.proofs.Behind.{none, stopped, then, at_most}
-use Rattle.paths.proofs.Turns.{headed, rowed, few_entries, arrives, goes_on, past, next, asked_next, asked_again}
+use Rattle.paths.proofs.Turns.{stands, few_entries, arrives, goes_on, past, next, asked_next, asked_again}
 use Rattle.paths.proofs.gathering.+from_station_through_entries.Goals as goal
 
 pub from_station-destination_in-home-requires : goal.from_station-destination_in-home-requires
-from_station-destination_in-home-requires t c = headed c.requires.on c.layout_of.ensures
+from_station-destination_in-home-requires t c = headed (stands c.requires.on) c.layout_of.ensures
 
 pub from_station-returns-then-station-home : goal.from_station-returns-then-station-home
 from_station-returns-then-station-home t c top on =
@@ -24,7 +25,7 @@ pub through_entries-returns-then-count-gt-PATHS : goal.through_entries-returns-t
 through_entries-returns-then-count-gt-PATHS t c top on = stopped c.if-count-gt-PATHS.true c.requires.few
 
 pub through_entries-row_in-row-requires : goal.through_entries-row_in-row-requires
-through_entries-row_in-row-requires t c = rowed c.requires.on c.layout_of.ensures
+through_entries-row_in-row-requires t c = rowed (stands c.requires.on) c.layout_of.ensures _ c.requires.on.place
 
 pub through_entries-returns-in_default : goal.through_entries-returns-in_default
 through_entries-returns-in_default t c top on =

@@ -5,14 +5,15 @@ use native.Mathlib.Omega.{arith}
 use borrow.Author.Rules.{rules}
 use lib.ListN.{get_or}
 use Rattle.table.specs.Listed.{destination_in_lem, places_in}
+use Rattle.table.proofs.Fields.{headed, rowed}
 use Rattle.forwarding_rules.specs.Calls.{packet_in, hop_says}
 use Rattle.forwarding_steps.specs.Inner.{first_up, next_place}
-use Rattle.forwarding_steps.proofs.Steps.{few_routers, headed, arrives, link_slots, rowed, stops, goes}
+use Rattle.forwarding_steps.proofs.Steps.{few_routers, accepted, arrives, link_slots, stops, goes}
 use Rattle.forwarding_steps.proofs.unchecked.moving.hop_by.Statement.{statement}
 use Rattle.forwarding_steps.proofs.unchecked.moving.hop_by.Tie as tie
 
 destination-in-requires : tie.Need-destination_in-home-requires
-destination-in-requires c κs = headed c.requires.0 c.layout_of-l.ensures
+destination-in-requires c κs = headed (accepted c.requires.0).stands c.layout_of-l.ensures
 
 returns : tie.Need-returns-then-station-home
 unfolding hop_says packet_in
@@ -28,7 +29,7 @@ off c e = c.if-station-home.false (e ∙ sym c.destination_in-home.ensures)
 
 row-in-requires : tie.Need-row_in-row-requires
 row-in-requires c κs =
-    let e : tie.Else-station-home = c.before in rowed (begun e).requires.0 _ (begun e).requires.1 e.layout_of-l.ensures
+    let e : tie.Else-station-home = c.before in rowed (accepted (begun e).requires.0).stands e.layout_of-l.ensures _ (begun e).requires.1
 
 element-copy-out-count : tie.Need-bounds-a-u
 element-copy-out-count c = let start = begun c.before.before in omega (arith, few_routers start.requires.0, start.requires.1)

@@ -5,11 +5,11 @@ use Prim.Native.Nat.{◌<◌}
 use mathlib.Core.Path.{◌≡◌, sym, ap, ◌∙◌}
 use native.Mathlib.Omega.{arith}
 use borrow.Author.Rules.{rules}
-use Rattle.network.specs.Row.{rank}
-use Rattle.table.specs.Listed.{destination_in_lem, places_in, order_in}
+use Rattle.table.specs.Listed.{destination_in_lem, places_in, falling_rank}
+use Rattle.table.proofs.Fields.{headed, rowed}
 use Rattle.forwarding_rules.specs.Calls.{packet_in, walk_says}
 use Rattle.forwarding_steps.specs.Inner.{first_up}
-use Rattle.forwarding_steps.proofs.Steps.{few_routers, headed, few_slots, link_slots, rowed, stops, goes}
+use Rattle.forwarding_steps.proofs.Steps.{few_routers, accepted, few_slots, link_slots, stops, goes}
 use Rattle.forwarding_steps.proofs.Turns.{Reached, begins, ends, fits, part_long, halts, goes_on}
 use Rattle.forwarding_steps.proofs.unchecked.moving.walk_by.Statement.{statement}
 use Rattle.forwarding_steps.proofs.unchecked.moving.walk_by.Tie as tie
@@ -18,7 +18,7 @@ abbrev invariant-loop : tie.invariant-loop-station
 invariant-loop t table schedule a l home station₀ hops₀ at₀ station hops at = Reached t table schedule station₀.0 station.0 hops at
 
 abbrev decreases-loop : tie.decreases-loop-station
-decreases-loop t table schedule a l home station₀ hops₀ at₀ station hops at = rank (order_in t.routers table) station.0
+decreases-loop t table schedule a l home station₀ hops₀ at₀ station hops at = falling_rank t.routers table station.0
 
 -- from a turn back to the start
 abbrev begun : tie.At-loop-station invariant-loop decreases-loop → tie.Start invariant-loop decreases-loop
@@ -35,7 +35,7 @@ off : (c : tie.In-loop-station invariant-loop decreases-loop) → (looped c).loo
 off c e = c.loop-station-test.true (e ∙ sym (looped c).destination_in-home.ensures)
 
 destination-in-requires : tie.Need-destination_in-home-requires invariant-loop decreases-loop
-destination-in-requires c κs = headed c.requires.0 c.layout_of-l.ensures
+destination-in-requires c κs = headed (accepted c.requires.0).stands c.layout_of-l.ensures
 
 loop-holds : tie.Need-loop-station-init invariant-loop decreases-loop
 loop-holds c = begins c.requires.0 c.requires.2 _ c.requires.1
@@ -47,7 +47,7 @@ add-end c =
 
 row-in-requires : tie.Need-row_in-row-requires invariant-loop decreases-loop
 row-in-requires c κs =
-    let at = looped c.before.before in rowed (begun at).requires.0 _ at.loop-station.invariant.inside at.layout_of-l.ensures
+    let at = looped c.before.before in rowed (accepted (begun at).requires.0).stands at.layout_of-l.ensures _ at.loop-station.invariant.inside
 
 cast-count : tie.Need-overflow_cast-count invariant-loop decreases-loop
 cast-count c = let at = looped c.before.before.before.before in omega (arith, few_slots (begun at).requires.0 _ at.loop-station.invariant.inside)
