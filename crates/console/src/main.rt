@@ -28,8 +28,9 @@
 mod answers;
 mod requests;
 
-ghost use Rattle.std.specs.Prelude.{true, ◌≡◌, ◌≤◌, length};
+ghost use Rattle.std.specs.Prelude.{true, ◌≡◌, ◌≤◌, length, take};
 ghost use Rattle.std.specs.Counts.{IsPrefixLen};
+ghost use Rattle.std.specs.Io.KnownBytes.{Consumes};
 ghost use Rattle.topology_types.specs.Topology.{zeros};
 ghost use Rattle.console_held.specs.Questions.{most_line, most_table};
 ghost use Rattle.console_held.specs.Inner.{TableReady};
@@ -39,12 +40,10 @@ use console_held::unchecked::asked;
 use console_held::unchecked::holding::Holding;
 use console_replies::unchecked::putting;
 use forwarding::Packet;
+use program_io::STDOUT;
 use std::io::{Read, Stdin};
 use text::unchecked::{fields, lines};
 use topology::{LINKS, Link, Place, ROUTERS, Topology};
-
-// Standard output.
-const STDOUT: i32 = 1;
 
 // What is held, but for the table's bytes; how many bytes of a line have come, LINE + 1 if it is too long; and whether to go on.
 #[derive(Clone, Copy)]
@@ -134,9 +133,10 @@ fn take(s: Session, table: &mut [u8], line: &mut [u8], text: &[u8]) -> Session
     next
 }
 
-// Reads once, and answers how many bytes are at the start of the slice: none at the end, or where reading fails.
-fn read_once(mut from: Stdin, text: &mut [u8]) -> usize
-    ensures { IsPrefixLen result text.new }
+// Reads once, and answers how many bytes are at the start of the slice, the next of those that the reader has: none at the end, or where reading fails.
+fn read_once<R: Read>(from: &mut R, text: &mut [u8]) -> usize
+    ensures count { IsPrefixLen result text.new }
+    ensures bytes { Consumes (R.remaining from.old) (R.remaining from.new) (take result text.new) }
 {
     match from.read(text) {
         Ok(n) => n,
@@ -145,12 +145,12 @@ fn read_once(mut from: Stdin, text: &mut [u8]) -> usize
 }
 
 // Reads once, and takes what was read.
-fn read_some(s: Session, table: &mut [u8], line: &mut [u8], from: Stdin) -> Session
+fn read_some(s: Session, table: &mut [u8], line: &mut [u8], mut from: Stdin) -> Session
     requires { TableReady s.held table.old × (length line.old ≡ most_line) }
     ensures { result.held.size ≤ length table.new }
 {
     let mut text = io::large_buffer();
-    let n = read_once(from, &mut text);
+    let n = read_once(&mut from, &mut text);
     if n == 0 {
         let mut last = s;
         last.open = false;

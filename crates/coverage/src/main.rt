@@ -8,8 +8,7 @@ ghost use Rattle.std.specs.Prelude.{◌≡◌, ◌≤◌, length};
 ghost use Rattle.text.specs.Inner.{Put};
 ghost use Rattle.coverage.specs.Output.{coverage_output};
 
-// Standard output.
-const STDOUT: i32 = 1;
+use program_io::STDOUT;
 
 // Room for every output: 42 bytes for each of 65 lines.
 const OUTPUT: usize = 2730;

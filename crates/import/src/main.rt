@@ -6,12 +6,8 @@
 ghost use Rattle.std.specs.Prelude.{◌≡◌, ◌≤◌, length};
 ghost use Rattle.import.specs.Output.{Writes};
 
+use program_io::{STDERR, STDOUT};
 use text::unchecked::lines;
-
-// Standard output, and standard error.
-const STDOUT: i32 = 1;
-
-const STDERR: i32 = 2;
 
 // The longest file that is imported.
 const FILE: usize = 262144;

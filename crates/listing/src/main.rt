@@ -8,8 +8,7 @@ ghost use Rattle.std.specs.Prelude.{◌≡◌, ◌≤◌, length};
 ghost use Rattle.text.specs.Inner.{Put};
 ghost use Rattle.listing.specs.Output.{listing_output};
 
-// Standard output.
-const STDOUT: i32 = 1;
+use program_io::STDOUT;
 
 // Room for every output: 3,968 bytes for each of 64 destinations.
 const OUTPUT: usize = 253952;

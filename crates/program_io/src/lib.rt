@@ -1,4 +1,4 @@
-// What the programs share that read a topology stream, or a file of LSAs: standard input, and the line of a refusal.
+// What the programs share: standard input and where they write, and for those that read a topology stream, or a file of LSAs, the line of a refusal.
 #![tactic(auto)]
 
 ghost use Rattle.std.specs.Prelude.{◌≡◌, length};
@@ -9,8 +9,12 @@ pub mod unchecked;
 // 01, Two networks by hand: at most 65,536 bytes of input are read.
 const INPUT: usize = 65536;
 
-// Standard input.
+// Standard input, output and error.
 const STDIN: i32 = 0;
+
+pub const STDOUT: i32 = 1;
+
+pub const STDERR: i32 = 2;
 
 // An array that comes out of a function is known by what the function ensures.
 pub fn room_for_input() -> [u8; INPUT]

@@ -10,10 +10,8 @@ ghost use Rattle.paths_lines.specs.Inner.{most_path_lines};
 
 use arcs::Arcs;
 use order::Mode;
+use program_io::STDOUT;
 use topology::{Place, Topology};
-
-// Standard output.
-const STDOUT: i32 = 1;
 
 // Writes the lines of a destination, start by start, by place; answers whether that went well.
 fn write_to(t: Topology, a: Arcs, destination: Place, out: &mut [u8]) -> bool
