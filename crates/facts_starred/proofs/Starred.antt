@@ -19,9 +19,8 @@ use Rattle.stream_rules.specs.Halves.{first_half, second_half, link_halves, halv
 use Rattle.stream_rules.specs.Reading.{refusal, accepted_reading, router_fault_lem, repeated, crowded, halves_fault_lem, fault, with_router, with_link, with_limit, arrived, added}
 use Rattle.stream_rules.specs.Reading.{width, is_end, ended, unless, any_record?, in_turn, nothing_listed, reading}
 use Rattle.stream_rules.specs.Facts.{T-stream}
-use Rattle.order.specs.Calls.{refused_at_first}
 use Rattle.facts_starred.specs.Facts.Fact.{up_but, left_at, call_of, same_paths, claim_holds, holds}
-use Rattle.facts_starred.specs.Facts.Starred.{link, two_costs, T-network, F-network, alone, slope, slope_stream, about, F-stream, alone_stream, from}
+use Rattle.facts_starred.specs.Facts.Starred.{link, two_costs, T-network, F-network, alone, slope, slope_stream, about, F-stream, alone_stream}
 use Rattle.facts_starred.specs.Facts.Starred.{T-reversed, all_up, further, FurtherHold, WorkedWellFormed, StreamsRead}
 
 pub further_hold : FurtherHold

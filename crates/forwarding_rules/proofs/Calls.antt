@@ -5,7 +5,6 @@ use mathlib.Core.Logic.{◌≢◌}
 use mathlib.Core.Path.{◌≡◌, refl, ap}
 use Rattle.network.specs.Forwarding as network
 use Rattle.network.specs.Forwarding.{Packet, start}
-use Rattle.topology_sound.specs.Sound.{sound}
 use Rattle.topology_sound.proofs.Place.{on_place_unsound, on_place_outside, on_place_next}
 use Rattle.forwarding_rules.specs.Calls.{Said, done, refused, setting_at, hopping}
 use Rattle.forwarding_rules.specs.Lent.{Left, packet_after_setting_lem, packet_after_hop_lem, setting_packet, hopping_packet}

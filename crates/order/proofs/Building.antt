@@ -12,7 +12,7 @@ use lib.ListN.{length, get_or, set, drop, replicate, length-append, length-drop,
 use lib.Seq.{drop-cons, drop-append-le, drop-set-lt, set_split, set_at, append_snoc}
 use Rattle.network.specs.Network.{Network, size}
 use Rattle.network.specs.Distance.{PathTo, distances}
-use Rattle.network.specs.Order.{Mode, select, continued, placing, build}
+use Rattle.network.specs.Order.{select, continued, placing, build}
 use Rattle.network.specs.Theorems.Order.{Candidate}
 use Rattle.network.proofs.Distance.{starts_in}
 use Rattle.network.proofs.Candidate.{fact_candidate}

@@ -5,9 +5,9 @@ use mathlib.Core.Bool.{Bool, true, false, cond}
 use mathlib.Core.List.Memᴰ
 use mathlib.Core.List.{List, [], ◌∷◌, Memᴰ}
 use mathlib.Core.Logic.{◌⊎◌, ⊎_elim}
-use mathlib.Core.Path.{◌≡◌, refl, sym, ap}
+use mathlib.Core.Path.{◌≡◌, refl, ap}
 use native.Mathlib.Omega.{arith}
-use lib.ListN.{length, drop, length-drop}
+use lib.ListN.{length, length-drop}
 use Rattle.ospf_lsas.specs.Lsa.{malformed, wrong_sum, Lsa, lsas, first_at, first_malformed_lem, first_wrong_sum_lem}
 use Rattle.stream_rules.specs.Theorems.{two_at}
 use Rattle.ospf_lsas.specs.Theorems.{Consecutive, end, faulty, next, PointsWithin}

@@ -10,9 +10,7 @@ use native.Mathlib.Omega.{arith}
 use lib.Dec.{eqb}
 use lib.ListN.{length, get_or, take, drop, length-drop, take-append-drop}
 use lib.Seq.{length-take-le}
-use Rattle.network.proofs.Tests.{and}
 use Rattle.network.proofs.Lists.{mem_take}
-use Rattle.topology_types.specs.declared.Half.{Half}
 use Rattle.stream_rules.specs.declared.Record.{Record}
 use Rattle.stream_rules.specs.declared.Record.TheVariants as record_of
 use Rattle.stream_rules.specs.Stream.{big_endian, body_length, half_in, decoded, record_in}

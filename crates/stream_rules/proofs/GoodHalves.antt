@@ -2,21 +2,21 @@
 -- links among them are as sound as their halves, no two join one pair, since they would share a half, and none is too many.
 -- Assumes nothing.
 use Prim.Native.Nat.{ℕ, suc, ◌+◌, ◌*◌, ◌≤◌, ◌<◌}
-use mathlib.Core.Bool.{Bool, true, false, cond, not}
+use mathlib.Core.Bool.{Bool, true, false, cond}
 use mathlib.Core.List.Memᴰ
 use mathlib.Core.List.{List, [], ◌∷◌, map, Memᴰ}
-use mathlib.Core.Logic.{◌≢◌, ◌⊎◌, inl, inr, ⊎_elim}
-use mathlib.Core.Path.{◌≡◌, refl, sym, ap, ◌∙◌, subst}
+use mathlib.Core.Logic.{◌≢◌, ⊎_elim}
+use mathlib.Core.Path.{◌≡◌, refl, sym, ap, subst}
 use native.Mathlib.Decide.{ℕ_discrete}
 use native.Mathlib.Omega.{arith}
-use borrow.Author.Tests.{eq-eqb, ne_eqb, eqb-true}
+use borrow.Author.Tests.{eq-eqb, ne_eqb}
 use lib.Dec.{T, eqb}
 use lib.ListN.{length}
 use Rattle.network.specs.Lists.{Pairwise, nothing, then}
 use Rattle.network.specs.Network as network
 use Rattle.network.specs.Network.{Arc, arcs_among, sound_link}
 use Rattle.network.specs.Theorems.Network.{SoundLink, SamePair}
-use Rattle.network.proofs.Tests.{truth, as_true, as_false}
+use Rattle.network.proofs.Tests.{as_true}
 use Rattle.network.proofs.SoundLinks.{link_fact}
 use Rattle.topology_types.specs.declared.Half.{Half}
 use Rattle.topology_types.specs.declared.Link.{Link}

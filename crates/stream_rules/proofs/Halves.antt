@@ -1,12 +1,11 @@
 -- Numbers that halves add up to: how many there are, how many leave a place, how many are the same as one, what they cost. What a record lists adds its
 -- halves to each of these numbers, wherever they stand among the others; that is all that is asked of the order of halves.
 -- Assumes nothing.
-use Prim.Native.Nat.{ℕ, ◌+◌, ◌*◌, ◌≤◌, ◌<◌}
-use mathlib.Core.Bool.{Bool, true, false, cond, not, ◌&&◌, ◌||◌, and_comm}
+use Prim.Native.Nat.{ℕ, ◌+◌, ◌≤◌}
+use mathlib.Core.Bool.{Bool, true, false, cond, not, ◌||◌, and_comm}
 use mathlib.Core.List.{List, [], ◌∷◌, ◌++◌, Memᴰ}
-use mathlib.Core.Path.{◌≡◌, refl, sym, ap, ◌∙◌}
+use mathlib.Core.Path.{◌≡◌, refl, sym, ◌∙◌}
 use native.Mathlib.Omega.{arith}
-use borrow.Author.Tests.{eqb-true}
 use lib.Dec.{eqb}
 use lib.ListN.{length}
 use Rattle.network.specs.Lists.{any, keep}
@@ -14,7 +13,7 @@ use Rattle.topology_types.specs.declared.Half.{Half}
 use Rattle.topology_types.specs.declared.Link.{Link}
 use Rattle.stream_rules.specs.declared.Record.TheVariants as record_of
 use Rattle.stream_rules.specs.Halves.{StreamListing, first_half, second_half, link_halves, halves, same_half, opposite, link_of}
-use Rattle.stream_rules.specs.Reading.{with_link, arrived, added}
+use Rattle.stream_rules.specs.Reading.{with_link, added}
 
 -- what f gives over the halves, added up
 unfoldable pub total : (Half → ℕ) → List Half → ℕ

@@ -27,7 +27,6 @@ use Rattle.stream_rules.specs.declared.Record.TheVariants as record_of
 use Rattle.stream_rules.specs.Halves.{StreamListing, link_halves, halves, same_half, leaves, opposite}
 use Rattle.stream_rules.specs.Reading.{repeated, crowded, fault, with_router, with_link, with_limit, arrived, added, nothing_listed}
 use Rattle.stream_rules.specs.Inner.{WhileRead}
-use Rattle.stream_rules.proofs.Stream.{whole}
 use Rattle.stream_rules.proofs.Fitting.{Fitting}
 use Rattle.stream_rules.proofs.Held.{contents_held}
 use Rattle.stream_rules.proofs.NoFault.{NewRouter, NewHalves, router_passes, halves_pass, one_fails, both_fail}

@@ -17,7 +17,7 @@ use Rattle.topology_types.specs.Topology.{Contents, padded, no_link, held, zeros
 use Rattle.topology_types.specs.Outcome.{answer}
 use Rattle.topology_sound.specs.Sound.{within}
 use Rattle.stream_rules.specs.declared.Reading.{Reading}
-use Rattle.stream_rules.specs.Halves.{StreamListing, halves}
+use Rattle.stream_rules.specs.Halves.{StreamListing}
 use Rattle.stream_rules.specs.Reading.{refusal, accepted_reading, router_fault_lem, fault, ended}
 use Rattle.stream_rules.specs.Theorems.{RouterFaults, all_zeros, listed_in, LimitFaults, EndFaults, FaultsEach}
 use Rattle.stream_rules.proofs.Decides.{Decides, holds, fails, decide, both, most, later, neither, found, past, Left, next, says, ends}

@@ -7,7 +7,7 @@ use mathlib.Core.Path.{◌≡◌, refl, sym, ap, ◌∙◌, subst}
 use native.Mathlib.Decide.{dec_lt}
 use native.Mathlib.Nat.{not-suc-le-zero, le_of_suc-le-suc, mul-suc, mul-zero}
 use native.Mathlib.Omega.{arith}
-use lib.ListN.{length, get_or, replicate, length-append, length-map, length-take, length-replicate, get_or-replicate, get_or-append}
+use lib.ListN.{length, get_or, replicate, length-append, length-map, length-take, get_or-replicate, get_or-append}
 use lib.Seq.{get_or-append-add, ext_get_or}
 use Rattle.network.specs.Lists.{below}
 use Rattle.network.specs.Network.{Arc, Network, size}

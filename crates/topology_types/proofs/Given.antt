@@ -9,7 +9,7 @@ use borrow.Author.Tests.{lt-ltb, le-ltb}
 use lib.ListN.{length, drop}
 use lib.Seq.{length_front, length-take-le, take-append_seam, drop-append_seam}
 use Rattle.topology_types.specs.Outcome.{answer, turned_away, given}
-use Rattle.topology_types.specs.Theorems.{BufferGiven, GivenExact, TurnedAwayExact}
+use Rattle.topology_types.specs.Theorems.{GivenExact, TurnedAwayExact}
 
 module _ (bytes buffer : List ℕ) where
   short : length buffer < length bytes → given bytes buffer ≡ record { answer = answer 24 (length bytes); buffer = buffer }

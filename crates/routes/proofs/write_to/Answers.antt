@@ -1,6 +1,6 @@
 -- The lines of a start fit in the room, and what is put stays within it.
 -- Assumes nothing.
-use Rattle.std.proofs.Common.{◌≡◌, ◌≤◌, length, take, arith, sym}
+use Rattle.std.proofs.Common.{◌≡◌, take, arith, sym}
 use lib.Seq.{length-take-le}
 use Rattle.topology_sound.proofs.Sound.{sound_exact}
 use Rattle.order.specs.Calls.{mode_of}

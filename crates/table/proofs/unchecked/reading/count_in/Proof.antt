@@ -1,15 +1,13 @@
 -- The number behind the destination, as wide as a rank.
 -- Assumes nothing.
-use mathlib.Core.Path.{◌≡◌, ap, ap₂, subst, sym, ◌∙◌}
-use Prim.Native.Nat.{ℕ, ◌+◌, ◌*◌}
+use mathlib.Core.Path.{ap, ◌∙◌}
+use Prim.Native.Nat.{◌+◌}
 use native.Mathlib.Omega.{arith}
 use borrow.Author.Rules.{rules}
-use lib.ListN.{get_or}
 use Rattle.table_rows.specs.declared.Layout.{Layout}
-use Rattle.table_rows.specs.Layout.{narrow, row_start_lem, number_at}
-use Rattle.table_rows.proofs.Layouts.{readable}
-use Rattle.table.specs.Listed.{destination_in_lem, count_in_lem, limit_in_lem, rank_in_lem, entry_count}
-use Rattle.table.proofs.Fields.{place_one, rank_one, places_part}
+use Rattle.table_rows.specs.Layout.{number_at}
+use Rattle.table.specs.Listed.{count_in_lem}
+use Rattle.table.proofs.Fields.{rank_one}
 use Rattle.table.proofs.unchecked.reading.count_in.Statement.{statement}
 use Rattle.table.proofs.unchecked.reading.count_in.Tie as tie
 

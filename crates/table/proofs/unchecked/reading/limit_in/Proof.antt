@@ -1,15 +1,11 @@
 -- The byte behind the count.
 -- Assumes nothing.
-use mathlib.Core.Path.{◌≡◌, ap, ap₂, subst, sym, ◌∙◌}
-use Prim.Native.Nat.{ℕ, ◌+◌, ◌*◌}
-use native.Mathlib.Omega.{arith}
+use mathlib.Core.Path.{ap}
+use Prim.Native.Nat.{◌+◌}
 use borrow.Author.Rules.{rules}
 use lib.ListN.{get_or}
 use Rattle.table_rows.specs.declared.Layout.{Layout}
-use Rattle.table_rows.specs.Layout.{narrow, row_start_lem, number_at}
-use Rattle.table_rows.proofs.Layouts.{readable}
-use Rattle.table.specs.Listed.{destination_in_lem, count_in_lem, limit_in_lem, rank_in_lem, entry_count}
-use Rattle.table.proofs.Fields.{place_one, rank_one, places_part}
+use Rattle.table.specs.Listed.{limit_in_lem}
 use Rattle.table.proofs.unchecked.reading.limit_in.Statement.{statement}
 use Rattle.table.proofs.unchecked.reading.limit_in.Tie as tie
 

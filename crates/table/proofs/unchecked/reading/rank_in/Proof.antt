@@ -1,16 +1,11 @@
 -- The number behind the kind of the row, as wide as a rank.
 -- Assumes nothing.
-use Prim.Native.Nat.{◌≤◌, ◌<◌, ◌+◌}
-use mathlib.Core.Path.{◌≡◌, ap, ap₂, sym, ◌∙◌}
-use native.Mathlib.Nat.{add-sub_cancel_left}
+use Prim.Native.Nat.{◌≤◌, ◌+◌}
+use mathlib.Core.Path.{◌∙◌}
 use native.Mathlib.Omega.{arith}
-use borrow.Author.Rules.{rules}
-use lib.ListN.{length, get_or, take, drop}
-use Rattle.table_rows.specs.declared.Layout.{Layout}
-use Rattle.table_rows.specs.Layout.{narrow, row_start_lem}
+use lib.ListN.{length}
 use Rattle.table_rows.proofs.Layouts.{readable}
-use Rattle.table.specs.Listed.{entry_count, places_in}
-use Rattle.table.proofs.Fields.{rank_one, start_is, rank_read, count_read, places_part}
+use Rattle.table.proofs.Fields.{rank_one, start_is, rank_read}
 use Rattle.table.proofs.unchecked.reading.rank_in.Statement.{statement}
 use Rattle.table.proofs.unchecked.reading.rank_in.Tie as tie
 

@@ -1,16 +1,14 @@
 -- The count of the row is read, and so many bytes behind it are its places.
 -- Assumes nothing.
 use Prim.Native.Nat.{ℕ, ◌+◌, ◌-◌, ◌≤◌}
-use mathlib.Core.Path.{◌≡◌, ap, ap₂, sym, ◌∙◌}
-use native.Mathlib.Nat.{add-sub_cancel_left}
+use mathlib.Core.Path.{◌≡◌, ap₂, ◌∙◌}
 use native.Mathlib.Omega.{arith}
 use borrow.Author.Rules.{rules}
 use lib.ListN.{length, get_or, take, drop}
-use Rattle.table_rows.specs.declared.Layout.{Layout}
 use Rattle.table_rows.specs.Layout.{narrow, row_start_lem}
 use Rattle.table_rows.proofs.Layouts.{readable}
-use Rattle.table.specs.Listed.{entry_count, places_in}
-use Rattle.table.proofs.Fields.{rank_one, start_is, rank_read, count_read, places_part}
+use Rattle.table.specs.Listed.{entry_count}
+use Rattle.table.proofs.Fields.{rank_one, start_is, count_read, places_part}
 use Rattle.table.proofs.unchecked.reading.row_in.Statement.{statement}
 use Rattle.table.proofs.unchecked.reading.row_in.Tie as tie
 
