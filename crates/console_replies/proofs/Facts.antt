@@ -24,7 +24,7 @@ use Rattle.console_replies.specs.Calls.{coverage_line, presence, cost_numbers, c
 use Rattle.console_replies.specs.Facts.{holds, facts, FactsHold, line_holds, line_facts, LinesHold}
 
 pub facts_hold : FactsHold
-unfolding numbers_from below keep every any least_by greatest_by ahead foremost insert sort member distinct same_numbers wins
+unfolding numbers_from below least_by greatest_by ahead foremost insert sort member distinct same_numbers wins
     size id_of arcs_of greatest_cost arcs_among linked sound_cost sound_link same_pair pairs_differ sound_links
     absent distance_in through at_first_lem round rounds distances
     reached shortest_next_hops leads_into ready candidate placed_neighbours preferred select continued placing build
@@ -37,7 +37,7 @@ unfolding numbers_from below keep every any least_by greatest_by ahead foremost 
 facts_hold = tt
 
 pub lines_hold : LinesHold
-unfolding every same_numbers big_endian big_endian_on of_bits to_bits final_digits number_text spaced
+unfolding same_numbers big_endian big_endian_on of_bits to_bits final_digits number_text spaced
     type_of length_of span_of cut_short number_in usable case_of judged sub_in
     nothing gathered held_to_range bandwidth_cost maximum_cost record_cost refused_cost concluded fault_of_lem added_sub taken_from costing
     presence cost_numbers cost_line line_holds line_facts

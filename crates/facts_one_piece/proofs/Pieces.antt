@@ -22,7 +22,7 @@ ends t u = T (reached (network_of t) (distances (network_of t) 0) u)
 
 -- computed: both are sound; of T every router is reached, of the two parts the third is not
 computed : T (sound T-topology) × T (sound two_parts) × ((u : ℕ) → u < 3 → ends T-topology u) × (ends two_parts 2 → ⊥)
-unfolding numbers_from below keep every any least_by member distinct
+unfolding numbers_from below least_by member distinct
     size arcs_of greatest_cost arcs_among linked sound_cost sound_link same_pair pairs_differ sound_links
     absent distance_in through of-distance.at_first_lem round rounds distances reached
     no_link padded contents held seen network_in network_of

@@ -14,7 +14,7 @@ use Rattle.ospf_lsas.specs.Facts.{lsa_1, lsa_2, lsa_3, lsa_4, three}
 use Rattle.facts_ospf.specs.Facts.{flat_links, answers_so, holds_so, holds, sealed, links_to, made, counted, alone, ring, facts, FactsHold}
 
 pub facts_hold : FactsHold
-unfolding keep every any least_by member same_numbers no_link padded contents held zeros
+unfolding least_by member same_numbers no_link padded contents held zeros
     big_endian_on big_endian first_half second_half link_halves halves same_half leaves opposite link_of
     refusal accepted_reading router_fault_lem repeated crowded halves_fault_lem fault with_router with_link arrived added
     ended unless nothing_listed

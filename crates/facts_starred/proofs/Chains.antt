@@ -37,7 +37,7 @@ use Rattle.facts_starred.specs.Facts.Starred.{link, F-network, F-stream, alone_s
 use Rattle.facts_starred.specs.Facts.Apart.{cut_off, two_parts, pair, three_up, apart, ApartHold}
 
 chains_hold : StarredHold × ApartHold
-unfolding numbers_from below keep every any least_by greatest_by ahead foremost insert sort member distinct same_numbers wins
+unfolding numbers_from below least_by greatest_by ahead foremost insert sort member distinct same_numbers wins
     size id_of arcs_of greatest_cost arcs_among linked sound_cost sound_link same_pair pairs_differ sound_links
     absent distance_in through of-distance.at_first_lem round rounds distances
     reached shortest_next_hops leads_into ready candidate placed_neighbours preferred select continued placing build

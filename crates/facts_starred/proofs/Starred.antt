@@ -24,7 +24,7 @@ use Rattle.facts_starred.specs.Facts.Starred.{link, two_costs, T-network, F-netw
 use Rattle.facts_starred.specs.Facts.Starred.{T-reversed, all_up, further, FurtherHold, WorkedWellFormed, StreamsRead}
 
 pub further_hold : FurtherHold
-unfolding numbers_from below keep every any least_by greatest_by ahead foremost insert sort member same_numbers wins
+unfolding numbers_from below least_by greatest_by ahead foremost insert sort member same_numbers wins
     size id_of arcs_of greatest_cost arcs_among linked
     absent distance_in through of-distance.at_first_lem round rounds distances
     reached shortest_next_hops leads_into ready candidate placed_neighbours preferred select continued placing build
@@ -36,11 +36,11 @@ unfolding numbers_from below keep every any least_by greatest_by ahead foremost 
 further_hold = tt
 
 pub worked_well_formed : WorkedWellFormed
-unfolding every any member distinct greatest_cost sound_cost sound_link same_pair pairs_differ sound_links link two_costs T-network F-network alone slope
+unfolding member distinct greatest_cost sound_cost sound_link same_pair pairs_differ sound_links link two_costs T-network F-network alone slope
 worked_well_formed = (linked_well_formed _ _ tt, linked_well_formed _ _ tt, linked_well_formed _ _ tt, linked_well_formed _ _ tt)
 
 pub streams_read : StreamsRead
-unfolding numbers_from below keep every any least_by member
+unfolding numbers_from below least_by member
     size arcs_of greatest_cost arcs_among linked
     absent distance_in through of-distance.at_first_lem round rounds distances reached
     no_link padded contents held zeros seen network_in network_of within

@@ -42,7 +42,7 @@ module _ (a : Arcs) (states : List ℕ) (u : ℕ) where
   of_place : (v : ℕ) (js : List ℕ) (rest : List Arc) →
       place_of (first_live states (keep (λ b. eqb b.to v) (map (slot_arc a u) js) ++ rest))
       ≡ cond (any (slot_up a.to a.link states u v) js) (some v) (place_of (first_live states rest))
-  unfolding keep any first_live slot_up slot_to slot_arc
+  unfolding first_live slot_up slot_to slot_arc
   of_place v [] rest = refl
   of_place v (j ∷ js) rest = step (eqb (get_or a.to (u * 16 + j) 0) v) refl (up states (get_or a.link (u * 16 + j) 0)) refl (of_place v js rest)
     where
@@ -58,7 +58,7 @@ module _ (a : Arcs) (states : List ℕ) (u : ℕ) where
   module _ (n : Network) (held : slot_arcs a u ≡ arcs_of n u) where
     of_places : (places : List ℕ) →
         first_up a.to a.link states u (get_or a.count u 0) places ≡ place_of (first_live states (joined_over (arcs_to n u) places))
-    unfolding first_up first_of keep joined_over arcs_to slot_arcs first_live
+    unfolding first_up first_of joined_over arcs_to slot_arcs first_live
     of_places [] = refl
     of_places (v ∷ vs) =
         first_cond (any (slot_up a.to a.link states u v) (below (get_or a.count u 0))) v _

@@ -19,7 +19,7 @@ use Rattle.import.specs.Output.{imported_stream, complaint_of, import_output, co
 use Rattle.import.specs.Facts.{holds, refused, facts, FactsHold}
 
 pub facts_hold : FactsHold
-unfolding keep every any least_by member same_numbers no_link padded contents held zeros
+unfolding least_by member same_numbers no_link padded contents held zeros
     big_endian_on big_endian in_bytes first_half second_half link_halves halves same_half leaves opposite link_of
     refusal accepted_reading router_fault_lem repeated crowded halves_fault_lem fault with_router with_link arrived added ended unless nothing_listed
     joined_over router_bytes half_body half_bytes link_bytes limit_bytes written refused_word answer_text answer_line word_line final_digits number_text

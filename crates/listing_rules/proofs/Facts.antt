@@ -25,7 +25,7 @@ use Rattle.listing_rules.specs.Facts.{holds, T-0, T-1, T-2, F-0, F-0-limited, el
 use Rattle.listing_rules.specs.Facts.{two_parts_0, two_parts_1, two_parts_2, two_parts_3, pair_all, room, facts, FactsHold}
 
 pub facts_hold : FactsHold
-unfolding numbers_from below keep every any least_by greatest_by ahead foremost insert sort member distinct same_numbers wins
+unfolding numbers_from below least_by greatest_by ahead foremost insert sort member distinct same_numbers wins
     size id_of arcs_of greatest_cost arcs_among linked sound_cost sound_link same_pair pairs_differ sound_links
     absent distance_in through at_first_lem round rounds distances
     reached shortest_next_hops leads_into ready candidate placed_neighbours preferred select continued placing build

@@ -27,14 +27,12 @@ module _ {A : Type 0} where
   keep_tail false x m = m
 
   pub mem_keep : (f : A → Bool) (xs : List A) {y : A} → Memᴰ y (keep f xs) → Memᴰ y xs × T (f y)
-  unfolding keep
   mem_keep f [] m = absurd (Memᴰ.not-nil m)
   mem_keep f (x ∷ xs) m =
       ⊎_elim (λ h. (Memᴰ.head h.0, subst (λ (z : A). T (f z)) (sym h.0) h.1))
       (λ m'. let (k, t) = mem_keep f xs m' in (Memᴰ.tail k, t)) (kept (f x) m)
 
   pub keep_mem : (f : A → Bool) (xs : List A) {y : A} → Memᴰ y xs → T (f y) → Memᴰ y (keep f xs)
-  unfolding keep
   keep_mem f [] m t = absurd (Memᴰ.not-nil m)
   keep_mem f (x ∷ xs) m t =
       ⊎_elim (λ e. keep_head (f x) (keep f xs) (subst (λ (z : A). T (f z)) e t) e) (λ m'. keep_tail (f x) x (keep_mem f xs m' t))
@@ -56,20 +54,17 @@ module _ {A : Type 0} where
   split (Memᴰ.tail {x} m) = let (before, after, e) = split m in (x ∷ before, after, ap (λ (l : List A). x ∷ l) e)
 
   pub every_all : (f : A → Bool) (xs : List A) → T (every f xs) → (y : A) → Memᴰ y xs → T (f y)
-  unfolding every
   every_all f [] t y m = absurd (Memᴰ.not-nil m)
   every_all f (x ∷ xs) t y m =
       let (s, r) = both (f x) (every f xs) t in
       ⊎_elim (λ e. subst (λ (z : A). T (f z)) (sym e) s) (λ m'. every_all f xs r y m') (Memᴰ.cases_cons m)
 
   pub all_every : (f : A → Bool) (xs : List A) → ((y : A) → Memᴰ y xs → T (f y)) → T (every f xs)
-  unfolding every
   all_every f [] h = tt
   all_every f (x ∷ xs) h = and (f x) (every f xs) (h x (Memᴰ.head refl)) (all_every f xs (λ y m. h y (Memᴰ.tail m)))
 
   -- all pass, or some element does not
   pub every_or : (f : A → Bool) (xs : List A) → T (every f xs) ⊎ ((y : A) × Memᴰ y xs × (T (f y) → ⊥))
-  unfolding every
   every_or f [] = inl tt
   every_or f (x ∷ xs) = step (truth (f x)) (every_or f xs)
     where
@@ -80,13 +75,11 @@ module _ {A : Type 0} where
       step (inl t) (inr (y, m, no')) = inr (y, Memᴰ.tail m, no')
 
   pub any_some : (f : A → Bool) (xs : List A) → T (any f xs) → (y : A) × Memᴰ y xs × T (f y)
-  unfolding any
   any_some f [] t = absurd t
   any_some f (x ∷ xs) t =
       ⊎_elim (λ s. (x, Memᴰ.head refl, s)) (λ r. let (y, m, s) = any_some f xs r in (y, Memᴰ.tail m, s)) (either (f x) (any f xs) t)
 
   pub some_any : (f : A → Bool) (xs : List A) {y : A} → Memᴰ y xs → T (f y) → T (any f xs)
-  unfolding any
   some_any f [] m t = absurd (Memᴰ.not-nil m)
   some_any f (x ∷ xs) m t =
       ⊎_elim (λ e. or_left (f x) (any f xs) (subst (λ (z : A). T (f z)) e t)) (λ m'. or_right (f x) (any f xs) (some_any f xs m' t))
@@ -95,7 +88,6 @@ module _ {A : Type 0} where
   module _ {R : A → A → Type 0} where
     -- what holds of each two elements holds of each two that are kept, and of each two of the first k
     pub pairwise_keep : (f : A → Bool) {xs : List A} → Pairwise R xs → Pairwise R (keep f xs)
-    unfolding keep
     pairwise_keep f nothing = nothing
     pairwise_keep f (then {x} {xs} h p) = step (f x) (pairwise_keep f p)
       where

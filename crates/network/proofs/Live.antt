@@ -96,7 +96,6 @@ pub only_up : Network → ℕ → List ℕ
 only_up n link = map (λ k. cond (eqb k link) 1 0) (below n.links)
 
 every_map : (f : ℕ → ℕ) (g : ℕ → Bool) (xs : List ℕ) → ((x : ℕ) → T (g (f x))) → T (every g (map f xs))
-unfolding every
 every_map f g [] h = tt
 every_map f g (x ∷ xs) h = and (g (f x)) (every g (map f xs)) (h x) (every_map f g xs h)
 

@@ -1,7 +1,8 @@
 -- Plain lists: tests over them, what stands first or is least in them, and what holds of each two elements. Every section of 01 speaks of such lists;
 -- only the rule for ties is a rule of 01.
 -- Assumes nothing.
-use Rattle.std.specs.Prelude.{ℕ, zero, suc, ◌+◌, min, max, Bool, true, false, cond, ◌&&◌, ◌||◌, ◌≢◌, eqb, ltb, length}
+use Rattle.std.specs.Prelude.{ℕ, zero, suc, ◌+◌, min, max, Bool, true, false, cond, ◌&&◌, ◌||◌, ◌≢◌, eqb, ltb, length, filter}
+use Rattle.std.specs.List.{list_all, list_any}
 use mathlib.Core.List.{List, [], ◌∷◌, Memᴰ}
 use Rattle.std.proofs.Math.Option.{Option, none, some}
 
@@ -16,19 +17,16 @@ below n = numbers_from 0 n
 
 module _ {A : Type 0} where
   -- the elements that pass the test, in their order
-  unfoldable pub keep : (A → Bool) → List A → List A
-  keep f [] = []
-  keep f (x ∷ xs) = cond (f x) (x ∷ keep f xs) (keep f xs)
+  abbrev pub keep : (A → Bool) → List A → List A
+  keep = filter
 
   -- every element passes the test
-  unfoldable pub every : (A → Bool) → List A → Bool
-  every f [] = true
-  every f (x ∷ xs) = f x && every f xs
+  abbrev pub every : (A → Bool) → List A → Bool
+  every = list_all
 
   -- some element passes the test
-  unfoldable pub any : (A → Bool) → List A → Bool
-  any f [] = false
-  any f (x ∷ xs) = f x || any f xs
+  abbrev pub any : (A → Bool) → List A → Bool
+  any = list_any
 
   -- the least of `start` and what f gives over the list
   unfoldable pub least_by : (A → ℕ) → ℕ → List A → ℕ

@@ -15,7 +15,7 @@ use Rattle.order.specs.Facts.{answers, holds, link, two_costs, T-topology, squar
 use Rattle.order.specs.Facts.{facts, FactsHold}
 
 pub facts_hold : FactsHold
-unfolding numbers_from below keep every any least_by ahead foremost member distinct same_numbers wins
+unfolding numbers_from below least_by ahead foremost member distinct same_numbers wins
     size id_of arcs_of greatest_cost arcs_among linked sound_cost sound_link same_pair pairs_differ sound_links
     absent distance_in through of-distance.at_first_lem round rounds distances
     reached shortest_next_hops leads_into ready candidate placed_neighbours preferred select continued placing build

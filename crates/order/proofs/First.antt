@@ -13,13 +13,13 @@ use Rattle.topology_types.specs.Outcome.{first_or}
 
 module _ (f : ℕ → Bool) where
   pub none_from : (s n : ℕ) → ((k : ℕ) → s ≤ k → k < s + n → f k ≡ false) → keep f (numbers_from s n) ≡ []
-  unfolding numbers_from keep
+  unfolding numbers_from
   none_from s zero none = refl
   none_from s (suc n) none = rw (none s (omega arith) (omega arith)) (none_from (suc s) n (λ k l h. none k (omega arith) (omega arith)))
 
   pub first_from : (s n r z : ℕ) → s ≤ r → r < s + n → ((k : ℕ) → s ≤ k → k < r → f k ≡ false) → f r ≡ true →
       first_or z (keep f (numbers_from s n)) ≡ r
-  unfolding numbers_from keep first_or
+  unfolding numbers_from first_or
   first_from s zero r z l h before here = absurd (omega arith)
   first_from s (suc n) r z l h before here = step (eq-or-lt_of_le l) (first_from (suc s) n r z)
     where

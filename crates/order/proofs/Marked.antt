@@ -18,7 +18,7 @@ pub member_last : (u : ℕ) (xs : List ℕ) → member u (xs ++ (u ∷ [])) ≡ 
 member_last u xs = as_true (member u (xs ++ (u ∷ []))) (mem_member u (xs ++ (u ∷ [])) (Memᴰ.append_right xs (Memᴰ.head refl)))
 
 pub member_other : (v u : ℕ) (xs : List ℕ) → v ≢ u → member v (xs ++ (u ∷ [])) ≡ member v xs
-unfolding member any
+unfolding member
 member_other v u [] apart = rw (ne_eqb v u apart)
 member_other v u (x ∷ xs) apart = ap (λ (b : Bool). eqb v x || b) (member_other v u xs apart)
 

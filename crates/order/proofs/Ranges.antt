@@ -46,12 +46,12 @@ module _ (f : ℕ → Bool) where
   None s k = (i : ℕ) → s ≤ i → i < s + k → f i ≡ false
 
   pub keep_none : (s k : ℕ) → None s k → keep f (numbers_from s k) ≡ []
-  unfolding keep numbers_from
+  unfolding numbers_from
   keep_none s zero out = refl
   keep_none s (suc k) out = rw (out s (omega arith) (omega arith)) (keep_none (suc s) k (λ i h l. out i (omega arith) (omega arith)))
 
   pub none_passes : (s k : ℕ) → keep f (numbers_from s k) ≡ [] → None s k
-  unfolding keep numbers_from
+  unfolding numbers_from
   none_passes s zero e = λ i h l. absurd (omega arith)
   none_passes s (suc k) e = step (f s) refl e (none_passes (suc s) k)
     where
@@ -70,7 +70,7 @@ module _ (f : ℕ → Bool) where
     pub earlier : (i : ℕ) → s ≤ i → i < r → f i ≡ false
 
   pub keep_first : (other s k r : ℕ) → First s k r → first_or other (keep f (numbers_from s k)) ≡ r
-  unfolding keep numbers_from first_or
+  unfolding numbers_from first_or
   keep_first other s zero r w = absurd (omega (arith, w.least, w.within))
   keep_first other s (suc k) r w = step (ℕ_discrete s r) (keep_first other (suc s) k r)
     where
@@ -86,7 +86,7 @@ module _ (f : ℕ → Bool) where
           (on (record { least = omega arith; within = omega arith; passes = w.passes; earlier = λ i above. w.earlier i (omega arith) }))
 
   pub first_passes : (s k r : ℕ) (others : List ℕ) → keep f (numbers_from s k) ≡ r ∷ others → First s k r
-  unfolding keep numbers_from
+  unfolding numbers_from
   first_passes s zero r others e = absurd (nil≢cons e)
   first_passes s (suc k) r others e = step (f s) refl e (first_passes (suc s) k r others)
     where

@@ -92,7 +92,7 @@ module _ {n : Network} {a : Arcs} (g : Setting n a) where
   -- before any router is placed, each waits for as many as its slots lead to
   pub waiting_first : (ds slots : List ℕ) → Agrees n ds slots → (u : ℕ) → u < size n →
       waiting n ds [] u ≡ length (keep (slot_short a.to a.cost slots u) (below (get_or a.count u 0)))
-  unfolding shortest_next_hops leads_into member any through slot_short slot_cost slot_to slot_arc
+  unfolding shortest_next_hops leads_into member through slot_short slot_cost slot_to slot_arc
   waiting_first ds slots agrees u h =
       ap length (keep_all _ (shortest_next_hops n ds u) (λ b. refl)) ∙ ap length (keep_same _ test (arcs_of n u) same) ∙ in-slots g.holds u h test
     where

@@ -20,17 +20,14 @@ once b = cond b 1 0
 module _ {A : Type 0} where
   -- tests that agree on the elements keep the same
   pub keep_same : (f g : A → Bool) (xs : List A) → ((x : A) → Memᴰ x xs → f x ≡ g x) → keep f xs ≡ keep g xs
-  unfolding keep
   keep_same f g [] h = refl
   keep_same f g (x ∷ xs) h = rw (h x (Memᴰ.head refl), keep_same f g xs (λ y m. h y (Memᴰ.tail m)))
 
   pub keep_all : (f : A → Bool) (xs : List A) → ((x : A) → f x ≡ true) → keep f xs ≡ xs
-  unfolding keep
   keep_all f [] h = refl
   keep_all f (x ∷ xs) h = rw (h x, keep_all f xs h)
 
   pub keep_keep : (f g : A → Bool) (xs : List A) → keep f (keep g xs) ≡ keep (λ x. g x && f x) xs
-  unfolding keep
   keep_keep f g [] = refl
   keep_keep f g (x ∷ xs) = step (g x) (keep_keep f g xs)
     where
@@ -40,7 +37,6 @@ module _ {A : Type 0} where
       step false e = e
 
   kept_one : (f : A → Bool) (x : A) (xs : List A) → length (keep f (x ∷ xs)) ≡ once (f x) + length (keep f xs)
-  unfolding keep
   kept_one f x xs = step (f x)
     where
       step : (b : Bool) → length (cond b (x ∷ keep f xs) (keep f xs)) ≡ once b + length (keep f xs)
@@ -50,12 +46,10 @@ module _ {A : Type 0} where
   -- where those that pass f are those that pass g and those that pass h, and none passes both
   pub kept_sum : (f g h : A → Bool) (xs : List A) → ((x : A) → once (f x) ≡ once (g x) + once (h x)) →
       length (keep f xs) ≡ length (keep g xs) + length (keep h xs)
-  unfolding keep
   kept_sum f g h [] e = refl
   kept_sum f g h (x ∷ xs) e = omega (arith, kept_one f x xs, kept_one g x xs, kept_one h x xs, e x, kept_sum f g h xs e)
 
   pub kept_most : (f : A → Bool) (xs : List A) → length (keep f xs) ≤ length xs
-  unfolding keep
   kept_most f [] = zero-le
   kept_most f (x ∷ xs) = step (f x) (kept_most f xs)
     where
@@ -90,7 +84,6 @@ module _ {A : Type 0} where
   -- at most one is kept, where of each two elements not both pass
   one_kept : {R : A → A → Type 0} (f : A → Bool) → ((x y : A) → T (f x) → T (f y) → R x y → ⊥) → {xs : List A} → Pairwise R xs →
       length (keep f xs) ≤ 1
-  unfolding keep
   one_kept f apart nothing = zero-le
   one_kept f apart (then {x} {xs} h p) = step (f x) refl (one_kept f apart p)
     where
@@ -111,13 +104,11 @@ module _ {A : Type 0} where
       step (inr w) r = omega (arith, some_kept f xs w, some_kept g ys (to w), one_kept f f-apart p, one_kept g g-apart q)
 
   any_snoc : (f : A → Bool) (xs : List A) (y : A) → any f (xs ++ (y ∷ [])) ≡ (any f xs || f y)
-  unfolding any
   any_snoc f [] y = or-false (f y)
   any_snoc f (x ∷ xs) y = ap (λ (b : Bool). f x || b) (any_snoc f xs y) ∙ sym (or_assoc (f x) (any f xs) (f y))
 
   -- there is none that fails just if every element passes, and one that passes just if some element does
   pub every_kept : (f : A → Bool) (xs : List A) → eqb (length (keep (λ x. not (f x)) xs)) 0 ≡ every f xs
-  unfolding keep every
   every_kept f [] = refl
   every_kept f (x ∷ xs) = step (f x) (every_kept f xs)
     where
@@ -127,7 +118,6 @@ module _ {A : Type 0} where
       step false e = eqb-suc-zero (length (keep (λ y. not (f y)) xs))
 
   pub any_kept : (f : A → Bool) (xs : List A) → ltb 0 (length (keep f xs)) ≡ any f xs
-  unfolding keep any
   any_kept f [] = refl
   any_kept f (x ∷ xs) = step (f x) (any_kept f xs)
     where
@@ -136,7 +126,6 @@ module _ {A : Type 0} where
       step false e = e
 
 pub keep_map : {A B : Type 0} (f : B → Bool) (g : A → B) (xs : List A) → length (keep f (map g xs)) ≡ length (keep (λ x. f (g x)) xs)
-unfolding keep
 keep_map f g [] = refl
 keep_map f g (x ∷ xs) = step (f (g x)) (keep_map f g xs)
   where

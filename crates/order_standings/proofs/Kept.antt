@@ -38,12 +38,12 @@ placed_or u placed there not = ⊎_elim (λ t. there (member_mem u placed t)) (�
 
 module _ {n : Network} {a : Arcs} (g : Setting n a) {ds slots : List ℕ} {m : Mode} (by : GoneBy n ds m slots) {lower : List ℕ} where
   pub kept_start : {keys : List ℕ} → FirstStandings a.count a.to a.cost slots lower m (size n) keys → Kept n ds m lower [] keys
-  unfolding placed_neighbours leads_into member any
+  unfolding placed_neighbours leads_into member
   kept_start w =
       record {
         long = w.long;
         unplaced = λ u h _.
-            let none-near : placed_neighbours n [] u ≡ 0 = none_kept _ (arcs_of n u) (λ (b, k, t). t) in
+            let none-near : placed_neighbours n [] u ≡ 0 = none_kept (leads_into []) (arcs_of n u) (λ (b, k, t). t) in
             omega (arith, w.each u h, first u h m refl, none-near);
         low = λ u h l. absurd (Memᴰ.not-nil l);
         done = λ u h l. absurd (Memᴰ.not-nil l);

@@ -50,7 +50,7 @@ met_unless zero at r m rest = rest refl
 met_unless (suc number) at r m rest = m
 
 met_last : (p : StreamListing) → Met (at_last p).answer.number
-unfolding at_last ended refusal accepted_reading member any
+unfolding at_last ended refusal accepted_reading member
 met_last p = cases (eqb (length p.contents.ids) 0)
   where
     cases : (b : Bool) → Met (cond b (refusal 12 0) (accepted_reading p.contents)).answer.number
@@ -58,12 +58,12 @@ met_last p = cases (eqb (length p.contents.ids) 0)
     cases false = tt
 
 met_router : (p : StreamListing) (id : ℕ) → Met (fault p (record_of.Router id))
-unfolding fault router_fault_lem member any
+unfolding fault router_fault_lem member
 met_router p id = either (member id p.contents.ids) 3 _ tt (either (leb 64 (length p.contents.ids)) 4 0 tt tt)
 
 met_half : (p : StreamListing) (h : Half) → h.from.0 < length p.contents.ids → h.to.0 < length p.contents.ids → repeated p h ≡ false →
     Met (fault p (record_of.Half h))
-unfolding fault halves_fault_lem member any
+unfolding fault halves_fault_lem member
 met_half p h from to fresh =
     rw (lt-ltb h.from.0 (length p.contents.ids) from, lt-ltb h.to.0 (length p.contents.ids) to, fresh)
     (either (eqb h.from.0 h.to.0) 6 _ tt
@@ -246,7 +246,7 @@ met_right file bytes right =
     (λ h. (once_from h (map router_of ls) 0 ls).0)))
 
 pub import_numbers : ImportNumbers
-unfolding refusal member any
+unfolding refusal member
 import_numbers file bytes = member_mem _ _ (cases (verdict file))
   where
     cases : Verdict file → Met (importing file).answer.number

@@ -160,7 +160,7 @@ module _ (ids : List ℕ) (before : List RouterLink) (l : RouterLink) where
       ∙ keep_append (λ id. member id ids) (neighbours_of before) (l.id ∷ [])
 
   newly : new_place_lem ids before l < length ids → New ids before l
-  unfolding new_place_lem keep
+  unfolding new_place_lem
   newly h = cases (eqb l.kind 1) refl (member l.id (neighbours_of before)) refl h
     where
       cases : (b : Bool) → eqb l.kind 1 ≡ b → (m : Bool) → member l.id (neighbours_of before) ≡ m →
@@ -171,7 +171,7 @@ module _ (ids : List ℕ) (before : List RouterLink) (l : RouterLink) where
           record { typed = eqb-true _ _ q; place = rw (q, p) refl; added = first q p ∙ rw (placed l.id ids h) refl }
 
   nothing_new : length ids ≤ new_place_lem ids before l → kept ids (before ++ (l ∷ [])) ≡ kept ids before
-  unfolding new_place_lem keep
+  unfolding new_place_lem
   nothing_new h = cases (eqb l.kind 1) refl (member l.id (neighbours_of before)) refl h
     where
       cases : (b : Bool) → eqb l.kind 1 ≡ b → (m : Bool) → member l.id (neighbours_of before) ≡ m →
@@ -215,7 +215,7 @@ pub record Stored (ids : List ℕ) (place : ℕ) (s : List ℕ) (number : ℕ) (
 
 pub at_first : (ids : List ℕ) (place : ℕ) (s : List ℕ) (number : ℕ) (half : List Half) → length half ≡ 64 → T (some? (links_in number s)) →
     Stored ids place s number half 0 0 0
-unfolding links_in all_of some? neighbours_of point_to_point keep once
+unfolding links_in all_of some? neighbours_of point_to_point once
 at_first ids place s number half long t =
     let none = sub-zero number in
     record {

@@ -227,7 +227,7 @@ pub first_listed : FirstListed
 first_listed = in_order
 
 without : (before after : List RouterLink) (l : RouterLink) → l.kind ≢ 1 → point_to_point (before ++ (l ∷ after)) ≡ point_to_point (before ++ after)
-unfolding point_to_point keep
+unfolding point_to_point
 without before after l e =
     keep_append (λ k. eqb k.kind 1) before (l ∷ after)
     ∙ rw (ne_eqb l.kind 1 e) (sym (keep_append (λ k. eqb k.kind 1) before after))

@@ -28,7 +28,7 @@ module _ (id : ℕ) where
 
   pub lowest_first : (l : RouterLink) (ls : List RouterLink) →
       lowest_to_lem id (point_to_point (l ∷ ls)) ≡ min (lowest_to_lem id (point_to_point (l ∷ []))) (lowest_to_lem id (point_to_point ls))
-  unfolding lowest_to_lem point_to_point keep least_by
+  unfolding lowest_to_lem point_to_point least_by
   lowest_first l ls = step (eqb l.kind 1) (eqb l.id id) refl (lowest_most (point_to_point ls))
     where
       step : (b c : Bool) → eqb l.id id ≡ c → lowest_to_lem id (point_to_point ls) ≤ 65536 →
@@ -38,23 +38,23 @@ module _ (id : ℕ) where
       step true true q h = rw q (omega arith)
 
   none_left : (s : List ℕ) → lowest_to_lem id (point_to_point (all_of (links_in 0 s))) ≡ 65536
-  unfolding lowest_to_lem point_to_point keep least_by links_in all_of
+  unfolding lowest_to_lem point_to_point least_by links_in all_of
   none_left [] = refl
   none_left (b ∷ s) = refl
 
 -- the lowest metric of one link, by its bytes
 module _ (s : List ℕ) (at id : ℕ) where
   pub other_type : get_or s (at + 8) 0 ≢ 1 → 65536 ≡ lowest_to_lem id (point_to_point (link_in (drop at s) ∷ []))
-  unfolding lowest_to_lem point_to_point keep least_by link_in
+  unfolding lowest_to_lem point_to_point least_by link_in
   other_type e = rw (get_or-drop at s 8 0, ne_eqb (get_or s (at + 8) 0) 1 e)
 
   pub other_router : get_or s (at + 8) 0 ≡ 1 → big_endian (take 4 (drop at s)) ≢ id → 65536 ≡ lowest_to_lem id (point_to_point (link_in (drop at s) ∷ []))
-  unfolding lowest_to_lem point_to_point keep least_by link_in
+  unfolding lowest_to_lem point_to_point least_by link_in
   other_router t e = rw (get_or-drop at s 8 0, eq-eqb (get_or s (at + 8) 0) 1 t, ne_eqb (big_endian (take 4 (drop at s))) id e)
 
   pub its_metric : get_or s (at + 8) 0 ≡ 1 → big_endian (take 4 (drop at s)) ≡ id → at + 12 ≤ length s → two_at s (at + 10) < 65536 →
       two_at s (at + 10) ≡ lowest_to_lem id (point_to_point (link_in (drop at s) ∷ []))
-  unfolding lowest_to_lem point_to_point keep least_by link_in
+  unfolding lowest_to_lem point_to_point least_by link_in
   its_metric t e h m =
       rw (get_or-drop at s 8 0, eq-eqb (get_or s (at + 8) 0) 1 t, eq-eqb (big_endian (take 4 (drop at s))) id e, drop-drop 10 at s, two-at s (at + 10) (omega arith))
       (omega arith)

@@ -20,7 +20,6 @@ use Rattle.ospf_halves.specs.Neighbours.{point_to_point, lowest_to_lem, once, ne
 use Rattle.ospf_halves.specs.Theorems.{Neighbours, PointToPoint, Lowest, LowestCounts, LowestOfNone}
 
 pub keep_append : {A : Type 0} (f : A → Bool) (xs ys : List A) → keep f (xs ++ ys) ≡ keep f xs ++ keep f ys
-unfolding keep
 keep_append f [] ys = refl
 keep_append {A} f (x ∷ xs) ys = step (f x) (keep_append f xs ys)
   where
@@ -30,7 +29,7 @@ keep_append {A} f (x ∷ xs) ys = step (f x) (keep_append f xs ys)
     step false e = e
 
 once_next : (us : List ℕ) (v : ℕ) → once (us ++ (v ∷ [])) ≡ cond (member v us) (once us) (once us ++ (v ∷ []))
-unfolding once keep member any
+unfolding once member
 once_next [] v = refl
 once_next (u ∷ us) v = ap (λ (l : List ℕ). u ∷ keep (λ w. not (eqb w u)) l) (once_next us v) ∙ step (member v us) (eqb v u) refl
   where
@@ -70,11 +69,11 @@ once_distinct (u ∷ us) =
 -- a link more at the end
 module _ (ls : List RouterLink) (l : RouterLink) where
   one_more : l.kind ≡ 1 → point_to_point (ls ++ (l ∷ [])) ≡ point_to_point ls ++ (l ∷ [])
-  unfolding point_to_point keep
+  unfolding point_to_point
   one_more e = keep_append (λ k. eqb k.kind 1) ls (l ∷ []) ∙ rw (eq-eqb l.kind 1 e) refl
 
   other : l.kind ≢ 1 → point_to_point (ls ++ (l ∷ [])) ≡ point_to_point ls
-  unfolding point_to_point keep
+  unfolding point_to_point
   other e =
       keep_append (λ k. eqb k.kind 1) ls (l ∷ []) ∙ rw (ne_eqb l.kind 1 e) (append-nil (keep (λ k. eqb k.kind 1) ls))
 
@@ -107,7 +106,7 @@ module _ (ls : List RouterLink) (l : RouterLink) where
   not_named e = ap (λ (ks : List RouterLink). once (map (λ k. k.id) ks)) (other e)
 
 pub neighbours : Neighbours
-unfolding neighbours_of point_to_point keep once
+unfolding neighbours_of point_to_point once
 neighbours = record { no_links = refl; first = first_named; parallel = named_again; skipped = not_named }
 
 pub point-to-point : PointToPoint

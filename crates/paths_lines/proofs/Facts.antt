@@ -23,7 +23,7 @@ use Rattle.paths_lines.specs.Lines.{colon, too_many, line_of, path_line, lines_f
 use Rattle.paths_lines.specs.Facts.{holds, T-0, T-1, T-2, F-first, F-others, lone_0, eleven_8, eleven_10, twelve_10, twelve_1, facts, FactsHold, MoreHold}
 
 pub facts_hold : FactsHold
-unfolding numbers_from below keep every any least_by greatest_by ahead foremost insert sort member same_numbers wins
+unfolding numbers_from below least_by greatest_by ahead foremost insert sort member same_numbers wins
     size id_of arcs_of greatest_cost arcs_among linked
     absent distance_in through at_first_lem round rounds distances
     reached shortest_next_hops leads_into ready candidate placed_neighbours preferred select continued placing build
@@ -35,7 +35,7 @@ unfolding numbers_from below keep every any least_by greatest_by ahead foremost 
 facts_hold = tt
 
 pub more_hold : MoreHold
-unfolding numbers_from below keep every any least_by greatest_by ahead foremost insert sort member same_numbers wins
+unfolding numbers_from below least_by greatest_by ahead foremost insert sort member same_numbers wins
     size id_of arcs_of greatest_cost arcs_among linked
     absent distance_in through at_first_lem round rounds distances
     reached shortest_next_hops leads_into ready candidate placed_neighbours preferred select continued placing build

@@ -25,7 +25,7 @@ use Rattle.paths_rules.specs.Facts.{writes, holds, one, two, three, four, five, 
 use Rattle.paths_rules.specs.Facts.{twelve, twelve_table, WrittenHold, MostHold}
 
 pub written_hold : WrittenHold
-unfolding numbers_from below keep every any least_by insert sort member distinct same_numbers wins
+unfolding numbers_from below least_by insert sort member distinct same_numbers wins
     size id_of arcs_of greatest_cost arcs_among linked sound_cost sound_link same_pair pairs_differ sound_links
     absent distance_in through of-distance.at_first_lem round rounds distances
     reached leads_into ready candidate candidates_in_turn holds_each_once first_is others_in_turn accepted rank sorts_before ranked_before full_row row
@@ -40,7 +40,7 @@ unfolding numbers_from below keep every any least_by insert sort member distinct
 written_hold = tt
 
 pub most_hold : MostHold
-unfolding numbers_from below keep every any least_by insert sort member distinct same_numbers wins
+unfolding numbers_from below least_by insert sort member distinct same_numbers wins
     size id_of arcs_of greatest_cost arcs_among linked sound_cost sound_link same_pair pairs_differ sound_links
     absent distance_in through of-distance.at_first_lem round rounds distances
     reached leads_into ready candidate candidates_in_turn holds_each_once first_is others_in_turn accepted rank sorts_before ranked_before full_row row

@@ -29,7 +29,7 @@ use Rattle.routes.specs.Output.{routes_output}
 use Rattle.routes.specs.Facts.{holds, refused, facts, FactsHold}
 
 pub facts_hold : FactsHold
-unfolding numbers_from below keep every any least_by greatest_by ahead foremost insert sort member same_numbers wins
+unfolding numbers_from below least_by greatest_by ahead foremost insert sort member same_numbers wins
     size id_of arcs_of greatest_cost arcs_among linked
     absent distance_in through at_first_lem round rounds distances
     reached shortest_next_hops leads_into ready candidate placed_neighbours preferred select continued placing build

@@ -60,25 +60,25 @@ almost = after link_record (after router_at nothing_listed (below 64)) (below 25
 
 -- each of them is tested once
 routers_listed : BytesList (in_sequence (λ id. 1 ∷ 0 ∷ 0 ∷ 0 ∷ id ∷ []) (below 64)) (after router_at nothing_listed (below 64))
-unfolding numbers_from below any member router_fault_lem fault with_router added nothing_listed clean after
+unfolding numbers_from below member router_fault_lem fault with_router added nothing_listed clean after
 routers_listed = listed router_at _ (λ id s c ok l. BytesList.router 0 0 0 id ok l) (below 64) [] nothing_listed tt BytesList.nothing
 
 abbrev bytes : List ℕ
 bytes = in_sequence (λ id. 1 ∷ 0 ∷ 0 ∷ 0 ∷ id ∷ []) (below 64) ++ in_sequence (λ k. 2 ∷ k / 8 ∷ (k / 8 + (k % 8 + 1)) % 64 ∷ 0 ∷ 1 ∷ []) (below 255)
 
 almost_listed : BytesList bytes almost
-unfolding numbers_from below any keep member link_halves first_half second_half halves same_half leaves opposite link_of
+unfolding numbers_from below member link_halves first_half second_half halves same_half leaves opposite link_of
     router_fault_lem repeated crowded halves_fault_lem fault with_router with_link added nothing_listed clean after almost
 almost_listed = listed link_record _ (λ k s c ok l. BytesList.link _ _ 0 1 ok l) (below 255) _ _ tt routers_listed
 
 -- the 256th link, or a half in its place and another
 full_listed : BytesList (bytes ++ (2 ∷ 31 ∷ 39 ∷ 0 ∷ 1 ∷ [])) (added almost (record_of.Link (half_of 31 39 1)))
-unfolding numbers_from below any keep member link_halves first_half second_half halves same_half leaves opposite link_of
+unfolding numbers_from below member link_halves first_half second_half halves same_half leaves opposite link_of
     router_fault_lem repeated crowded halves_fault_lem fault with_router with_link added nothing_listed after almost
 full_listed = BytesList.link 31 39 0 1 refl almost_listed
 
 half_listed : BytesList (bytes ++ (4 ∷ 31 ∷ 39 ∷ 0 ∷ 1 ∷ [])) (added almost (record_of.Half (half_of 31 39 1)))
-unfolding numbers_from below any keep member link_halves first_half second_half halves same_half leaves opposite link_of
+unfolding numbers_from below member link_halves first_half second_half halves same_half leaves opposite link_of
     router_fault_lem repeated crowded halves_fault_lem fault with_router with_link arrived added nothing_listed after almost
 half_listed = BytesList.first-half 31 39 0 1 refl (λ cost m. Memᴰ.not-nil m) almost_listed
 
@@ -105,23 +105,23 @@ other cost m = let same = ap (λ (h : Half). h.from.0) (Memᴰ.eq_of_singleton m
 -- the 512th half, and one more
 halves-listed : BytesList ((bytes ++ (4 ∷ 31 ∷ 39 ∷ 0 ∷ 1 ∷ [])) ++ (4 ∷ 50 ∷ 60 ∷ 0 ∷ 1 ∷ []))
     (added (added almost (record_of.Half (half_of 31 39 1))) (record_of.Half (half_of 50 60 1)))
-unfolding numbers_from below any keep member link_halves first_half second_half halves same_half leaves opposite link_of
+unfolding numbers_from below member link_halves first_half second_half halves same_half leaves opposite link_of
     router_fault_lem repeated crowded halves_fault_lem fault with_router with_link arrived added nothing_listed after almost
 halves-listed = BytesList.first-half 50 60 0 1 refl other half_listed
 
 half_513 : reading (routers 64 ++ (take 1275 ring ++ (4 ∷ 31 ∷ 39 ∷ 0 ∷ 1 ∷ 4 ∷ 50 ∷ 60 ∷ 0 ∷ 1 ∷ 4 ∷ 60 ∷ 50 ∷ 0 ∷ 1 ∷ []))) ≡ refused 9 1605
-unfolding numbers_from below any keep member link_halves first_half second_half halves same_half leaves opposite link_of
+unfolding numbers_from below member link_halves first_half second_half halves same_half leaves opposite link_of
     router_fault_lem repeated crowded halves_fault_lem fault with_router with_link arrived added nothing_listed after almost in_sequence routers ring
 half_513 = (reads_in_turn _ _ halves-listed).faulty _ _ (RecordBytes.half 60 50 0 1) 8 refl []
 
 -- the 257th link of the ring
 ring_cut : reading (routers 64 ++ take 1285 ring) ≡ refused 9 1600
-unfolding numbers_from below any keep member link_halves first_half second_half halves same_half leaves opposite link_of
+unfolding numbers_from below member link_halves first_half second_half halves same_half leaves opposite link_of
     router_fault_lem repeated crowded halves_fault_lem fault with_router with_link added nothing_listed after almost in_sequence ring
 ring_cut = full_refuses_link 32 33 0 1 8 refl
 
 facts_computed : T (every holds facts)
-unfolding numbers_from below keep every any member no_link padded contents held zeros within
+unfolding numbers_from below member no_link padded contents held zeros within
     big_endian_on big_endian body_length half_in decoded record_in records
     link_halves first_half second_half halves same_half leaves opposite link_of
     refusal accepted_reading router_fault_lem repeated crowded halves_fault_lem fault with_router with_link with_limit arrived added
@@ -130,9 +130,9 @@ unfolding numbers_from below keep every any member no_link padded contents held 
 facts_computed = tt
 
 pub facts_hold : FactsHold
-unfolding numbers_from below any keep member link_halves first_half second_half halves same_half leaves opposite link_of
+unfolding numbers_from below member link_halves first_half second_half halves same_half leaves opposite link_of
     router_fault_lem repeated crowded halves_fault_lem fault with_router with_link arrived added nothing_listed after almost
-    every at_limits holds claim_holds reads answers
+    at_limits holds claim_holds reads answers
 facts_hold =
     rw (
       full_refuses_link 31 50 0 0 6 refl,

@@ -44,7 +44,7 @@ halves_count p =
 
 links_leaving : (u : ℕ) (ls : List Link) →
     total (one (leaves u)) (link_halves ls) ≡ length (keep (λ l. eqb l.first.0 u) ls) + length (keep (λ l. eqb l.second.0 u) ls)
-unfolding total link_halves one leaves first_half second_half keep
+unfolding total link_halves one leaves first_half second_half
 links_leaving u [] = refl
 links_leaving u (l ∷ ls) = go (eqb l.first.0 u) (eqb l.second.0 u) (links_leaving u ls)
   where
@@ -151,7 +151,7 @@ module _ (p : StreamListing) (h : Half) (new : List Half) {P8 Q8 P9 Q9 P10 Q10 :
       }
 
 pub half_faults : (p : StreamListing) (h : Half) → HalfFaults p h
-unfolding fault any
+unfolding fault
 half_faults p h =
     let s = all_say p h (h ∷ []) (last (known p h)) (room p 1) (last (many p h.from.0)) in
     record {
@@ -165,7 +165,7 @@ half_faults p h =
     }
 
 pub link_faults : (p : StreamListing) (h : Half) → LinkFaults p h
-unfolding fault any opposite
+unfolding fault opposite
 link_faults p h =
     let s =
     all_say p h (h ∷ opposite h ∷ []) (either (known p h) (last (known p (opposite h)))) (room p 2)

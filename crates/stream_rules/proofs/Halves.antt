@@ -53,7 +53,7 @@ length_total (h ∷ hs) = omega (arith, length_total hs)
 module _ (test : Half → Bool) where
   -- those that pass a test and those that do not, together
   pub total_split : (f : Half → ℕ) (hs : List Half) → total f hs ≡ total f (keep test hs) + total f (keep (λ k. not (test k)) hs)
-  unfolding total keep
+  unfolding total
   total_split f [] = refl
   total_split f (h ∷ hs) = go (test h) (total_split f hs)
     where
@@ -69,7 +69,7 @@ module _ (test : Half → Bool) where
       go false e = omega arith
 
   pub total_keep : (f : Half → ℕ) (hs : List Half) → total f (keep test hs) ≡ total (λ k. cond (test k) (f k) 0) hs
-  unfolding total keep
+  unfolding total
   total_keep f [] = refl
   total_keep f (h ∷ hs) = go (test h) (total_keep f hs)
     where
@@ -84,7 +84,7 @@ module _ (test : Half → Bool) where
 
   -- none passes
   pub none_total : (hs : List Half) → any test hs ≡ false → total (one test) hs ≡ 0
-  unfolding total any one
+  unfolding total one
   none_total [] e = refl
   none_total (h ∷ hs) e = go (test h) e (none_total hs)
     where
@@ -93,7 +93,7 @@ module _ (test : Half → Bool) where
       go false e rest = omega (arith, rest e)
 
   pub total_none : (hs : List Half) → total (one test) hs ≡ 0 → any test hs ≡ false
-  unfolding total any one
+  unfolding total one
   total_none [] e = refl
   total_none (h ∷ hs) e = go (test h) e (total_none hs)
     where

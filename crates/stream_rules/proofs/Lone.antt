@@ -24,7 +24,6 @@ use Rattle.stream_rules.proofs.GoodHalves.{same_none}
 use Rattle.stream_rules.proofs.Kept.{fresh_none}
 
 kept_behind : (test : Half → Bool) (hs ks : List Half) → keep test (hs ++ ks) ≡ keep test hs ++ keep test ks
-unfolding keep
 kept_behind test [] ks = refl
 kept_behind test (h ∷ hs) ks = go (test h) (kept_behind test hs ks)
   where
@@ -35,7 +34,6 @@ kept_behind test (h ∷ hs) ks = go (test h) (kept_behind test hs ks)
 
 -- a test that none passes keeps none, and its opposite all
 kept_none : (test : Half → Bool) (hs : List Half) → any test hs ≡ false → (keep test hs ≡ []) × (keep (λ k. not (test k)) hs ≡ hs)
-unfolding any keep
 kept_none test [] e = (refl, refl)
 kept_none test (h ∷ hs) e = go (test h) e (kept_none test hs)
   where
@@ -48,7 +46,7 @@ kept_none test (h ∷ hs) e = go (test h) e (kept_none test hs)
 -- one that passes, and no other
 kept_one : (test : Half → Bool) (before : List Half) (k : Half) (after : List Half) → test k ≡ true → total (one test) (before ++ (k ∷ after)) ≤ 1 →
     (keep test (before ++ (k ∷ after)) ≡ k ∷ []) × (keep (λ h. not (test h)) (before ++ (k ∷ after)) ≡ before ++ after)
-unfolding keep total one
+unfolding total one
 kept_one test before k after e few =
     let all = total_append (one test) before (k ∷ after) in
     let this : cond {A = ℕ} (test k) 1 0 ≡ 1 = rw e in

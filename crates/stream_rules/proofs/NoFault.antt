@@ -89,9 +89,7 @@ neither false b e = (refl, e)
 
 module _ (test : Half → Bool) (h : Half) where
   pub one_fails : any test (h ∷ []) ≡ false → test h ≡ false
-  unfolding any
   one_fails e = (neither (test h) false e).0
 
   pub both_fail : (k : Half) → any test (h ∷ k ∷ []) ≡ false → (test h ≡ false) × (test k ≡ false)
-  unfolding any
   both_fail k e = let (first, rest) = neither (test h) (test k || false) e in (first, (neither (test k) false rest).0)

@@ -26,7 +26,7 @@ either true n rest m k = m
 either false n rest m k = k
 
 met_halves : (p : StreamListing) (h : Half) (new : List Half) → Met (halves_fault_lem p h new)
-unfolding halves_fault_lem Met member any
+unfolding halves_fault_lem Met member
 met_halves p h new =
     let n = length p.contents.ids in
     either (not (ltb h.from.0 n && ltb h.to.0 n)) 5 _ tt
@@ -36,7 +36,7 @@ met_halves p h new =
     (either (ltb 512 (length (halves p) + length new)) 9 _ tt (either (any (λ k. crowded p k.from.0) new) 10 0 tt tt)))))
 
 pub met : (p : StreamListing) {bytes : List ℕ} {r : Record} → RecordBytes bytes r → Met (fault p r)
-unfolding fault router_fault_lem Met member any
+unfolding fault router_fault_lem Met member
 met p (RecordBytes.router a b e f) =
     either (member (four_bytes a b e f) p.contents.ids) 3 _ tt (either (leb 64 (length p.contents.ids)) 4 0 tt tt)
 met p (RecordBytes.link u v e f) = met_halves p _ _

@@ -34,7 +34,7 @@ module _ {s : List ℕ} {p : StreamListing} (l : BytesList s p) where
       (reads_in_turn s p l).end ∙ (λ i. record { answer = zero-at i; topology = lists i })
 
 answered : {stream : List ℕ} {number at : ℕ} → Way stream at number → (reading stream).answer ≡ answer number at
-unfolding member any
+unfolding member
 answered (accepted none l is some) = rw (is, none) (answer-of (reads_end l some))
 answered (cut {s} {p} {rest} l is there c) = rw (is, there) (answer-of ((reads_in_turn s p l).cut-short rest c))
 answered (unknown {s} {p} kind rest l is there u) = rw (is, there) (answer-of ((reads_in_turn s p l).unknown kind u rest))
@@ -48,7 +48,7 @@ answered (no_router {s} {p} l is there none) =
 
 -- and with a number all zeros beside it
 refuses : {stream : List ℕ} {number at : ℕ} → Way stream at number → number ≢ 0 → reading stream ≡ refused number at
-unfolding member any
+unfolding member
 refuses (accepted none l is some) other = absurd (other refl)
 refuses (cut {s} {p} {rest} l is there c) other = rw (is, there) ((reads_in_turn s p l).cut-short rest c)
 refuses (unknown {s} {p} kind rest l is there u) other = rw (is, there) ((reads_in_turn s p l).unknown kind u rest)
@@ -73,14 +73,14 @@ gone {stream} e =
 
 -- no fault has number 0
 not_zero : (number : ℕ) → T (member number faults) → number ≢ 0
-unfolding member any
+unfolding member
 not_zero zero m e = absurd m
 not_zero (suc number) m e = omega (arith, e)
 
 by_fault : {stream : List ℕ} {number at : ℕ} → T (member number faults) → Way stream at number →
     (s : List ℕ) × (p : StreamListing) × (bytes : List ℕ) × (r : Record) × (rest : List ℕ) ×
     BytesList s p × (stream ≡ s ++ (bytes ++ rest)) × (at ≡ length s) × RecordBytes bytes r × (fault p r ≡ number)
-unfolding member any
+unfolding member
 by_fault m (accepted none l is some) = absurd m
 by_fault m (cut l is there c) = absurd m
 by_fault m (unknown kind rest l is there u) = absurd m
@@ -89,7 +89,7 @@ by_fault m (followed byte rest l is there) = absurd m
 by_fault m (no_router l is there none) = absurd m
 
 pub read_answers : ReadAnswers
-unfolding member any
+unfolding member
 read_answers stream at =
     record {
       says_0 = λ t. (
@@ -137,7 +137,7 @@ abbrev numbers : List ℕ
 numbers = 0 ∷ 1 ∷ 2 ∷ 3 ∷ 4 ∷ 5 ∷ 6 ∷ 7 ∷ 8 ∷ 9 ∷ 10 ∷ 11 ∷ 12 ∷ 16 ∷ []
 
 among : {stream : List ℕ} {number at : ℕ} → Way stream at number → T (member number numbers)
-unfolding member any every
+unfolding member
 among (accepted none l is some) = tt
 among (cut l is there c) = tt
 among (unknown kind rest l is there u) = tt

@@ -46,7 +46,6 @@ use Rattle.table.proofs.Ordered.{long, as_byte}
 use Rattle.table.proofs.Accepting.{starts?, its_places, its_ranks}
 
 every_same : {A : Type 0} (f g : A → Bool) (xs : List A) → ((x : A) → Memᴰ x xs → f x ≡ g x) → every f xs ≡ every g xs
-unfolding every
 every_same f g [] same = refl
 every_same f g (x ∷ xs) same = rw (same x (Memᴰ.head refl), every_same f g xs (λ y m. same y (Memᴰ.tail m)))
 

@@ -23,7 +23,7 @@ use Rattle.table.specs.Facts.{lone_table, T-table-0, T-table-1, T-table-2, T-tab
 use Rattle.table.specs.Facts.{slope_table_0, slope_table_2, slope_turned, cut_table_0, cut_table_free, cut_table_3, parts_table_0, parts_table_2}
 
 pub filled_hold : FilledHold
-unfolding numbers_from below keep every any least_by insert sort member distinct same_numbers wins
+unfolding numbers_from below least_by insert sort member distinct same_numbers wins
     size id_of arcs_of greatest_cost arcs_among linked sound_cost sound_link same_pair pairs_differ sound_links
     absent distance_in through of-distance.at_first_lem round rounds distances
     reached leads_into ready candidate rank sorts_before ranked_before full_row row
@@ -37,7 +37,7 @@ unfolding numbers_from below keep every any least_by insert sort member distinct
 filled_hold = tt
 
 pub checked_hold : CheckedHold
-unfolding numbers_from below keep every any least_by insert sort member distinct same_numbers wins
+unfolding numbers_from below least_by insert sort member distinct same_numbers wins
     size id_of arcs_of greatest_cost arcs_among linked sound_cost sound_link same_pair pairs_differ sound_links
     absent distance_in through of-distance.at_first_lem round rounds distances
     reached leads_into ready candidate candidates_in_turn holds_each_once first_is others_in_turn accepted rank sorts_before ranked_before full_row row
@@ -52,7 +52,7 @@ unfolding numbers_from below keep every any least_by insert sort member distinct
 checked_hold = tt
 
 pub formed_hold : FormedHold
-unfolding numbers_from below keep every any least_by member distinct same_numbers
+unfolding numbers_from below least_by member distinct same_numbers
     size arcs_of greatest_cost arcs_among linked
     absent distance_in through of-distance.at_first_lem round rounds distances
     reached leads_into shortest_next_hops ready candidate candidates_in_turn holds_each_once first_is others_in_turn accepted

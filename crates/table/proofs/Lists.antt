@@ -40,14 +40,12 @@ place a = a.to
 
 -- no arc leads to a place to which none of them leads
 keep_nothing : (v : ℕ) (arcs : List Arc) → ((b : Arc) → Memᴰ b arcs → b.to ≢ v) → keep (λ b. eqb b.to v) arcs ≡ []
-unfolding keep
 keep_nothing v [] out = refl
 keep_nothing v (b ∷ arcs) out =
     rw (ne_eqb b.to v (out b (Memᴰ.head refl))) (keep_nothing v arcs (λ c m. out c (Memᴰ.tail m)))
 
 -- of arcs that lead to different places one leads to the place of each
 keep_one : {arcs : List Arc} → Pairwise (λ a b. a.to ≢ b.to) arcs → (a : Arc) → Memᴰ a arcs → keep (λ b. eqb b.to a.to) arcs ≡ a ∷ []
-unfolding keep
 keep_one nothing a m = absurd (Memᴰ.not-nil m)
 keep_one (then {x} {xs} h p) a m =
     ⊎_elim
@@ -67,7 +65,7 @@ module _ (n : Network) (wf : WellFormed n) (u : ℕ) where
 
   -- past N there are no arcs
   no_row : (ds : List ℕ) (limit : ℕ) (order : List ℕ) → size n ≤ u → row n ds limit order u ≡ []
-  unfolding row full_row ranked_before arcs_of keep sort
+  unfolding row full_row ranked_before arcs_of sort
   no_row ds limit order past =
       let none : get_or n.arcs u [] ≡ [] = get_or-eq_default n.arcs [] (omega (arith, wf.each_place)) in
       rw none (take-nil limit)

@@ -72,12 +72,10 @@ as_byte order u byte = (to (member? u order), from)
 
 -- places below a number are kept, and 255 is none of them
 keep_each : (count : ℕ) (us : List ℕ) → ((u : ℕ) → Memᴰ u us → u < count) → keep (λ u. ltb u count) us ≡ us
-unfolding keep
 keep_each count [] h = refl
 keep_each count (u ∷ us) h = rw (lt-ltb u count (h u (mathlib.Core.List.Memᴰ.head refl)), keep_each count us (λ v m. h v (mathlib.Core.List.Memᴰ.tail m)))
 
 keep_after : (count k : ℕ) → count ≤ 64 → keep (λ u. ltb u count) (replicate k 255) ≡ []
-unfolding keep
 keep_after count zero few = refl
 keep_after count (suc k) few = rw (le-ltb 255 count (omega arith)) (keep_after count k few)
 

@@ -82,7 +82,6 @@ take_before stop (c ∷ s) = first (eqb c stop) (take_before stop s)
     first false e = ap (λ (t : List ℕ). c ∷ t) e
 
 pub every_at : (f : ℕ → Bool) (s : List ℕ) (i : ℕ) → every f s ≡ true → i < length s → f (get_or s i 0) ≡ true
-unfolding every
 every_at f [] i e h = absurd (omega arith)
 every_at f (c ∷ s) zero e h = and_left (f c) (every f s) e
 every_at f (c ∷ s) (suc i) e h = every_at f s i (and_right (f c) (every f s) e) (omega arith)

@@ -12,7 +12,7 @@ use Rattle.topology.specs.Written.{joined_over, router_bytes, half_body, half_by
 use Rattle.topology.specs.Facts.{holds, writes, facts, FactsHold}
 
 pub facts_hold : FactsHold
-unfolding keep every any member no_link padded contents held zeros within
+unfolding member no_link padded contents held zeros within
     big_endian_on big_endian in_bytes body_length half_in decoded record_in records
     link_halves first_half second_half halves same_half leaves opposite link_of
     refusal accepted_reading router_fault_lem repeated crowded halves_fault_lem fault with_router with_link with_limit arrived added

@@ -56,7 +56,7 @@ pub record GoodLinks (ids : List ℕ) (ls : List Link) : Type 0 where
 -- a link that joins two places gives an arc to each that sends a half
 leaving_arcs : (u number : ℕ) (ls : List Link) → ((l : Link) → Memᴰ l ls → l.first.0 ≢ l.second.0) →
     length (keep (λ l. eqb l.first.0 u) ls) + length (keep (λ l. eqb l.second.0 u) ls) ≡ length (arcs_among u number (map seen ls))
-unfolding keep arcs_among seen
+unfolding arcs_among seen
 leaving_arcs u number [] apart = refl
 leaving_arcs u number (l ∷ ls) apart =
     go (eqb l.first.0 u) refl (eqb l.second.0 u) refl _ _ _ (leaving_arcs u _ ls (λ k m. apart k (Memᴰ.tail m)))
@@ -133,7 +133,7 @@ module _ (k : ℕ) (ids : List ℕ) where
     no_lone u h m e = Memᴰ.not-nil m
 
     link_passes : fault (linked before []) (record_of.Link (first_half l)) ≡ 0
-    unfolding first_half seen keep
+    unfolding first_half seen
     link_passes =
         ((faults_each (linked before [])).links (first_half l)).says_0.1 (
           (
@@ -147,7 +147,7 @@ module _ (k : ℕ) (ids : List ℕ) where
         )
 
     first_passes : fault (linked before []) (record_of.Half (first_half l)) ≡ 0
-    unfolding first_half seen keep
+    unfolding first_half seen
     first_passes =
         ((faults_each (linked before [])).halves (first_half l)).says_0.1 (
           (
@@ -163,7 +163,7 @@ module _ (k : ℕ) (ids : List ℕ) where
     other_end h m e = sound.ends_differ (sym (ap (λ (x : Half). x.from.0) (Memᴰ.eq_of_singleton m)) ∙ e)
 
     second_passes : fault (linked before (first_half l ∷ [])) (record_of.Half (second_half l)) ≡ 0
-    unfolding first_half second_half seen keep
+    unfolding first_half second_half seen
     second_passes =
         let leaves_other = ne_eqb l.first.0 l.second.0 sound.ends_differ in
         ((faults_each (linked before (first_half l ∷ []))).halves (second_half l)).says_0.1 (
@@ -183,11 +183,11 @@ module _ (k : ℕ) (ids : List ℕ) where
     both_added e = ap (λ (link : Link). linked (before ++ (link ∷ [])) []) (λ i. record { first = l.first; second = l.second; cost = l.cost; back = e i })
 
     first_added : added (linked before []) (record_of.Half (first_half l)) ≡ linked before (first_half l ∷ [])
-    unfolding added arrived keep
+    unfolding added arrived
     first_added = refl
 
     second_added : added (linked before (first_half l ∷ [])) (record_of.Half (second_half l)) ≡ linked (before ++ (l ∷ [])) []
-    unfolding added arrived keep same_half with_link link_of opposite first_half second_half
+    unfolding added arrived same_half with_link link_of opposite first_half second_half
     second_added =
         let first-end = eq-eqb l.first.0 l.first.0 refl in
         let second-end = eq-eqb l.second.0 l.second.0 refl in

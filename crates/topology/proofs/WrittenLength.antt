@@ -20,7 +20,7 @@ abbrev differing : Link → Bool
 differing l = not (eqb l.cost l.back)
 
 links_long : (ls : List Link) → length (joined_over link_bytes ls) ≡ 5 * length ls + 5 * length (keep differing ls)
-unfolding joined_over keep
+unfolding joined_over
 links_long [] = refl
 links_long (l ∷ ls) = simp (length-append, link_long, links_long ls) (either (eqb l.cost l.back))
   where

@@ -19,7 +19,6 @@ abbrev pub links_sound : ℕ → List Link → Bool
 links_sound n ls = every (sound_link n) (map seen ls)
 
 pub sound_grow : (n : ℕ) → Growing (links_sound n) (λ ls l. sound_link n (seen l))
-unfolding every
 sound_grow n = record { none = refl; more = λ ls l. rw (map-append seen ls (l ∷ [])) (every_more (sound_link n) (map seen ls) (seen l)) }
 
 abbrev pub pairs_apart : List Link → Bool

@@ -21,7 +21,6 @@ pub record Tabled (table : List Bool) (ls : List Link) : Type 0 where
   pub at : (k : Link) → k.first < 64 → k.second < 64 → get_or table (k.first * 64 + k.second) false ≡ any (same_pair k) ls
 
 pub tabled_none : Tabled (replicate 4096 false) []
-unfolding any
 tabled_none = record {
   long = length-replicate 4096 false;
   at = λ k hf hs. get_or-replicate 4096 (k.first * 64 + k.second) false false (omega arith);

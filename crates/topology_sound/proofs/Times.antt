@@ -16,7 +16,6 @@ use Rattle.topology_types.proofs.Prefix.{take_more}
 
 module _ {A : Type 0} (f : A → Bool) where
   kept_append : (xs ys : List A) → length (keep f (xs ++ ys)) ≡ length (keep f xs) + length (keep f ys)
-  unfolding keep
   kept_append [] ys = omega arith
   kept_append (x ∷ xs) ys = step (f x) (kept_append xs ys)
     where
@@ -26,7 +25,6 @@ module _ {A : Type 0} (f : A → Bool) where
       step false e = e
 
   any_kept : (xs : List A) → any f xs ≡ ltb 0 (length (keep f xs))
-  unfolding keep any
   any_kept [] = refl
   any_kept (x ∷ xs) = step (f x) (any_kept xs)
     where
@@ -37,7 +35,6 @@ module _ {A : Type 0} (f : A → Bool) where
   -- one element more
   pub kept_more : (xs : List A) (i : ℕ) (z : A) → i < length xs →
       length (keep f (take (i + 1) xs)) ≡ length (keep f (take i xs)) + cond (f (get_or xs i z)) 1 0
-  unfolding keep
   kept_more xs i z h = rw (take_more xs i z h, kept_append) (ap (λ (k : ℕ). length (keep f (take i xs)) + k) (step (f (get_or xs i z))))
     where
       step : (b : Bool) → length (cond b (get_or xs i z ∷ []) []) ≡ cond b 1 0
@@ -53,7 +50,7 @@ first_new false b e = (refl, e)
 
 -- where all differ, each stands once
 differ_once : (us : List ℕ) (u : ℕ) → distinct us ≡ true → member u us ≡ true → times u us ≡ 1
-unfolding distinct member any keep
+unfolding distinct member
 differ_once [] u d m = absurd (subst T (sym m) tt)
 differ_once (v ∷ us) u d m =
     let (new, rest) = first_new (member v us) (distinct us) d in
@@ -74,7 +71,6 @@ module _ (us : List ℕ) {i e : ℕ} (h : i < e) (long : e ≤ length us) where
       ap (λ (k : ℕ). take k us) q ∙ take-add i (suc (e - suc i)) us ∙ rw (drop-cons us i 0 (omega arith))
 
   itself : let u = get_or us i 0 in times u (take e us) ≡ times u (take i us) + suc (times u (take (e - suc i) (drop (suc i) us)))
-  unfolding keep
   itself = rw (here, kept_append, eq-eqb (get_or us i 0) (get_or us i 0) refl)
 
   pub once_new : times (get_or us i 0) (take e us) ≡ 1 → not (member (get_or us i 0) (take i us)) ≡ true

@@ -62,7 +62,6 @@ pub record Rest {A : Type 0} (f : A → Bool) (whole : Bool) (xs : List A) (n i 
 
 module _ {A : Type 0} {f : A → Bool} {whole : Bool} {xs : List A} {n i : ℕ} {before : Bool} (h : Rest f whole xs n i before) where
   pub rest : i < n → (z : A) → {after : Bool} → after ≡ (before && f (get_or xs i z)) → Rest f whole xs n (i + 1) after
-  unfolding every
   rest k z e = record {
     within = omega arith;
     long = h.long;
@@ -70,11 +69,9 @@ module _ {A : Type 0} {f : A → Bool} {whole : Bool} {xs : List A} {n i : ℕ} 
   }
 
   pub rest_fails : i < n → (z : A) → f (get_or xs i z) ≡ false → false ≡ whole
-  unfolding every
   rest_fails k z e = sym (h.is ∙ rw (drop-cons xs i z (omega (arith, h.long)), e) (and-false before))
 
   pub rest_none : n ≤ i → before ≡ whole
-  unfolding every
   rest_none k = sym (h.is ∙ rw (drop_of_length-le xs {i = i} (omega (arith, h.long))) (and-true before))
 
 -- the test that IDs differ asks of each that it is not among those before it

@@ -33,7 +33,6 @@ and_end false p q r e = refl
 
 module _ {A : Type 0} (f : A → Bool) where
   pub any_more : (xs : List A) (x : A) → any f (xs ++ (x ∷ [])) ≡ (any f xs || f x)
-  unfolding any
   any_more [] x = last (f x)
     where
       last : (b : Bool) → (b || false) ≡ b
@@ -42,7 +41,6 @@ module _ {A : Type 0} (f : A → Bool) where
   any_more (y ∷ ys) x = or_end (f y) _ _ (f x) (any_more ys x)
 
   pub every_more : (xs : List A) (x : A) → every f (xs ++ (x ∷ [])) ≡ (every f xs && f x)
-  unfolding every
   every_more [] x = last (f x)
     where
       last : (b : Bool) → (b && true) ≡ b
@@ -74,7 +72,7 @@ chosen false q = refl
 
 -- an ID more: none of those before is the same
 pub distinct_more : (us : List ℕ) (u : ℕ) → distinct (us ++ (u ∷ [])) ≡ (distinct us && not (member u us))
-unfolding distinct member any
+unfolding distinct member
 distinct_more [] u = refl
 distinct_more (v ∷ us) u =
     simp chosen
@@ -89,7 +87,7 @@ pair_sym l k =
 
 -- a link more: none of those before joins the same pair
 pub pairs_more : (ls : List Link) (l : Link) → pairs_differ (ls ++ (l ∷ [])) ≡ (pairs_differ ls && not (any (same_pair l) ls))
-unfolding pairs_differ any
+unfolding pairs_differ
 pairs_more [] l = refl
 pairs_more (k ∷ ls) l =
     none_end (any (same_pair k) ls) (same_pair k l) (same_pair l k) (pairs_differ ls) (any (same_pair l) ls) _ _ (pair_sym k l)

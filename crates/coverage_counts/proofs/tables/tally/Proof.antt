@@ -24,7 +24,7 @@ abbrev decreases-loop : tie.decreases-loop-u
 decreases-loop table n l two₀ entries₀ u₀ two entries u = n - u
 
 loop-holds : tie.Need-loop-u-init invariant-loop decreases-loop
-unfolding two_in all_in total below numbers_from keep
+unfolding two_in all_in total below numbers_from
 loop-holds c = (omega arith, refl, refl)
 
 row-in-requires : tie.Need-row_in-count-requires invariant-loop decreases-loop

@@ -27,7 +27,7 @@ abbrev decreases-loop : tie.decreases-loop-d
 decreases-loop t a n listed₀ covered₀ d₀ listed covered d = t.routers - d
 
 loop-holds : tie.Need-loop-d-init invariant-loop decreases-loop
-unfolding covered_among joined_over padded below numbers_from keep
+unfolding covered_among joined_over padded below numbers_from
 loop-holds c = (omega arith, refl, omega arith, refl)
 
 -- the destination of a turn

@@ -34,7 +34,7 @@ abbrev decreases-loop : tie.decreases-loop-rank
 decreases-loop n order held₀ rank₀ held rank = length order - rank
 
 loop-holds : tie.Need-loop-rank-init invariant-loop decreases-loop
-unfolding member any
+unfolding member
 loop-holds c = (omega arith, refl, λ r h. absurd (omega arith), λ v h. get_or-replicate {A = Bool} 64 v false false h)
 
 returns : tie.Need-returns-then-n-u invariant-loop decreases-loop

@@ -21,7 +21,7 @@ abbrev decreases-loop : tie.decreases-loop-v
 decreases-loop ds n absent count₀ v₀ count v = n - v
 
 loop-holds : tie.Need-loop-v-init invariant-loop decreases-loop
-unfolding keep below numbers_from
+unfolding below numbers_from
 loop-holds c = (omega arith, refl)
 
 add-count : tie.Need-overflow_add-count invariant-loop decreases-loop

@@ -25,7 +25,6 @@ abbrev new : Half → Bool → List Half
 new h both = cond both (h ∷ opposite h ∷ []) (h ∷ [])
 
 any_new : (test : Half → Bool) (h : Half) (both : Bool) → any test (new h both) ≡ (test h || both && test (opposite h))
-unfolding any
 any_new test h true = ap (λ (b : Bool). test h || b) (or-false (test (opposite h)))
 any_new test h false = refl
 

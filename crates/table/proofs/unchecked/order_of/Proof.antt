@@ -33,7 +33,7 @@ abbrev decreases-loop : tie.decreases-loop-u
 decreases-loop n table l order₀ u₀ order u = u
 
 loop-holds : tie.Need-loop-u-init invariant-loop decreases-loop
-unfolding keep first_or
+unfolding first_or
 loop-holds c = (omega arith, refl, λ r h. rw (down_none) (get_or-replicate {A = ℕ} 64 r 255 0 (omega (arith, c.requires.0))))
 
 -- the row of each place stands in the table
@@ -48,7 +48,7 @@ rank-in-requires c κs =
 
 -- a place more in front
 with_more : (table : List ℕ) (r u : ℕ) (us : List ℕ) → first_with table r (u ∷ us) ≡ cond (eqb (rank_in_lem table u) r) u (first_with table r us)
-unfolding keep first_or
+unfolding first_or
 with_more table r u us = cases (eqb (rank_in_lem table u) r)
   where
     cases : (b : Bool) → first_or 255 (cond b (u ∷ keep (λ v. eqb (rank_in_lem table v) r) us) (keep (λ v. eqb (rank_in_lem table v) r) us))

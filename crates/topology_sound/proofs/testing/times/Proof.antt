@@ -20,7 +20,6 @@ abbrev decreases-loop : tie.decreases-loop-i
 decreases-loop ids count id found₀ i₀ found i = count - i
 
 loop-holds : tie.Need-loop-i-init invariant-loop decreases-loop
-unfolding keep
 loop-holds c = (omega arith, omega arith, refl)
 
 loop-again : tie.Need-loop-i-preserved invariant-loop decreases-loop

@@ -22,7 +22,7 @@ abbrev decreases-loop : tie.decreases-loop-i
 decreases-loop ids count id found₀ i₀ found i = count - i
 
 loop-holds : tie.Need-loop-i-init invariant-loop decreases-loop
-unfolding member any
+unfolding member
 loop-holds c = (omega arith, refl)
 
 -- one ID more

@@ -23,14 +23,12 @@ decreases-loop to link states u count entry first j₀ j = j
 -- a slot that does not lead to the entry over a link that is up changes nothing
 passed : (f : ℕ → Bool) (j count : ℕ) → 0 < j → j ≤ count → f (j - 1) ≡ false → any f (numbers_from j (count - j)) ≡ false →
     any f (numbers_from (j - 1) (count - (j - 1))) ≡ false
-unfolding any
 passed f j count h k here rest = rw (down_more j count h k, here) rest
 
 mul-first : tie.Need-overflow_mul-first invariant-loop decreases-loop
 mul-first c = omega (arith, c.requires.place)
 
 loop-holds : tie.Need-loop-j-init invariant-loop decreases-loop
-unfolding any
 loop-holds c = (omega arith, rw down_none refl)
 
 cast-number : tie.Need-overflow_cast-number invariant-loop decreases-loop

@@ -28,19 +28,19 @@ loop-holds : tie.Need-loop-i-init invariant-loop decreases-loop
 loop-holds c = (omega arith, refl)
 
 returns : tie.Need-returns-then-is_up invariant-loop decreases-loop
-unfolding first_up first_of keep next_place
+unfolding first_up first_of next_place
 returns c =
     sym (c.loop-i.invariant.1 ∙ rw (from _ c.loop-i.i c.loop-i-test.true, ← c.is_up.ensures, c.if-is_up.true))
 
 loop-again : tie.Need-loop-i-preserved invariant-loop decreases-loop
-unfolding first_up first_of keep
+unfolding first_up first_of
 loop-again c = (
   add-one-le c.loop-i-test.true,
   c.loop-i.invariant.1 ∙ rw (from _ c.loop-i.i c.loop-i-test.true, ← c.is_up.ensures, c.if-is_up.false),
 )
 
 returns-2 : tie.Need-returns invariant-loop decreases-loop
-unfolding first_up first_of keep next_place
+unfolding first_up first_of next_place
 returns-2 c =
     sym (c.loop-i.invariant.1 ∙ rw (drop_of_length-le c.args.row.now {i = c.loop-i.i} c.loop-i-test.false))
 

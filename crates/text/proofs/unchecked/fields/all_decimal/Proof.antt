@@ -21,21 +21,17 @@ loop-holds : tie.Need-loop-i-init invariant-loop decreases-loop
 loop-holds c = record { inside = omega arith; makes = refl }
 
 returns : tie.Need-returns-then-s-i-lt48 invariant-loop decreases-loop
-unfolding every
 returns c = rw (below_digits _ c.if-s-i-lt48.true) at (next c.loop-i.invariant (omega arith))
 
 returns-2 : tie.Need-returns-then-s-i-gt57 invariant-loop decreases-loop
-unfolding every
 returns-2 c = rw (above_digits _ c.if-s-i-gt57.true) at (next c.loop-i.invariant (omega arith))
 
 loop-again : tie.Need-loop-i-preserved invariant-loop decreases-loop
-unfolding every
 loop-again c =
     let digit = among_digits _ c.if-s-i-lt48.false c.if-s-i-gt57.false in
     record { inside = omega arith; makes = rw digit at (next c.loop-i.invariant (omega arith)) }
 
 returns-3 : tie.Need-returns invariant-loop decreases-loop
-unfolding every
 returns-3 c = end c.loop-i.invariant (omega arith)
 
 pub all_decimal_spec : {M : Type 1} → statement M

@@ -21,13 +21,11 @@ loop-holds : tie.Need-loop-i-init invariant-loop decreases-loop
 loop-holds c = record { inside = omega arith; makes = refl }
 
 returns : tie.Need-returns-then-not-is_digit invariant-loop decreases-loop
-unfolding every
 returns c =
     let digit = c.is_digit in
     rw (sym digit.ensures ∙ not-true _ c.if-not-is_digit.true-raw) at (next c.loop-i.invariant (omega arith))
 
 loop-again : tie.Need-loop-i-preserved invariant-loop decreases-loop
-unfolding every
 loop-again c =
     let digit = c.is_digit in
     record {
@@ -36,7 +34,6 @@ loop-again c =
     }
 
 returns-2 : tie.Need-returns invariant-loop decreases-loop
-unfolding every
 returns-2 c = end c.loop-i.invariant (omega arith)
 
 pub all_digits_spec : {M : Type 1} → statement M
