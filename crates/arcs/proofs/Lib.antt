@@ -3,3 +3,4 @@ pub mod Among
 pub mod Filled
 pub mod Links
 pub mod Back
+pub mod Passed

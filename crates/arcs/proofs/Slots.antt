@@ -1,25 +1,21 @@
 -- A store in the next slot of a router adds its arc at the end of that router's arcs, and leaves every other router's as they were: slots of
 -- different routers never meet.
 -- Assumes nothing.
-use Prim.Native.Nat.{ℕ, zero, suc, ◌+◌, ◌*◌, ◌≤◌, ◌<◌}
-use mathlib.Core.List.{List, [], ◌∷◌, ◌++◌, map, map-append, Memᴰ}
+use Prim.Native.Nat.{ℕ, zero, suc, ◌+◌, ◌-◌, ◌*◌, ◌≤◌, ◌<◌}
+use mathlib.Core.List.{List, [], ◌∷◌, ◌++◌, map, Memᴰ}
 use mathlib.Core.Logic.{◌≢◌}
 use mathlib.Core.Path.{◌≡◌, refl, ap, ◌∙◌}
+use native.Mathlib.Decide.{dec_lt}
 use native.Mathlib.Nat.{add-zero}
 use native.Mathlib.Numerals.{add-one}
 use native.Mathlib.Omega.{arith}
-use lib.ListN.{length, get_or, length-set}
+use lib.ListN.{length, get_or, set, take, drop, length-set, length-drop}
 use lib.Seq.{get_or-set_same, get_or-set_other}
+use Rattle.std.proofs.lemmas.List.{take_more_set, take-set-le, drop-set-lt, drop-set-add}
 use Rattle.network.specs.Lists.{below, numbers_from}
-use Rattle.network.specs.Network.{Arc}
-use Rattle.network.proofs.Below.{below_lt, length_map_below}
+use Rattle.arcs.specs.declared.Arc.{Arc}
 use Rattle.arcs.specs.declared.Arcs.{Arcs}
-use Rattle.arcs.specs.Inner.{slot_arc, slot_arcs, with_arc, Slotted}
-
--- a router has as many arcs as its count says
-pub length_arcs : (a : Arcs) (u : ℕ) → length (slot_arcs a u) ≡ get_or a.count u 0
-unfolding slot_arcs
-length_arcs a u = length_map_below (slot_arc a u) (get_or a.count u 0)
+use Rattle.arcs.specs.Inner.{arcs_at, with_arc}
 
 -- two functions that agree on a list make the same list of it
 pub map_same : {A B : Type 0} (f g : A → B) (xs : List A) → ((x : A) → Memᴰ x xs → f x ≡ g x) → map f xs ≡ map g xs
@@ -35,48 +31,46 @@ pub below_more : (n : ℕ) → below (n + 1) ≡ below n ++ (n ∷ [])
 unfolding below
 below_more n = rw add-one (from_more 0 n ∙ ap (λ (k : ℕ). numbers_from 0 n ++ (k ∷ [])) (omega arith))
 
-pub still_slotted : (a : Arcs) (u : ℕ) (arc : Arc) (back : ℕ) → Slotted a → Slotted (with_arc a u arc back)
-unfolding with_arc
-still_slotted a u arc back s = record {
-  counts = simp length-set s.counts;
-  tos = simp length-set s.tos;
-  costs = simp length-set s.costs;
-  backs = simp length-set s.backs;
-  links = simp length-set s.links;
-}
+-- each array has all its slots
+pub record Slotted (a : Arcs) : Type 0 where
+  pub counts : length a.count ≡ 64
+  pub slots : length a.slot ≡ 1024
 
--- the count of another router stays
-pub count_elsewhere : (a : Arcs) (u : ℕ) (arc : Arc) (back v : ℕ) → v ≢ u → get_or (with_arc a u arc back).count v 0 ≡ get_or a.count v 0
-unfolding with_arc
-count_elsewhere a u arc back v e = get_or-set_other a.count u v _ 0 e
+-- a store before a part of a list, or past it, leaves the part
+part_before : {A : Type 0} (n from : ℕ) (xs : List A) (at : ℕ) (x : A) → at < from → take n (drop from (set xs at x)) ≡ take n (drop from xs)
+part_before n from xs at x h = ap (take n) (drop-set-lt from xs at x h)
 
--- every slot but the next one of u stays
-slot_elsewhere : (a : Arcs) (u : ℕ) (arc : Arc) (back v j : ℕ) → v * 16 + j ≢ u * 16 + get_or a.count u 0 → slot_arc (with_arc a u arc back) v j ≡ slot_arc a v j
-unfolding slot_arc with_arc
-slot_elsewhere a u arc back v j e = simp get_or-set_other
+part_past : {A : Type 0} (n from : ℕ) (xs : List A) (past : ℕ) (x : A) → n ≤ past → take n (drop from (set xs (from + past) x)) ≡ take n (drop from xs)
+part_past n from xs past x h = rw (drop-set-add from xs past x) (take-set-le n (drop from xs) past x h)
 
-module _ (a : Arcs) (s : Slotted a) (u : ℕ) (arc : Arc) (back : ℕ) (inside : u < 64) (room : get_or a.count u 0 < 16) where
-  slot_there : slot_arc (with_arc a u arc back) u (get_or a.count u 0) ≡ arc
-  unfolding slot_arc with_arc
-  slot_there =
-      let h : u * 16 + get_or a.count u 0 < length a.to = omega (arith, s.tos) in
-      let k : u * 16 + get_or a.count u 0 < length a.cost = omega (arith, s.costs) in
-      let l : u * 16 + get_or a.count u 0 < length a.link = omega (arith, s.links) in
-      simp get_or-set_same
-
-  count_there : get_or (with_arc a u arc back).count u 0 ≡ get_or a.count u 0 + 1
+module _ (a : Arcs) (u : ℕ) (arc : Arc) where
+  pub still_slotted : Slotted a → Slotted (with_arc a u arc)
   unfolding with_arc
-  count_there = get_or-set_same a.count u _ 0 (omega (arith, s.counts))
+  still_slotted s = record { counts = simp length-set s.counts; slots = simp length-set s.slots }
 
-  pub arc_there : slot_arcs (with_arc a u arc back) u ≡ slot_arcs a u ++ (arc ∷ [])
-  unfolding slot_arcs
-  arc_there =
-      rw (count_there, below_more, map-append, slot_there)
-      (ap (λ (l : List Arc). l ++ (arc ∷ []))
-      (map_same _ _ (below (get_or a.count u 0)) (λ j m. slot_elsewhere a u arc back u j (λ same. omega (arith, below_lt (get_or a.count u 0) m)))))
+  -- the count of another router stays
+  pub count_elsewhere : (v : ℕ) → v ≢ u → get_or (with_arc a u arc).count v 0 ≡ get_or a.count v 0
+  unfolding with_arc
+  count_elsewhere v e = get_or-set_other a.count u v _ 0 e
 
-  pub arcs_elsewhere : (v : ℕ) → v ≢ u → get_or a.count v 0 ≤ 16 → slot_arcs (with_arc a u arc back) v ≡ slot_arcs a v
-  unfolding slot_arcs
-  arcs_elsewhere v e few =
-      rw (count_elsewhere a u arc back v e)
-      (map_same _ _ (below (get_or a.count v 0)) (λ j m. slot_elsewhere a u arc back v j (λ same. omega (arith, below_lt (get_or a.count v 0) m))))
+  module _ (s : Slotted a) (inside : u < 64) (room : get_or a.count u 0 < 16) where
+    pub count_there : get_or (with_arc a u arc).count u 0 ≡ get_or a.count u 0 + 1
+    unfolding with_arc
+    count_there = get_or-set_same a.count u _ 0 (omega (arith, s.counts))
+
+    pub arc_there : arcs_at (with_arc a u arc) u ≡ arcs_at a u ++ (arc ∷ [])
+    unfolding arcs_at with_arc
+    arc_there =
+        let h : get_or a.count u 0 < length (drop (u * 16) a.slot) = omega (arith, length-drop (u * 16) a.slot, s.slots) in
+        let e = get_or-set_same a.count u (get_or a.count u 0 + 1) 0 (omega (arith, s.counts)) in
+        rw (e, drop-set-add (u * 16) a.slot (get_or a.count u 0) arc) (take_more_set (drop (u * 16) a.slot) (get_or a.count u 0) arc h)
+
+    pub arcs_elsewhere : (v : ℕ) → v ≢ u → get_or a.count v 0 ≤ 16 → arcs_at (with_arc a u arc) v ≡ arcs_at a v
+    unfolding arcs_at with_arc
+    arcs_elsewhere v e few = rw (get_or-set_other a.count u v (get_or a.count u 0 + 1) 0 e) (step (dec_lt u v))
+      where
+        step : Dec (u < v) → take (get_or a.count v 0) (drop (v * 16) (set a.slot (u * 16 + get_or a.count u 0) arc)) ≡ take (get_or a.count v 0) (drop (v * 16) a.slot)
+        step (yes h) = part_before (get_or a.count v 0) (v * 16) a.slot (u * 16 + get_or a.count u 0) arc (omega arith)
+        step (no h) =
+            let past : v * 16 + (u * 16 + get_or a.count u 0 - v * 16) ≡ u * 16 + get_or a.count u 0 = omega arith in
+            rw (← past) (part_past (get_or a.count v 0) (v * 16) a.slot (u * 16 + get_or a.count u 0 - v * 16) arc (omega arith))

@@ -1,2 +1,3 @@
 pub mod Forms
-pub mod Taken
+pub mod Growing
+pub mod PutFirst

@@ -1,7 +1,6 @@
 -- Which request a line is, what it answers, and what is held from then on. `response_to` is the whole of it.
 -- Assumes nothing.
-use Rattle.std.specs.Prelude.{ℕ, cond, List, [], ◌∷◌, leb, length, take}
-use Rattle.std.proofs.Math.Option.{Option, none, some}
+use Rattle.std.specs.Prelude.{ℕ, cond, List, [], ◌∷◌, length, Option, Some, None}
 use Rattle.topology_types.specs.declared.Topology.{Topology}
 use Rattle.text.specs.Fields.{asks}
 use Rattle.console_held.specs.Questions.{place_field, hops_field, mode_field, room_field, bytes_field, Question, question_of}
@@ -20,10 +19,6 @@ form word kinds answer = record { word = word; kinds = kinds; answer = answer }
 -- a request that leaves what is held
 unfoldable pub leaving : (Topology → List ℕ → Question → List ℕ) → Held → Question → Answered
 leaving reply h q = unchanged h (reply h.topology h.table q)
-
--- how many forms there are
-abbrev pub most_forms : ℕ
-most_forms = 18
 
 -- each with its line above it
 unfoldable pub forms : List Form
@@ -77,13 +72,9 @@ form_for (f ∷ fs) line = cond (asks f.word (length f.kinds) line) f (form_for 
 
 -- a request with a wrong field is none
 unfoldable pub answer_asked : (Held → Question → Answered) → Held → Option Question → Answered
-answer_asked answer h (some q) = answer h q
-answer_asked answer h none = no_request h
+answer_asked answer h (Some q) = answer h q
+answer_asked answer h None = no_request h
 
 -- what a line answers
 unfoldable pub response_to : Held → List ℕ → Answered
 response_to h line = answer_asked (form_for forms line).answer h (question_of (form_for forms line).kinds line)
-
--- what a line answers of which so many bytes have come, if the buffer holds them all; one that is too long is no request
-unfoldable pub answer_held : Held → List ℕ → ℕ → Answered
-answer_held h buffer count = cond (leb count (length buffer)) (response_to h (take count buffer)) (no_request h)

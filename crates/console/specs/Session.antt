@@ -1,8 +1,8 @@
 -- What the console holds, by the bytes that have come: a newline ends a line, which is answered, and any other byte is a byte more of it.
 -- Assumes nothing.
-use Rattle.std.specs.Prelude.{ℕ, cond, List, [], ◌∷◌, ◌++◌, eqb, ltb, length}
+use Rattle.std.specs.Prelude.{ℕ, Bool, true, false, cond, List, [], ◌∷◌, ◌++◌, eqb, ltb, length}
 use Rattle.text.specs.Lines.{newline}
-use Rattle.console_held.specs.Requests.{Held, no_request}
+use Rattle.console_held.specs.Requests.{Held, Answered, no_request}
 use Rattle.console.specs.Answers.{response_to}
 
 -- A line that has not ended: the bytes that have come of it, or that they are more than a line may have.
@@ -20,10 +20,14 @@ unfoldable pub longer : ℕ → ℕ → Line → Line
 longer most c (some bytes) = cond (ltb (length bytes) most) (some (bytes ++ (c ∷ []))) too_long
 longer most c too_long = too_long
 
--- what is held from then on, when a line is answered; one that is too long is no request
+-- what a line is answered; one that is too long is no request
+unfoldable pub answered : Held → Line → Answered
+answered h (some bytes) = response_to h bytes
+answered h too_long = no_request h
+
+-- what is held from then on, when a line is answered
 unfoldable pub held_after : Held → Line → Held
-held_after h (some bytes) = (response_to h bytes).held
-held_after h too_long = (no_request h).held
+held_after h line = (answered h line).held
 
 -- the line is answered, and the next begins
 unfoldable pub line_ends : State → State
@@ -37,3 +41,9 @@ line_grows most c s = record { held = s.held; line = longer most c s.line }
 unfoldable pub session_after : ℕ → List ℕ → State → State
 session_after most [] s = s
 session_after most (c ∷ text) s = session_after most text (cond (eqb c newline) (line_ends s) (line_grows most c s))
+
+-- a line has a byte, or is too long
+unfoldable pub begun : Line → Bool
+begun (some []) = false
+begun (some (c ∷ bytes)) = true
+begun too_long = true

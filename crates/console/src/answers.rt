@@ -1,72 +1,57 @@
 // A line is answered: what is held from then on, and the line that answers, in a lent buffer.
-ghost use Rattle.std.specs.Prelude.{◌≡◌, ◌≤◌, length};
+ghost use Rattle.std.specs.Prelude.{◌≡◌, ◌≤◌, IfSome, length};
 ghost use Rattle.console_held.specs.Questions.{most_line, most_room};
-ghost use Rattle.console_held.specs.Inner.{TableReady, StepServed, held_in};
+ghost use Rattle.console_held.specs.Inner.{InLimits, StepServed};
 ghost use Rattle.console_replies.specs.Calls.{lent, most_answer};
-ghost use Rattle.console.specs.Answers.{answer_held};
-ghost use Rattle.console.specs.Inner.{InquiryReady, inquiry_answer, Told};
+ghost use Rattle.console.specs.Answers.{response_to};
+ghost use Rattle.console.specs.Session.{answered};
+ghost use Rattle.console.specs.Inner.{asked_answer, line_given, Told};
 
 use super::requests;
-use super::requests::{Inquiry, Request};
+use super::requests::Request;
+use console_held::unchecked::asked::ROOM;
 use console_held::unchecked::changes;
-use console_held::unchecked::holding::{Holding, Reply, Step};
+use console_held::unchecked::holding::Holding;
+use console_held::unchecked::query::Query;
+use console_held::unchecked::reply::Reply;
 use console_replies::unchecked::{putting, replies};
 
-// What a line leaves: what is held from then on, and how many bytes the line that answers has.
-#[derive(Clone, Copy)]
-pub struct Turn {
-    pub held: Holding,
-    pub count: usize,
-}
-
-// What a line asks is done. The bytes of its fields are the start of a buffer.
-fn step(inquiry: Inquiry, h: Holding, bytes: &[u8], table: &mut [u8], buffer: &mut [u8]) -> Step
-    requires { InquiryReady inquiry bytes.now × TableReady h table.old × (buffer.old ≡ lent most_room) }
-    ensures { StepServed (inquiry_answer inquiry bytes.now (held_in h table.old)) result table.new buffer.new }
+// What a line asks is done.
+fn serve<'a>(asked: Option<(Request, Query)>, held: &mut Holding, buffer: &'a mut [u8]) -> Reply<'a>
+    requires within { IfSome asked (λ a. InLimits a.1) }
+    requires filled { buffer.old ≡ lent most_room }
+    ensures { StepServed (asked_answer asked.entry held.old) held.new result }
 {
-    let Inquiry::Asks(request, q) = inquiry else {
-        return Step {
-            held: h,
-            reply: Reply::Error,
-        };
-    };
-    let n = q.count;
-    match request {
-        Request::Changes(change) => changes::change_by(change, h, q, &bytes[..n], table),
-        Request::Replies(call) => {
-            let t = h.topology;
-            let size = h.size;
-            Step {
-                held: h,
-                reply: replies::reply_by(call, t, q, &bytes[..n], &table[..size], buffer),
-            }
-        }
-        Request::Unknown => Step {
-            held: h,
-            reply: Reply::Error,
-        },
+    match asked {
+        Some((Request::Changes(change), query)) => changes::change_by(change, held, query),
+        Some((Request::Replies(call), query)) => replies::reply_by(
+            call,
+            &held.topology,
+            held.table(),
+            query,
+            buffer,
+        ),
+        None => Reply::Error,
     }
 }
 
-// Answers the line of which count bytes have come. The bytes of its fields stand where the answer is put after them.
-pub(crate) fn respond(
-    h: Holding,
-    table: &mut [u8],
-    line: &[u8],
-    count: usize,
-    out: &mut [u8],
-) -> Turn
-    requires { TableReady h table.old × (length line.now ≤ most_line) × (most_answer ≤ length out.old) }
-    ensures { Told (answer_held (held_in h table.old) line.now count) result table.new out.new }
+// Answers a line that is not too long, and says how many bytes the line that answers has. The bytes of its fields stand where the answer is put after them.
+fn respond_to(held: &mut Holding, line: &[u8], out: &mut [u8]) -> usize
+    requires { (length line.now ≤ most_line) × (most_answer ≤ length out.old) }
+    ensures { Told (response_to held.old line.now) held.new result out.new }
 {
-    let mut buffer = putting::lent();
-    let inquiry = requests::inquiry_in(line, count, out);
-    let next = step(inquiry, h, out, table, &mut buffer);
-    let held = next.held;
-    let reply = next.reply;
-    let n = putting::put_reply(reply, &buffer, out);
-    Turn {
-        held: held,
-        count: n,
+    let mut buffer: [u8; ROOM] = text::filled(170);
+    let reply = serve(requests::asked(line, out), held, &mut buffer);
+    putting::put_reply(reply, out)
+}
+
+// Answers a line, none where it is too long.
+pub(crate) fn respond(held: &mut Holding, line: Option<&[u8]>, out: &mut [u8]) -> usize
+    requires { IfSome line (λ l. length l.now ≤ most_line) × (most_answer ≤ length out.old) }
+    ensures { Told (answered held.old (line_given line.entry)) held.new result out.new }
+{
+    match line {
+        Some(line) => respond_to(held, line, out),
+        None => putting::put_reply(Reply::Error, out),
     }
 }

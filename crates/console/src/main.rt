@@ -27,157 +27,41 @@
 
 mod answers;
 mod requests;
+mod session;
 
-ghost use Rattle.std.specs.Prelude.{true, ◌≡◌, ◌≤◌, length, take};
+ghost use Rattle.std.specs.Prelude.{◌≡◌, take};
 ghost use Rattle.std.specs.Counts.{IsPrefixLen};
 ghost use Rattle.std.specs.Io.KnownBytes.{Consumes};
-ghost use Rattle.topology_types.specs.Topology.{zeros};
-ghost use Rattle.console_held.specs.Questions.{most_line, most_table};
-ghost use Rattle.console_held.specs.Inner.{TableReady};
-ghost use Rattle.console.specs.Inner.{LineAnswered, PartTaken, TextTaken};
 
-use console_held::unchecked::asked;
-use console_held::unchecked::holding::Holding;
-use console_replies::unchecked::putting;
-use forwarding::Packet;
-use program_io::STDOUT;
+use session::Session;
 use std::io::{Read, Stdin};
-use text::unchecked::{fields, lines};
-use topology::{LINKS, Link, Place, ROUTERS, Topology};
 
-// What is held, but for the table's bytes; how many bytes of a line have come, LINE + 1 if it is too long; and whether to go on.
-#[derive(Clone, Copy)]
-struct Session {
-    held: Holding,
-    count: usize,
-    open: bool,
-}
-
-fn begin() -> Session
-    ensures { result ≡ record { held = record { topology = zeros; size = 0; packet = record { station = record { 0 = 0 }; hops = 0 } }; count = 0; «open» = true } }
-{
-    let none = Link {
-        first: Place(0),
-        second: Place(0),
-        cost: 0,
-        back: 0,
-    };
-    let zeros = Topology {
-        routers: 0,
-        links: 0,
-        limit: 0,
-        id: [0; ROUTERS],
-        link: [none; LINKS],
-    };
-    let nothing = Holding {
-        topology: zeros,
-        size: 0,
-        packet: Packet {
-            station: Place(0),
-            hops: 0,
-        },
-    };
-    Session {
-        held: nothing,
-        count: 0,
-        open: true,
-    }
-}
-
-// Answers the line of count bytes in the buffer.
-fn answer(s: Session, table: &mut [u8], line: &[u8]) -> Session
-    requires { TableReady s.held table.old × (length line.now ≡ most_line) }
-    ensures { LineAnswered s table.old line.now result table.new }
-{
-    let mut out = putting::room_for_answer();
-    let h = s.held;
-    let count = s.count;
-    let turn = answers::respond(h, table, line, count, &mut out);
-    let held = turn.held;
-    let n = turn.count;
-    let is_written = io::write_all(STDOUT, &out[..n]);
-    Session {
-        held: held,
-        count: 0,
-        open: is_written,
-    }
-}
-
-// A part more of the line, and its answer if that was the last.
-fn take_part(s: Session, table: &mut [u8], line: &mut [u8], part: &[u8], is_last: bool) -> Session
-    requires { TableReady s.held table.old × (length line.old ≡ most_line) }
-    ensures { PartTaken s table.old line.old part.now is_last result table.new line.new }
-{
-    let mut next = s;
-    next.count = lines::gather(line, s.count, part);
-    if is_last {
-        answer(next, table, line)
-    } else {
-        next
-    }
-}
-
-// The lines of what was read, of which the first may have begun before and the last may go on.
-fn take(s: Session, table: &mut [u8], line: &mut [u8], text: &[u8]) -> Session
-    requires { TableReady s.held table.old × (length line.old ≡ most_line) }
-    ensures { TextTaken s table.old line.old text.now result table.new line.new }
-{
-    let mut next = s;
-    let mut at: usize = 0;
-    while at < text.len() {
-        let rest = &text[at..];
-        let n = fields::width(rest, b'\n');
-        next = take_part(next, table, line, &rest[..n], n < rest.len());
-        at += n + 1;
-    }
-    next
-}
+// A proved loop has to end, and nothing says that the input does: so many reads no run uses up.
+const READS: u64 = 1 << 40;
 
 // Reads once, and answers how many bytes are at the start of the slice, the next of those that the reader has: none at the end, or where reading fails.
 fn read_once<R: Read>(from: &mut R, text: &mut [u8]) -> usize
     ensures count { IsPrefixLen result text.new }
     ensures bytes { Consumes (R.remaining from.old) (R.remaining from.new) (take result text.new) }
 {
-    match from.read(text) {
-        Ok(n) => n,
-        Err(_) => 0,
-    }
+    from.read(text).unwrap_or(0)
 }
 
-// Reads once, and takes what was read.
-fn read_some(s: Session, table: &mut [u8], line: &mut [u8], mut from: Stdin) -> Session
-    requires { TableReady s.held table.old × (length line.old ≡ most_line) }
-    ensures { result.held.size ≤ length table.new }
-{
-    let mut text = io::large_buffer();
-    let n = read_once(&mut from, &mut text);
-    if n == 0 {
-        let mut last = s;
-        last.open = false;
-        return last;
+// Takes what is read, until nothing is or an answer is not written.
+fn serve(session: &mut Session, mut from: Stdin) {
+    for _ in 0..READS {
+        let mut text = io::large_buffer();
+        let n = read_once(&mut from, &mut text);
+        if n == 0 || !session.take(&text[..n]) {
+            break;
+        }
     }
-    take(s, table, line, &text[..n])
-}
-
-// A proved loop has to end, and nothing says that the input does. So the loop counts its turns down, from a number that no run uses up.
-fn serve(table: &mut [u8], line: &mut [u8], from: Stdin) -> Session
-    requires { (length table.old ≡ most_table) × (length line.old ≡ most_line) }
-    ensures { result.held.size ≤ length table.new }
-{
-    let mut s = begin();
-    let mut turns: u64 = 1099511627776;
-    while s.open && turns > 0 {
-        s = read_some(s, table, line, from);
-        turns -= 1;
-    }
-    s
 }
 
 fn main(rt: HostRuntime) {
-    let mut table = asked::room_for_bytes();
-    let mut line = asked::room_for_line();
-    let s = serve(&mut table, &mut line, rt.stdin());
-    if 0 < s.count {
-        answer(s, &mut table, &line);
+    let mut session = Session::new();
+    serve(&mut session, rt.stdin());
+    if session.has_begun() {
+        session.answer();
     }
 }

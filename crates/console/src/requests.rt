@@ -1,12 +1,15 @@
 // The requests: their first words, the kinds of the fields after them, and what a line asks.
-ghost use Rattle.std.specs.Prelude.{◌≡◌, ◌≤◌, length};
+ghost use Rattle.std.specs.Prelude.{◌≡◌, ◌≤◌, IfSome, length};
 ghost use Rattle.console_held.specs.Questions.{most_line, most_table};
-ghost use Rattle.console.specs.Answers.{most_forms, forms, response_to, answer_held};
-ghost use Rattle.console.specs.Inner.{answer_to, form_at, form_number, Inquired};
+ghost use Rattle.console_held.specs.Requests.{Held};
+ghost use Rattle.console_held.specs.Inner.{InLimits};
+ghost use Rattle.console.specs.Answers.{forms, no_form, form_for, response_to};
+ghost use Rattle.console.specs.Inner.{FirstFound, form_said, asked_answer};
 
 use console_held::unchecked::asked;
-use console_held::unchecked::asked::{Queried, Query};
 use console_held::unchecked::changes::Change;
+use console_held::unchecked::kind::Kind;
+use console_held::unchecked::query::Query;
 use console_replies::unchecked::replies::Call;
 use text::unchecked::fields;
 
@@ -15,84 +18,150 @@ use text::unchecked::fields;
 pub enum Request {
     Changes(Change),
     Replies(Call),
-    Unknown,
 }
 
-// What a line asks: a request, with what its fields hold; or nothing.
-#[derive(Clone, Copy)]
-pub enum Inquiry {
-    Asks(Request, Query),
-    Nothing,
+// A request's first word, the kinds of the fields after it, and the request.
+struct Form {
+    word: &'static [u8],
+    kinds: &'static [Kind],
+    request: Request,
 }
 
-// How many forms of lines there are, as in specs/Answers.antt.
-const FORMS: usize = 18;
+// Each with its line above it, as in specs/Answers.antt.
+const FORMS: [Form; 18] = [
+    // `topology STREAM`
+    Form {
+        word: b"topology",
+        kinds: &[Kind::Bytes],
+        request: Request::Changes(Change::Topology),
+    },
+    // `write ROOM`
+    Form {
+        word: b"write",
+        kinds: &[Kind::Room],
+        request: Request::Replies(Call::Write),
+    },
+    // `order D MODE ROOM`
+    Form {
+        word: b"order",
+        kinds: &[Kind::Place, Kind::Mode, Kind::Room],
+        request: Request::Replies(Call::Order),
+    },
+    // `check-order D MODE ORDER`
+    Form {
+        word: b"check-order",
+        kinds: &[Kind::Place, Kind::Mode, Kind::Bytes],
+        request: Request::Replies(Call::CheckOrder),
+    },
+    // `fill D ORDER ROOM`
+    Form {
+        word: b"fill",
+        kinds: &[Kind::Place, Kind::Bytes, Kind::Room],
+        request: Request::Replies(Call::Fill),
+    },
+    // `load-table TABLE`
+    Form {
+        word: b"load-table",
+        kinds: &[Kind::Bytes],
+        request: Request::Changes(Change::LoadTable),
+    },
+    // `check-table`
+    Form {
+        word: b"check-table",
+        kinds: &[],
+        request: Request::Replies(Call::CheckTable),
+    },
+    // `greatest ROOM`
+    Form {
+        word: b"greatest",
+        kinds: &[Kind::Room],
+        request: Request::Replies(Call::Greatest),
+    },
+    // `load-packet STATION HOPS`
+    Form {
+        word: b"load-packet",
+        kinds: &[Kind::Place, Kind::Hops],
+        request: Request::Changes(Change::LoadPacket),
+    },
+    // `set START`
+    Form {
+        word: b"set",
+        kinds: &[Kind::Place],
+        request: Request::Changes(Change::Set),
+    },
+    // `hop STATES`
+    Form {
+        word: b"hop",
+        kinds: &[Kind::Bytes],
+        request: Request::Changes(Change::Hop),
+    },
+    // `walk START SCHEDULE`
+    Form {
+        word: b"walk",
+        kinds: &[Kind::Place, Kind::Bytes],
+        request: Request::Replies(Call::Walk),
+    },
+    // `listing D ROOM`
+    Form {
+        word: b"listing",
+        kinds: &[Kind::Place, Kind::Room],
+        request: Request::Replies(Call::Listing),
+    },
+    // `old-stream STREAM ROOM`
+    Form {
+        word: b"old-stream",
+        kinds: &[Kind::Bytes, Kind::Room],
+        request: Request::Replies(Call::OldStream),
+    },
+    // `coverage`
+    Form {
+        word: b"coverage",
+        kinds: &[],
+        request: Request::Replies(Call::Coverage),
+    },
+    // `paths START ROOM`
+    Form {
+        word: b"paths",
+        kinds: &[Kind::Place, Kind::Room],
+        request: Request::Replies(Call::Paths),
+    },
+    // `import FILE`
+    Form {
+        word: b"import",
+        kinds: &[Kind::Bytes],
+        request: Request::Changes(Change::Import),
+    },
+    // `te VALUE`
+    Form {
+        word: b"te",
+        kinds: &[Kind::Bytes],
+        request: Request::Replies(Call::Te),
+    },
+];
 
-// The number of the first form that the line has, FORMS if it has none: the words are the fields of a text, and so are the kinds, a letter each.
-fn form_in(line: &[u8], words: &[u8], kinds: &[u8]) -> usize
-    ensures { result ≡ form_number words.now kinds.now line.now most_forms 0 }
+// The first form that a line has, of these.
+fn first_form<'a>(line: &[u8], forms: &'a [Form]) -> Option<&'a Form>
+    ensures { FirstFound line.now forms.now result }
 {
-    let mut k: usize = 0;
-    while k < FORMS {
-        let sorts = fields::field(kinds, k);
-        if fields::asks(line, fields::field(words, k), sorts.len()) {
-            return k;
-        }
-        k += 1;
-    }
-    k
+    forms
+        .iter()
+        .find(|f| fields::asks(line, f.word, f.kinds.len()))
 }
 
-// The request of each form, in the order of the texts in `line_asks`.
-fn request_of(k: usize) -> Request
-    ensures { answer_to result ≡ (form_at k forms).answer }
+// The form of a line, if it has one.
+fn form_of(line: &[u8]) -> Option<&'static Form>
+    ensures { form_said result ≡ form_for forms line.now }
 {
-    match k {
-        0 => Request::Changes(Change::Topology),
-        1 => Request::Replies(Call::Write),
-        2 => Request::Replies(Call::Order),
-        3 => Request::Replies(Call::CheckOrder),
-        4 => Request::Replies(Call::Fill),
-        5 => Request::Changes(Change::LoadTable),
-        6 => Request::Replies(Call::CheckTable),
-        7 => Request::Replies(Call::Greatest),
-        8 => Request::Changes(Change::LoadPacket),
-        9 => Request::Changes(Change::Set),
-        10 => Request::Changes(Change::Hop),
-        11 => Request::Replies(Call::Walk),
-        12 => Request::Replies(Call::Listing),
-        13 => Request::Replies(Call::OldStream),
-        14 => Request::Replies(Call::Coverage),
-        15 => Request::Replies(Call::Paths),
-        16 => Request::Changes(Change::Import),
-        17 => Request::Replies(Call::Te),
-        _ => Request::Unknown,
-    }
+    first_form(line, &FORMS)
 }
 
-// What the line asks. The bytes of a field are put at the start of a buffer.
-fn line_asks(line: &[u8], bytes: &mut [u8]) -> Inquiry
+// What a line asks. The bytes of a field are put at the start of a buffer.
+pub(crate) fn asked<'a>(line: &[u8], bytes: &'a mut [u8]) -> Option<(Request, Query<'a>)>
     requires { (length line.now ≤ most_line) × (most_table ≤ length bytes.old) }
-    ensures { Inquired (λ h. response_to h line.now) result bytes.new }
+    ensures says { (h : Held) → asked_answer result h ≡ response_to h line.now }
+    ensures within { IfSome result (λ a. InLimits a.1) }
 {
-    let words =
-        b"topology write order check-order fill load-table check-table greatest load-packet set hop walk listing old-stream coverage paths import te";
-    let kinds = b"b r pmr pmb pbr b  r ph p b pb pr br  pr b b";
-    let k = form_in(line, words, kinds);
-    let Queried::Is(query) = asked::query_in(line, fields::field(kinds, k), bytes) else {
-        return Inquiry::Nothing;
-    };
-    let request = request_of(k);
-    Inquiry::Asks(request, query)
-}
-
-// What the line asks of which count bytes have come, if the buffer holds them all.
-pub(crate) fn inquiry_in(line: &[u8], count: usize, bytes: &mut [u8]) -> Inquiry
-    requires { (length line.now ≤ most_line) × (most_table ≤ length bytes.old) }
-    ensures { Inquired (λ h. answer_held h line.now count) result bytes.new }
-{
-    if count <= line.len() {
-        return line_asks(&line[..count], bytes);
-    }
-    Inquiry::Nothing
+    let form = form_of(line)?;
+    let query = asked::query_in(line, form.kinds, bytes)?;
+    Some((form.request, query))
 }

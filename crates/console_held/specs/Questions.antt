@@ -1,18 +1,13 @@
 -- What a request asks: the kinds of its fields, and what they hold.
 -- Assumes nothing.
-use Rattle.std.specs.Prelude.{ℕ, ◌+◌, cond, List, [], ◌∷◌, ltb, length}
-use Rattle.std.proofs.Math.Option.{Option, none, some}
+use Rattle.std.specs.Prelude.{ℕ, ◌+◌, cond, List, [], ◌∷◌, ltb, length, Option, Some, None}
 use Rattle.network.specs.Lists.{same_numbers}
 use Rattle.order_standings.specs.declared.Mode.{Mode}
 use Rattle.order_standings.specs.declared.Mode.TheVariants.{ShortestPath, Free}
-use Rattle.text.specs.declared.unchecked.fields.Value.{Value}
-use Rattle.text.specs.declared.unchecked.fields.Value.TheVariants.{Is, Wrong}
 use Rattle.text.specs.Fields.{before, field}
 use Rattle.text.specs.Numbers.{number}
 use Rattle.text.specs.Hex as hex
 use Rattle.text.specs.Hex.{byte_count, bytes}
-use Rattle.console_held.specs.declared.unchecked.asked.Chosen.{Chosen}
-use Rattle.console_held.specs.declared.unchecked.asked.Chosen.TheVariants as chosen
 
 -- D, START, STATION and HOPS are one byte each to a call of the library: a larger number is no request
 abbrev pub most_byte : ℕ
@@ -75,18 +70,18 @@ unfoldable pub free_word : List ℕ
 free_word = 102 ∷ 114 ∷ 101 ∷ 101 ∷ []
 
 -- MODE is `shortest` or `free`
-unfoldable pub mode_named : List ℕ → Chosen
-mode_named word = cond (same_numbers word shortest_word) (chosen.Is ShortestPath) (cond (same_numbers word free_word) (chosen.Is Free) chosen.Wrong)
+unfoldable pub mode_named : List ℕ → Option Mode
+mode_named word = cond (same_numbers word shortest_word) (Some ShortestPath) (cond (same_numbers word free_word) (Some Free) None)
 
 -- what is asked, where the fields hold this, the last a count of bytes, and these are the bytes; nothing if one is no such field
-unfoldable pub question : Value → Value → Chosen → Value → Value → List ℕ → Option Question
-question (Is place) (Is hops) (chosen.Is mode) (Is room) (Is count) given =
-    some (record { place = place; hops = hops; mode = mode; room = room; bytes = given })
-question (Is place) (Is hops) (chosen.Is mode) (Is room) Wrong given = none
-question (Is place) (Is hops) (chosen.Is mode) Wrong count given = none
-question (Is place) (Is hops) chosen.Wrong room count given = none
-question (Is place) Wrong mode room count given = none
-question Wrong hops mode room count given = none
+unfoldable pub question : Option ℕ → Option ℕ → Option Mode → Option ℕ → Option ℕ → List ℕ → Option Question
+question (Some place) (Some hops) (Some mode) (Some room) (Some count) given =
+    Some (record { place = place; hops = hops; mode = mode; room = room; bytes = given })
+question (Some place) (Some hops) (Some mode) (Some room) None given = None
+question (Some place) (Some hops) (Some mode) None count given = None
+question (Some place) (Some hops) None room count given = None
+question (Some place) None mode room count given = None
+question None hops mode room count given = None
 
 -- what a line asks, where these are the kinds of the fields after its first word
 unfoldable pub question_of : List ℕ → List ℕ → Option Question

@@ -3,4 +3,5 @@ pub mod asked;
 pub mod changes;
 pub mod holding;
 pub mod kind;
-mod packets;
+pub mod query;
+pub mod reply;

@@ -7,7 +7,7 @@ use mathlib.Core.Path.{◌≡◌, refl, ap, ◌∙◌}
 use native.Mathlib.Omega.{arith}
 use borrow.Author.Tests.{eq-eqb}
 use lib.ListN.{length, take, drop, length-append}
-use lib.Seq.{take_at}
+use lib.Seq.{take_at, length-sets}
 use Rattle.network.proofs.Tests.{truth}
 use Rattle.topology_types.specs.declared.Topology.{Topology}
 use Rattle.topology_sound.specs.Sound.{sound}
@@ -16,17 +16,15 @@ use Rattle.topology.specs.Written.{joined_over}
 use Rattle.text.specs.Fields.{space}
 use Rattle.text.specs.Inner.{Put}
 use Rattle.text.specs.Numbers.{final_digits, number_text}
-use Rattle.text.proofs.Stores.{behind, put_start}
+use Rattle.text.specs.Lines.{newline}
+use Rattle.text.proofs.Stores.{put_start}
 use Rattle.listing_rules.specs.Listing.{spaced}
-use Rattle.listing_rules.proofs.InTurn.{put_length}
-use Rattle.coverage_rules.specs.declared.Coverage.{Coverage}
-use Rattle.coverage_rules.specs.Coverage.{coverage}
+use Rattle.coverage_rules.specs.Coverage.{Coverage, coverage}
 use Rattle.coverage_rules.specs.Printed.{Fraction, fractions, numbers, fraction_text, fractions_text}
 use Rattle.coverage_rules.proofs.Right.{figures_right, coverage_refuses}
 use Rattle.coverage_rules.proofs.Printing.{text_length}
-use Rattle.console_held.specs.declared.unchecked.holding.Reply.TheVariants.{Line}
-use Rattle.console_held.specs.Inner.{Replies, reply_text, room_of}
 use Rattle.console_replies.specs.Calls.{coverage_line}
+use Rattle.console_replies.specs.Inner.{zeros_text}
 
 followed : ℕ → List ℕ
 followed n = number_text n ++ (space ∷ [])
@@ -60,14 +58,18 @@ few t =
     ⊎_elim (λ s. omega (arith, (figures_right t s).destinations, ((sound_exact t).0 s).routers_most))
     (λ n. rw (coverage_refuses t n) (omega arith)) (truth (sound t))
 
--- the line but for its end, where the two texts were put into a lent buffer
-pub covered_reply : (t : Topology) {b one two : List ℕ} {q r : ℕ} → length b ≡ 65536 → (coverage t).answer.number ≡ 0 →
-    Put b 0 (48 ∷ 32 ∷ 48 ∷ 32 ∷ []) q one → Put one q (fractions_text space (coverage t)) r two → Replies (coverage_line (coverage t)) (Line (r - 1)) two
-unfolding coverage_line reply_text room_of
-covered_reply t {b} {one} {two} {q} {r} long zero first then =
+-- the line but for its end, where the text was put into a lent buffer
+pub covered_line : (t : Topology) {b b' : List ℕ} {r : ℕ} → length b ≡ 65536 → (coverage t).answer.number ≡ 0 →
+    Put b 0 (zeros_text ++ fractions_text space (coverage t)) r b' →
+    (take (r - 1) b' ++ (newline ∷ []) ≡ coverage_line (coverage t)) × (1 ≤ r) × (r ≤ length b')
+unfolding coverage_line
+covered_line t {b} {b'} {r} long zero p =
     let c = coverage t in
     let text = spaced (map number_text (0 ∷ 0 ∷ numbers c)) in
-    let both : Put b 0 (text ++ (space ∷ [])) r two = rw (line_spaced c) at (behind first then) in
-    let fits : r ≤ length b = omega (arith, first.after, then.after, text_length space c (few t)) in
-    let same : length two ≡ length b = put_length both in
-    record { says = rw (eq-eqb c.answer.number 0 zero, start_but_one b text space both fits); room = omega arith }
+    let put : Put b 0 (text ++ (space ∷ [])) r b' = rw (line_spaced c) at p in
+    let size = simp length-append at p.after in
+    let fits : r ≤ length b = omega (arith, size, text_length space c (few t)) in (
+      rw (eq-eqb c.answer.number 0 zero) (ap (λ s. s ++ (newline ∷ [])) (start_but_one b text space put fits)),
+      omega (arith, put.after, length-append text (space ∷ [])),
+      omega (arith, fits, simp length-sets at (ap length p.stored)),
+    )

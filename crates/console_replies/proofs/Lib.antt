@@ -1,4 +1,4 @@
+pub mod Facts
+pub mod LinkCosts
 pub mod Lent
 pub mod Covered
-pub mod LinkCosts
-pub mod Facts

@@ -1,28 +1,24 @@
--- Numbers put at the start of a lent buffer are a reply's line, and what a value costs has no NaN among its numbers.
+-- Numbers put at the start of a lent buffer stand there, and what a value costs has no NaN among its numbers.
 -- Assumes nothing.
 use Prim.Native.Nat.{ℕ, ◌*◌, ◌≤◌}
 use mathlib.Core.Bool.{Bool, true, false, not}
-use mathlib.Core.List.{List, [], ◌∷◌, ◌++◌, map}
+use mathlib.Core.List.{List, [], ◌∷◌, map}
 use mathlib.Core.Path.{◌≡◌, refl, ap}
 use native.Mathlib.Omega.{arith}
 use lib.Dec.{T}
 use lib.IntN.{pos}
-use lib.ListN.{length, length-append}
+use lib.ListN.{length, take, length-append}
+use lib.Seq.{length-sets}
 use lib.Ieee.{Float, fin, is_nan}
-use Rattle.te.specs.declared.LinkCost.{LinkCost}
 use Rattle.te.specs.SubTlvs.{usable}
-use Rattle.te.specs.Cost.{costing}
+use Rattle.te.specs.Cost.{LinkCost, costing}
 use Rattle.te.proofs.Patterns.{number_if_usable}
 use Rattle.te.proofs.Reaching.{records_kept}
 use Rattle.text.specs.Inner.{Put}
-use Rattle.text.specs.Lines.{newline}
 use Rattle.text.specs.Numbers.{number_text}
 use Rattle.text.proofs.Stores.{start}
 use Rattle.text.proofs.Texts.{number_length}
 use Rattle.listing_rules.specs.Listing.{spaced}
-use Rattle.listing_rules.proofs.InTurn.{put_length}
-use Rattle.console_held.specs.declared.unchecked.holding.Reply.TheVariants.{Line}
-use Rattle.console_held.specs.Inner.{Replies, reply_text, room_of}
 
 -- 20 digits and a space each
 spaced_most : (ns : List ℕ) → length (spaced (map number_text ns)) ≤ 21 * length ns
@@ -31,15 +27,12 @@ spaced_most [] = omega arith
 spaced_most (n ∷ []) = omega (arith, number_length n)
 spaced_most (n ∷ m ∷ ms) = simp length-append (omega (arith, number_length n, spaced_most (m ∷ ms)))
 
-pub numbers_reply : {b : List ℕ} (ns : List ℕ) {r : ℕ} {b' : List ℕ} → Put b 0 (spaced (map number_text ns)) r b' → 21 * length ns ≤ length b →
-    Replies (spaced (map number_text ns) ++ (newline ∷ [])) (Line r) b'
-unfolding reply_text room_of
-numbers_reply {b} ns {r} {b'} p room =
+-- numbers put at the start of a lent buffer
+pub numbers_line : (ns : List ℕ) {b : List ℕ} {r : ℕ} {b' : List ℕ} → Put b 0 (spaced (map number_text ns)) r b' → 21 * length ns ≤ length b →
+    (take r b' ≡ spaced (map number_text ns)) × (r ≤ length b')
+numbers_line ns {b} {r} {b'} p room =
     let fits : r ≤ length b = omega (arith, p.after, spaced_most ns) in
-    record {
-      says = ap (λ s. s ++ (newline ∷ [])) (start b (spaced (map number_text ns)) b' r p.stored (omega (arith, p.after)) fits);
-      room = omega (arith, put_length p);
-    }
+    (start b (spaced (map number_text ns)) b' r p.stored (omega (arith, p.after)) fits, omega (arith, fits, simp length-sets at (ap length p.stored)))
 
 -- by whether it is present
 number_kept : (x : Float) (has : Bool) → (has ≡ false → x ≡ fin false 0 (pos 0)) → (has ≡ true → T (usable x)) → T (not (is_nan x))

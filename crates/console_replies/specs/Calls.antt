@@ -14,11 +14,9 @@ use Rattle.forwarding_rules.specs.Calls as said
 use Rattle.forwarding_rules.specs.Calls.{Said, counting_hops, walking}
 use Rattle.paths_rules.specs.Calls.{writing_paths}
 use Rattle.listing_rules.specs.Listing.{spaced, listing}
-use Rattle.coverage_rules.specs.declared.Coverage.{Coverage}
-use Rattle.coverage_rules.specs.Coverage.{coverage}
+use Rattle.coverage_rules.specs.Coverage.{Coverage, coverage}
 use Rattle.coverage_rules.specs.Printed.{numbers}
-use Rattle.te.specs.declared.LinkCost.{LinkCost}
-use Rattle.te.specs.Cost.{costing}
+use Rattle.te.specs.Cost.{LinkCost, costing}
 use Rattle.text.specs.Numbers.{number_text}
 use Rattle.text.specs.Lines.{newline, error_line, refused_word, word_line, buffer_line}
 use Rattle.console_held.specs.Questions.{Question}

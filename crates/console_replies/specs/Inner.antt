@@ -1,17 +1,15 @@
--- What the requests ask of their caller, and which definition each has.
+-- Which definition each request has.
 -- Assumes nothing.
-use Rattle.std.specs.Prelude.{ℕ, ◌≤◌, List, ◌≡◌}
-use Rattle.console_held.specs.declared.unchecked.asked.Query.{Query}
+use Rattle.std.specs.Prelude.{ℕ, List, [], ◌∷◌}
 use Rattle.topology_types.specs.declared.Topology.{Topology}
-use Rattle.console_held.specs.Questions.{most_room, Question}
-use Rattle.console_replies.specs.Calls.{lent, write_by, order_by, check_order_by, fill_by, check_table_by, count_by, walk_by_lem, list_by, old_stream_by, coverage_by, paths_by, te_by}
+use Rattle.console_held.specs.Questions.{Question}
+use Rattle.console_replies.specs.Calls.{write_by, order_by, check_order_by, fill_by, check_table_by, count_by, walk_by_lem, list_by, old_stream_by, coverage_by, paths_by, te_by}
 use Rattle.console_replies.specs.declared.unchecked.replies.Call.{Call}
 use Rattle.console_replies.specs.declared.unchecked.replies.Call.TheVariants as call
 
--- A whole buffer of `aa` is lent, and ROOM is within it.
-pub record RoomLent (q : Query) (buffer : List ℕ) : Type 0 where
-  pub room : q.room ≤ most_room
-  pub filled : buffer ≡ lent most_room
+-- `0 0 `
+abbrev pub zeros_text : List ℕ
+zeros_text = 48 ∷ 32 ∷ 48 ∷ 32 ∷ []
 
 -- what each request answers, with the topology and the table that are held
 unfoldable pub reply_to : Call → Topology → List ℕ → Question → List ℕ

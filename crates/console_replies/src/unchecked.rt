@@ -1,5 +1,4 @@
 // For callers that have tested the line and lent the buffers: each `requires` says what it asks.
-mod calls;
 mod costs;
 mod figures;
 pub mod putting;

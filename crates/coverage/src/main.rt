@@ -4,20 +4,28 @@
 // at.
 #![tactic(auto)]
 
-ghost use Rattle.std.specs.Prelude.{◌≡◌, ◌≤◌, length};
+ghost use Rattle.std.specs.Prelude.{◌≤◌, length};
 ghost use Rattle.text.specs.Inner.{Put};
+ghost use Rattle.text.specs.Page.{Puts, Room};
 ghost use Rattle.coverage.specs.Output.{coverage_output};
 
-use program_io::STDOUT;
+use text::unchecked::lines::Page;
 
 // Room for every output: 42 bytes for each of 65 lines.
 const OUTPUT: usize = 2730;
 
-// An array that comes out of a function is known by what the function ensures.
-fn room() -> [u8; OUTPUT]
-    ensures { 2730 ≡ length result }
+// The whole output for a stream.
+fn put_onto(page: &mut Page<'_>, stream: &[u8])
+    requires { Room page.old 2730 }
+    ensures { Puts page.old (coverage_output stream.now) page.new }
 {
-    [0; OUTPUT]
+    match topology::read(stream) {
+        Err(refusal) => program_io::unchecked::put_refused(page, refusal),
+        Ok(t) => {
+            let figures = coverage_counts::unchecked::coverage(&t, &arcs::unchecked::of(t));
+            coverage_counts::unchecked::put_coverage(&figures, page, b'\n');
+        }
+    }
 }
 
 // The whole output for a stream, at the start of the slice; answers how many bytes it has.
@@ -25,21 +33,13 @@ fn put_output(stream: &[u8], out: &mut [u8]) -> usize
     requires { 2730 ≤ length out.old }
     ensures { (result ≤ 2730) × Put out.old 0 (coverage_output stream.now) result out.new }
 {
-    let reading = topology::read(stream);
-    let answer = reading.answer;
-    if answer.number != 0 {
-        return program_io::unchecked::put_refused(out, answer);
-    }
-    let t = reading.topology;
-    let figures = coverage_counts::unchecked::coverage(t, arcs::unchecked::of(t));
-    coverage_counts::unchecked::put_coverage(figures, out, 0, b'\n')
+    let mut page = Page::new(out);
+    put_onto(&mut page, stream);
+    page.filled
 }
 
 // What is read and written no contract says; it goes as in the listing.
 fn main() {
-    let mut input = program_io::room_for_input();
-    let n = program_io::read_input(&mut input);
-    let mut out = room();
-    let end = put_output(&input[..n], &mut out);
-    io::write_all(STDOUT, &out[..end]);
+    let mut out: [u8; OUTPUT] = text::filled(0);
+    program_io::unchecked::print_by(put_output, &mut out);
 }

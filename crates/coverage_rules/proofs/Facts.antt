@@ -1,6 +1,6 @@
 -- The prover computes every fact from the definitions.
 -- Assumes nothing.
-use Rattle.network.specs.Lists.{numbers_from, below, keep, every, any, least_by, greatest_by, ahead, foremost, insert, sort, member, distinct, same_numbers, wins}
+use Rattle.network.specs.Lists.{numbers_from, below, least_by, greatest_by, ahead, foremost, insert, sort, member, distinct, same_numbers, wins}
 use Rattle.network.specs.Network.{size, id_of, arcs_of, greatest_cost, arcs_among, linked, sound_cost, sound_link, same_pair, pairs_differ, sound_links}
 use Rattle.network.specs.Distance.{absent, distance_in, through, at_first_lem, round, rounds, distances}
 use Rattle.network.specs.Order.{reached, shortest_next_hops, leads_into, ready, candidate, placed_neighbours, preferred, select, continued, placing, build}

@@ -1,19 +1,20 @@
 -- The coverage figures (02, #102), over `network`'s rows: the pairs of a router and another destination that have two or more next hops, and the next
 -- hops that the rows of each destination list.
 -- Assumes nothing.
-use Rattle.std.specs.Prelude.{ℕ, ◌*◌, ◌-◌, Bool, cond, not, List, [], map, eqb, leb, length}
+use Rattle.std.specs.Prelude.{ℕ, ◌*◌, ◌-◌, Bool, cond, not, List, [], map, eqb, leb, length, Result, Ok, Err}
 use Rattle.network.specs.Lists.{below, keep}
 use Rattle.network.specs.Network.{Arc}
 use Rattle.network.specs.Distance.{distances}
 use Rattle.network.specs.Order.{shortest-path, build}
 use Rattle.network.specs.Row.{row}
+use Rattle.topology_types.specs.declared.Refusal.{Refusal}
 use Rattle.topology_types.specs.declared.Topology.{Topology}
 use Rattle.topology_types.specs.Limits.{most_routers}
-use Rattle.topology_types.specs.Outcome.{answer}
+use Rattle.topology_types.specs.Outcome.{Answer, answer, refused}
 use Rattle.topology_types.specs.Topology.{padded, network_of}
 use Rattle.topology_sound.specs.Sound.{sound}
 use Rattle.topology.specs.Written.{joined_over}
-use Rattle.coverage_rules.specs.declared.Coverage.{Coverage}
+use Rattle.coverage_rules.specs.declared.Coverage as code
 
 -- 02, #102, the listing's tables: the row of router u for destination d, under the order that is built in shortest-path mode and with the topology's K
 unfoldable pub row_for : Topology → ℕ → ℕ → List Arc
@@ -43,6 +44,16 @@ covered_among t pairs = length (keep (has_two t) pairs)
 unfoldable pub listed_for : Topology → ℕ → ℕ
 listed_for t d = length (joined_over (row_for t d) (below t.routers))
 
+-- The answer of the call, and the figures: how many pairs are covered, and how many there are; how many destinations, and by place how many next hops the
+-- rows of each list; and the number of links.
+pub record Coverage : Type 0 where
+  pub answer : Answer
+  pub covered : ℕ
+  pub pairs : ℕ
+  pub destinations : ℕ
+  pub links : ℕ
+  pub listed : List ℕ
+
 -- 02, #102: the figures of a sound topology; a link counts once, where 001 doubles it
 unfoldable pub figures_counted : Topology → Coverage
 figures_counted t =
@@ -54,6 +65,17 @@ figures_counted t =
       links = t.links;
       listed = padded 0 most_routers (map (listed_for t) (below t.routers));
     }
+
+-- the figures that the code hands over, a success
+abbrev pub figures_of : code.Coverage → Coverage
+figures_of c =
+    record { answer = answer 0 0; covered = c.covered; pairs = c.pairs; destinations = c.destinations; links = c.links; listed = c.listed }
+
+-- what a call's result stands for; all numbers of a refusal are zero
+abbrev pub coverage_of : Result code.Coverage Refusal → Coverage
+coverage_of (Ok c) = figures_of c
+coverage_of (Err r) =
+    record { answer = refused r; covered = 0; pairs = 0; destinations = 0; links = 0; listed = padded 0 most_routers [] }
 
 -- 01, Refusals, 14: all numbers are zero
 unfoldable pub nothing_counted : Coverage

@@ -5,7 +5,7 @@ use Rattle.topology.specs.Written.{joined_over}
 use Rattle.text.specs.Lines.{newline}
 use Rattle.text.specs.Numbers.{number_text}
 use Rattle.listing_rules.specs.Listing.{spaced}
-use Rattle.coverage_rules.specs.declared.Coverage.{Coverage}
+use Rattle.coverage_rules.specs.Coverage.{Coverage}
 
 -- one number over another
 pub record Fraction : Type 0 where

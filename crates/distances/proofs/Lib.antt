@@ -1,11 +1,10 @@
+pub mod Signed
 pub mod Slots
 pub mod Stored
 pub mod Unsettled
 pub mod Relaxed
-pub mod Signed
 pub mod Nearest
 pub mod Ways
 pub mod Run
 pub mod Turn
 pub mod Ended
-pub mod Laid

@@ -4,43 +4,39 @@
 use Prim.Native.Nat.{ℕ, ◌+◌, ◌*◌, ◌%◌, ◌≤◌, ◌<◌}
 use mathlib.Core.List.{List}
 use mathlib.Core.Logic.{◌⊎◌, inl, inr, ⊎_elim}
-use mathlib.Core.Path.{◌≡◌, refl}
-use native.Mathlib.Decide.{ℕ_discrete}
+use mathlib.Core.Path.{◌≡◌}
+use native.Mathlib.Decide.{dec_lt, ℕ_discrete}
 use native.Mathlib.Nat.{mul-add-mod_self_right, mod-eq_of_lt}
 use native.Mathlib.Omega.{arith}
 use lib.ListN.{get_or}
+use Rattle.std.specs.Prelude.{min}
 use Rattle.distances.specs.Inner.{Open, Searched, Nearest}
 
 -- what is compared
 abbrev pub key : List ℕ → List ℕ → ℕ → ℕ
 key ds marks v = get_or ds v 0 * 64 + get_or marks v 0
 
--- the least of the first v, or the greatest signed number of 32 bits where there is none
+-- the least of the first v, or the greatest number of 32 bits where there is none
 pub record Least (ds marks : List ℕ) (v best : ℕ) : Type 0 where
   pub low : (w : ℕ) → w < v → best ≤ key ds marks w
-  pub from : (best ≡ 2147483647) ⊎ ((w : ℕ) × (w < v) × (best ≡ key ds marks w))
+  pub from : (best ≡ 4294967295) ⊎ ((w : ℕ) × (w < v) × (best ≡ key ds marks w))
 
 module _ (ds marks : List ℕ) where
-  pub least_none : Least ds marks 0 2147483647
-  least_none = record { low = λ w h. absurd (omega arith); from = inl refl }
+  pub least_more : (v best : ℕ) → Least ds marks v best → Least ds marks (v + 1) (min best (key ds marks v))
+  least_more v best so_far =
+      record {
+        low = λ w h. low w h (ℕ_discrete w v);
+        from = from (dec_lt (key ds marks v) best);
+      }
+    where
+      low : (w : ℕ) → w < v + 1 → Dec (w ≡ v) → min best (key ds marks v) ≤ key ds marks w
+      low w h (yes e) = rw e (omega arith)
+      low w h (no apart) = omega (arith, so_far.low w (omega arith))
 
-  module _ (v best : ℕ) (so_far : Least ds marks v best) where
-    low_more : (next : ℕ) → next ≤ best → next ≤ key ds marks v → (w : ℕ) → w < v + 1 → next ≤ key ds marks w
-    low_more next h k w l = step (ℕ_discrete w v)
-      where
-        step : Dec (w ≡ v) → next ≤ key ds marks w
-        step (yes e) = rw e k
-        step (no apart) = omega (arith, so_far.low w (omega arith))
-
-    pub least_lower : key ds marks v < best → Least ds marks (v + 1) (key ds marks v)
-    least_lower h = record { low = low_more _ (omega arith) (omega arith); from = inr (v, omega arith, refl) }
-
-    pub least_stays : best ≤ key ds marks v → Least ds marks (v + 1) best
-    least_stays h =
-        record {
-          low = low_more _ (omega arith) (omega arith);
-          from = ⊎_elim (λ e. inl e) (λ (w, l, e). inr (w, omega arith, e)) so_far.from;
-        }
+      from : Dec (key ds marks v < best) →
+          (min best (key ds marks v) ≡ 4294967295) ⊎ ((w : ℕ) × (w < v + 1) × (min best (key ds marks v) ≡ key ds marks w))
+      from (yes h) = inr (v, omega arith, omega arith)
+      from (no h) = ⊎_elim (λ e. inl (omega arith)) (λ (w, l, e). inr (w, omega arith, omega arith)) so_far.from
 
   module _ (n : ℕ) (searched : Searched ds marks n) where
     most : n ≤ 64
@@ -55,9 +51,6 @@ module _ (ds marks : List ℕ) where
 
     pub key_fits : (v : ℕ) → v < n → key ds marks v < 2147483648
     key_fits v h = ⊎_elim (λ e. omega (arith, near v h, most)) (λ e. omega (arith, near v h)) (searched.marked v h)
-
-    pub least_fits : {v best : ℕ} → v ≤ n → Least ds marks v best → best < 2147483648
-    least_fits h least = ⊎_elim (λ e. omega arith) (λ (w, l, e). omega (arith, key_fits w (omega arith))) least.from
 
     pub found : (best : ℕ) → Least ds marks n best → Nearest ds marks n (best % 64)
     found best least =

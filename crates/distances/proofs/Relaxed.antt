@@ -1,62 +1,60 @@
--- Going along one slot more: the router that it leads to is as far as before or as by way of u, whichever is nearer.
+-- Going against one arc more: the router that it leads to is as far as before or as by way of the arc's router, whichever is nearer.
 -- Assumes nothing.
-use Prim.Native.Nat.{ℕ, ◌+◌, ◌*◌, ◌≤◌, ◌<◌}
-use mathlib.Core.List.{List}
+use Prim.Native.Nat.{ℕ, ◌+◌, ◌≤◌, ◌<◌}
+use mathlib.Core.List.Memᴰ
+use mathlib.Core.List.{List, [], ◌∷◌, ◌++◌, Memᴰ}
 use mathlib.Core.Logic.{◌⊎◌, inl, inr, ⊎_elim}
 use mathlib.Core.Path.{◌≡◌, refl, ◌∙◌}
-use native.Mathlib.Decide.{ℕ_discrete}
+use native.Mathlib.Decide.{dec_lt}
 use native.Mathlib.Nat.{le_refl}
 use native.Mathlib.Omega.{arith}
 use lib.ListN.{length, get_or, set, length-set}
 use lib.Seq.{get_or-set_same}
-use Rattle.distances.specs.Inner.{slot_to, Relaxed}
+use Rattle.std.specs.Prelude.{min}
+use Rattle.network.specs.Network.{Arc}
+use Rattle.distances.specs.Inner.{Relaxed}
 use Rattle.distances.proofs.Stored.{stored}
 
-pub relaxed_none : (to back : List ℕ) (u : ℕ) (ds : List ℕ) → length ds ≡ 64 → Relaxed to back u 0 ds ds
-relaxed_none to back u ds long =
-    record { long = long; nearer = λ v. le_refl _; reached = λ j h. absurd (omega arith); by_way = λ v. inl refl }
+module _ (arcs : List Arc) (here : ℕ) (old new : List ℕ) (so_far : Relaxed arcs here old new) (b : Arc) (place : b.to < 64) where
+  least : ℕ
+  least = min (get_or new b.to 0) (b.cost + here)
 
--- the nearer of the two
-abbrev pub Nearer : ℕ → ℕ → ℕ → Type 0
-Nearer through before x = ((through < before) × (x ≡ through)) ⊎ ((before ≤ through) × (x ≡ before))
-
-at_most : (through before x : ℕ) → Nearer through before x → (x ≤ through) × (x ≤ before)
-at_most through before x = ⊎_elim (λ w. omega arith) (λ w. omega arith)
-
-module _ (to back : List ℕ) (u j : ℕ) (old new : List ℕ) (so_far : Relaxed to back u j old new) (place : slot_to to u j < 64) (x : ℕ)
-    (nearer : Nearer (get_or back (u * 16 + j) 0 + get_or old u 0) (get_or new (slot_to to u j) 0) x) where
-  next : List ℕ
-  next = set new (slot_to to u j) x
-
-  inside : slot_to to u j < length new
+  inside : b.to < length new
   inside = let long = so_far.long in omega arith
 
-  lower : (v : ℕ) → get_or next v 0 ≤ get_or new v 0
-  unfolding next
-  lower = stored (λ v y. y ≤ get_or new v 0) new (slot_to to u j) x 0 inside (at_most _ _ x nearer).1 (λ v _. le_refl _)
+  lower : (v : ℕ) → get_or (set new b.to least) v 0 ≤ get_or new v 0
+  unfolding least
+  lower = stored (λ v y. y ≤ get_or new v 0) new b.to (min (get_or new b.to 0) (b.cost + here)) 0 inside (omega arith) (λ v _. le_refl _)
 
-  -- as far as before, or as by way of u
-  abbrev From : ℕ → ℕ → ℕ → Type 0
-  From count v y = (y ≡ get_or old v 0) ⊎ ((i : ℕ) × (i < count) × (slot_to to u i ≡ v) × (y ≡ get_or back (u * 16 + i) 0 + get_or old u 0))
+  -- as far as before, or as by way of the router
+  abbrev From : List Arc → ℕ → ℕ → Type 0
+  From bs v y = (y ≡ get_or old v 0) ⊎ ((x : Arc) × Memᴰ x bs × (x.to ≡ v) × (y ≡ x.cost + here))
 
-  more : (v y : ℕ) → From j v y → From (j + 1) v y
-  more v y = ⊎_elim (λ e. inl e) (λ (i, h, at, e). inr (i, omega arith, at, e))
+  more : (v y : ℕ) → From arcs v y → From (arcs ++ (b ∷ [])) v y
+  more v y = ⊎_elim (λ e. inl e) (λ (x, m, at, e). inr (x, Memᴰ.append_left (b ∷ []) m, at, e))
 
-  here : From (j + 1) (slot_to to u j) x
-  here =
-      ⊎_elim (λ w. inr (j, omega arith, refl, w.1)) (λ w. rw w.1 (more (slot_to to u j) _ (so_far.by_way (slot_to to u j)))) nearer
+  last : Memᴰ b (arcs ++ (b ∷ []))
+  last = Memᴰ.append_right arcs (Memᴰ.head refl)
 
-  pub relaxed_more : Relaxed to back u (j + 1) old (set new (slot_to to u j) x)
-  unfolding next
+  from_least : From (arcs ++ (b ∷ [])) b.to least
+  unfolding least
+  from_least = step (dec_lt (b.cost + here) (get_or new b.to 0))
+    where
+      step : Dec (b.cost + here < get_or new b.to 0) → From (arcs ++ (b ∷ [])) b.to (min (get_or new b.to 0) (b.cost + here))
+      step (yes h) = inr (b, last, refl, omega arith)
+      step (no h) =
+          let same : min (get_or new b.to 0) (b.cost + here) ≡ get_or new b.to 0 = omega arith in
+          rw same (more b.to _ (so_far.by_way b.to))
+
+  pub relaxed_more : Relaxed (arcs ++ (b ∷ [])) here old (set new b.to (min (get_or new b.to 0) (b.cost + here)))
+  unfolding least
   relaxed_more =
       record {
-        long = length-set new (slot_to to u j) x ∙ so_far.long;
+        long = length-set new b.to _ ∙ so_far.long;
         nearer = λ v. omega (arith, lower v, so_far.nearer v);
-        reached = λ i h. reached i h (ℕ_discrete i j);
-        by_way = stored (From (j + 1)) new (slot_to to u j) x 0 inside here (λ v _. more v _ (so_far.by_way v));
+        reached = λ x m. ⊎_elim (λ l. omega (arith, lower x.to, so_far.reached x l)) (λ l. at_last x l) (Memᴰ.append_cases arcs m);
+        by_way = stored (From (arcs ++ (b ∷ []))) new b.to _ 0 inside from_least (λ v _. more v _ (so_far.by_way v));
       }
     where
-      reached : (i : ℕ) → i < j + 1 → Dec (i ≡ j) →
-          get_or (set new (slot_to to u j) x) (slot_to to u i) 0 ≤ get_or back (u * 16 + i) 0 + get_or old u 0
-      reached i h (yes e) = rw (e, get_or-set_same new (slot_to to u j) x 0 inside) (at_most _ _ x nearer).0
-      reached i h (no apart) = omega (arith, lower (slot_to to u i), so_far.reached i (omega arith))
+      at_last : (x : Arc) → Memᴰ x (b ∷ []) → get_or (set new b.to (min (get_or new b.to 0) (b.cost + here))) x.to 0 ≤ x.cost + here
+      at_last x m = rw (Memᴰ.eq_of_singleton m, get_or-set_same new b.to (min (get_or new b.to 0) (b.cost + here)) 0 inside) (omega arith)

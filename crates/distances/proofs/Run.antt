@@ -2,7 +2,7 @@
 -- are at most as far as by way of it. So it is at first, where none is settled.
 -- Assumes nothing.
 use Prim.Native.Nat.{ℕ, ◌+◌, ◌*◌, ◌≤◌, ◌<◌}
-use mathlib.Core.List.{List}
+use mathlib.Core.List.{List, Memᴰ}
 use mathlib.Core.Logic.{◌≢◌, ◌⊎◌, inl}
 use mathlib.Core.Path.{◌≡◌, refl, ◌∙◌, ap}
 use native.Mathlib.Decide.{ℕ_discrete}
@@ -10,16 +10,15 @@ use native.Mathlib.Omega.{arith}
 use lib.ListN.{length, get_or, set, replicate, length-set, length-replicate, get_or-replicate}
 use lib.Seq.{get_or-set_same, get_or-set_other}
 use Rattle.network.specs.Lists.{below}
-use Rattle.network.specs.Network.{Network}
+use Rattle.network.specs.Network.{Arc, Network, arcs_of}
 use Rattle.network.specs.Distance.{arrived, path_cost, distance}
 use Rattle.network.proofs.Below.{length_below}
-use Rattle.arcs.specs.declared.Arcs.{Arcs}
-use Rattle.distances.specs.Inner.{slot_to, Open, Closed}
+use Rattle.distances.specs.Inner.{Open, Closed}
 use Rattle.distances.proofs.Unsettled.{below_at, unsettled, all_open}
 use Rattle.distances.proofs.Ways.{Given, exact, at_most_absent, absent_is}
 
 -- k of the n routers are settled
-pub record Run (m : Network) (a : Arcs) (d n k : ℕ) (ds marks : List ℕ) : Type 0 where
+pub record Run (m other : Network) (d n k : ℕ) (ds marks : List ℕ) : Type 0 where
   pub long : length ds ≡ 64
   pub marks_long : length marks ≡ 64
   pub most : (v : ℕ) → v < 64 → get_or ds v 0 ≤ n * 65536
@@ -27,8 +26,7 @@ pub record Run (m : Network) (a : Arcs) (d n k : ℕ) (ds marks : List ℕ) : Ty
   pub never : (v : ℕ) → v < n → distance m d v ≤ get_or ds v 0
   pub marked : (v : ℕ) → v < n → Open marks v ⊎ Closed marks v
   pub sooner : (v w : ℕ) → v < n → w < n → Closed marks v → Open marks w → get_or ds v 0 ≤ get_or ds w 0
-  pub relaxed : (v : ℕ) → v < n → Closed marks v → (j : ℕ) → j < get_or a.count v 0 →
-      get_or ds (slot_to a.to v j) 0 ≤ get_or a.cost (v * 16 + j) 0 + get_or ds v 0
+  pub relaxed : (v : ℕ) → v < n → Closed marks v → (b : Arc) → Memᴰ b (arcs_of other v) → get_or ds b.to 0 ≤ b.cost + get_or ds v 0
   pub left : unsettled marks n + k ≡ n
 
 -- x everywhere but at d
@@ -43,10 +41,10 @@ module _ (count x d : ℕ) where
   filled_there v h apart = get_or-set_other (replicate count x) d v 0 0 apart ∙ get_or-replicate count v x 0 h
 
 -- before any router is settled
-module _ (m : Network) (a : Arcs) (n d : ℕ) (given : Given m a n d) (ds marks : List ℕ)
+module _ (m other : Network) (n d : ℕ) (given : Given m other n d) (ds marks : List ℕ)
     (at_first : ds ≡ set (replicate 64 (n * 65536)) d 0) (by_place : marks ≡ below 64) where
   home : get_or ds d 0 ≡ 0
-  home = ap (λ (l : List ℕ). get_or l d 0) at_first ∙ filled_here 64 (n * 65536) d (omega (arith, given.place, given.held.most))
+  home = ap (λ (l : List ℕ). get_or l d 0) at_first ∙ filled_here 64 (n * 65536) d (omega (arith, given.place, given.within.most))
 
   others : (v : ℕ) → v < 64 → v ≢ d → get_or ds v 0 ≡ n * 65536
   others v h apart = ap (λ (l : List ℕ). get_or l v 0) at_first ∙ filled_there 64 (n * 65536) d v h apart
@@ -54,10 +52,10 @@ module _ (m : Network) (a : Arcs) (n d : ℕ) (given : Given m a n d) (ds marks 
   free : (v : ℕ) → v < 64 → Open marks v
   free v h = ap (λ (l : List ℕ). get_or l v 0) by_place ∙ below_at 64 v h
 
-  pub begun : Run m a d n 0 ds marks
+  pub begun : Run m other d n 0 ds marks
   unfolding path_cost
   begun =
-      let most = given.held.most in
+      let most = given.within.most in
       record {
         long = ap length at_first ∙ filled_long 64 (n * 65536) d;
         marks_long = ap length by_place ∙ length_below 64;
@@ -75,5 +73,5 @@ module _ (m : Network) (a : Arcs) (n d : ℕ) (given : Given m a n d) (ds marks 
       step_most v h (no apart) = omega (arith, others v h apart)
 
       step_never : (v : ℕ) → v < n → Dec (v ≡ d) → distance m d v ≤ get_or ds v 0
-      step_never v h (yes e) = rw e (omega (arith, (exact m a n d given d).least (arrived refl)))
-      step_never v h (no apart) = omega (arith, others v (omega (arith, given.held.most)) apart, at_most_absent m a n d given v, absent_is m a n d given)
+      step_never v h (yes e) = rw e (omega (arith, (exact m other n d given d).least (arrived refl)))
+      step_never v h (no apart) = omega (arith, others v (omega (arith, given.within.most)) apart, at_most_absent m other n d given v, absent_is m other n d given)

@@ -1,8 +1,8 @@
 -- Settling the nearest router that is not settled: the settled ones stay as they are, since none is farther, and what is said of the routers settled so
 -- far is said of one more.
 -- Assumes nothing.
-use Prim.Native.Nat.{ℕ, ◌+◌, ◌*◌, ◌≤◌, ◌<◌}
-use mathlib.Core.List.{List}
+use Prim.Native.Nat.{ℕ, ◌+◌, ◌≤◌, ◌<◌}
+use mathlib.Core.List.{List, Memᴰ}
 use mathlib.Core.Logic.{◌≢◌, ◌⊎◌, inl, inr, ⊎_elim}
 use mathlib.Core.Path.{◌≡◌, refl, ◌∙◌}
 use native.Mathlib.Decide.{ℕ_discrete}
@@ -10,17 +10,16 @@ use native.Mathlib.Nat.{le_refl}
 use native.Mathlib.Omega.{arith}
 use lib.ListN.{length, get_or, set, length-set}
 use lib.Seq.{get_or-set_same, get_or-set_other}
-use Rattle.network.specs.Network.{Network}
-use Rattle.arcs.specs.declared.Arcs.{Arcs}
-use Rattle.distances.specs.Inner.{slot_to, Open, Closed, Searched, Nearest, Relaxed}
+use Rattle.network.specs.Network.{Arc, Network, arcs_of}
+use Rattle.distances.specs.Inner.{Open, Closed, Searched, Nearest, Relaxed}
 use Rattle.distances.proofs.Stored.{stored}
 use Rattle.distances.proofs.Unsettled.{one_open, one_less}
-use Rattle.distances.proofs.Ways.{Given, along_slot}
+use Rattle.distances.proofs.Ways.{Given, against}
 use Rattle.distances.proofs.Run.{Run}
 
-module _ (m : Network) (a : Arcs) (n d : ℕ) (given : Given m a n d) (k : ℕ) (ds marks : List ℕ) (run : Run m a d n k ds marks) where
+module _ (m other : Network) (n d : ℕ) (given : Given m other n d) (k : ℕ) (ds marks : List ℕ) (run : Run m other d n k ds marks) where
   most : n ≤ 64
-  most = given.held.most
+  most = given.within.most
 
   pub near : (v : ℕ) → v < 64 → get_or ds v 0 ≤ 4194304
   near v h = omega (arith, run.most v h, most)
@@ -34,7 +33,7 @@ module _ (m : Network) (a : Arcs) (n d : ℕ) (given : Given m a n d) (k : ℕ) 
         some_open = one_open marks n (omega (arith, run.left));
       }
 
-  module _ (u : ℕ) (nearest : Nearest ds marks n u) (new : List ℕ) (after : Relaxed a.to a.cost u (get_or a.count u 0) ds new) where
+  module _ (u : ℕ) (nearest : Nearest ds marks n u) (new : List ℕ) (after : Relaxed (arcs_of other u) (get_or ds u 0) ds new) where
     next : List ℕ
     next = set marks u 536870912
 
@@ -65,9 +64,9 @@ module _ (m : Network) (a : Arcs) (n d : ℕ) (given : Given m a n d) (k : ℕ) 
     -- and so stays as far as it is
     stays : (v : ℕ) → v < n → Closed next v → get_or new v 0 ≡ get_or ds v 0
     stays v h e =
-        ⊎_elim (λ same. same) (λ (j, l, at, way). omega (arith, before v h e, after.nearer v)) (after.by_way v)
+        ⊎_elim (λ same. same) (λ (b, l, at, way). omega (arith, before v h e, after.nearer v)) (after.by_way v)
 
-    pub turned : Run m a d n (k + 1) new (set marks u 536870912)
+    pub turned : Run m other d n (k + 1) new (set marks u 536870912)
     unfolding next
     turned =
         record {
@@ -77,23 +76,22 @@ module _ (m : Network) (a : Arcs) (n d : ℕ) (given : Given m a n d) (k : ℕ) 
           home = omega (arith, after.nearer d, run.home);
           never = λ v h.
               let far = run.never u nearest.place in
-              ⊎_elim (λ e. rw e (run.never v h)) (λ (j, l, at, way). omega (arith, rw at at (along_slot m a n d given u j nearest.place l)))
+              ⊎_elim (λ e. rw e (run.never v h)) (λ (b, l, at, way). omega (arith, rw at at (against m other n d given u nearest.place b l)))
               (after.by_way v);
           marked = stored (λ v mark. v < n → (mark ≡ v) ⊎ (mark ≡ 536870912)) marks u 536870912 0 inside (λ _. inr refl) (λ v _. run.marked v);
           sooner = λ v w h l c o.
               let far = nearest.least w l (was_open w o) in
               let near-u = before v h c in
-              rw (stays v h c) (⊎_elim (λ e. omega arith) (λ (j, i, at, way). omega arith) (after.by_way w));
-          relaxed = λ v h c j l.
+              rw (stays v h c) (⊎_elim (λ e. omega arith) (λ (b, i, at, way). omega arith) (after.by_way w));
+          relaxed = λ v h c b l.
               rw (stays v h c)
-              (⊎_elim (λ same. reach v same j l)
-              (λ earlier. omega (arith, after.nearer (slot_to a.to v j), run.relaxed v h earlier j l)) (was_closed v c));
-          left = omega (arith, run.left, one_less marks u 536870912 inside nearest.is_open other n nearest.place);
+              (⊎_elim (λ same. reach v same b l)
+              (λ earlier. omega (arith, after.nearer b.to, run.relaxed v h earlier b l)) (was_closed v c));
+          left = omega (arith, run.left, one_less marks u 536870912 inside nearest.is_open past n nearest.place);
         }
       where
-        other : 536870912 ≢ u
-        other e = omega (arith, nearest.place, most)
+        past : 536870912 ≢ u
+        past e = omega (arith, nearest.place, most)
 
-        reach : (v : ℕ) → v ≡ u → (j : ℕ) → j < get_or a.count v 0 →
-            get_or new (slot_to a.to v j) 0 ≤ get_or a.cost (v * 16 + j) 0 + get_or ds v 0
+        reach : (v : ℕ) → v ≡ u → (b : Arc) → Memᴰ b (arcs_of other v) → get_or new b.to 0 ≤ b.cost + get_or ds v 0
         reach v same = rw same after.reached

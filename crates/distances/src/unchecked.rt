@@ -1,47 +1,50 @@
 // For callers that have tested the topology and the destination, and laid out the arcs.
-ghost use Rattle.std.specs.Prelude.{◌≡◌, ◌<◌, ◌≤◌};
+ghost use Rattle.std.specs.Prelude.{◌≡◌, ◌<◌, ◌≤◌, T, ltb, length};
+ghost use Rattle.network.specs.Lists.{keep};
 ghost use Rattle.topology_types.specs.Limits.{most_routers};
-ghost use Rattle.topology_types.specs.declared.Topology.{Topology};
 ghost use Rattle.topology_types.specs.Topology.{network_of};
-ghost use Rattle.distances.specs.Inner.{LaidIn, Settled};
+ghost use Rattle.topology_sound.specs.Sound.{sound};
+ghost use Rattle.arcs.specs.Back.{network_back};
+ghost use Rattle.arcs.specs.Inner.{ArcsHeld, returning};
+ghost use Rattle.distances.specs.Inner.{Settled};
 
 use super::settling;
-use arcs::SLOTS;
-use topology_types::{Place, ROUTERS};
+use arcs::Arcs;
+use topology_types::{Place, ROUTERS, Topology};
 
 // One more than the greatest cost: n times this is more than any path costs that visits no router of n twice, and stands for an absent distance.
+// It is a number and no Option, as in the definitions: then the least of sums needs no test for it.
 pub const STEP: u32 = 65536;
 
 // The distances to the destination, by place; absent where there is no path (02, #107). Routers are settled from the destination on, against the direction of
 // travel, so what is read is what the way back over each arc costs.
-pub fn to<'a>(
-    counts: &'a [u8; ROUTERS],
-    to: &'a [u8; SLOTS],
-    back: &'a [u16; SLOTS],
-    n: usize,
-    destination: Place,
-) -> [u32; ROUTERS]
-    requires { ((t : Topology) × LaidIn t counts.now to.now back.now n) × (destination.0 < n) }
-    ensures { (t : Topology) → LaidIn t counts.now to.now back.now n → Settled (network_of t) destination.0 result }
+pub fn to(t: &Topology, a: &Arcs, destination: Place) -> [u32; ROUTERS]
+    requires { T (sound t.now) × ArcsHeld returning (network_back t.now) a.now × (destination.0 < t.now.routers) }
+    ensures { Settled (network_of t.now) destination.0 result }
 {
-    let d = destination.index();
-    let mut ds = settling::first(n, d);
+    let n = t.routers;
+    let mut ds = settling::first(n, destination.index());
     let mut marks = settling::places();
-    let mut k: usize = 0;
-    while k < n {
+    for _ in 0..n {
         let u = settling::nearest(&ds, &marks, n);
-        let count = counts[u] as usize;
         marks[u] = settling::SETTLED;
-        settling::relax(&mut ds, to, back, u, count);
-        k += 1;
+        let here = ds[u];
+        settling::relax(&mut ds, a.at(u), here);
     }
     ds
 }
 
-// The number of routers itself. It tells the compiler that there are no more than ROUTERS, so that it unrolls a loop over them.
-pub fn bounded(n: usize) -> usize
-    requires { n ≤ most_routers }
-    ensures { result ≡ n }
+// How many of these numbers are lower than this one. An index loop, cut at ROUTERS, which the numbers never exceed: so the compiler unrolls it, and takes many
+// numbers at a time. With `filter` and `count` a whole order took half as long again, with the slice gone through as it is 3 in 100 more instructions.
+pub fn lower_than(numbers: &[u32], limit: u32) -> u32
+    requires { length numbers.now ≤ most_routers }
+    ensures { result ≡ length (keep (λ x. ltb x limit) numbers.now) }
 {
-    if n < ROUTERS { n } else { ROUTERS }
+    let mut lower = 0;
+    for v in 0..numbers.len().min(ROUTERS) {
+        if numbers[v] < limit {
+            lower += 1;
+        }
+    }
+    lower
 }

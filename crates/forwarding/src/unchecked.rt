@@ -8,10 +8,10 @@ use forwarding_steps::unchecked::counting;
 use topology_types::Topology;
 
 // The greatest hop counts of all places, into the first bytes of the slice.
-pub fn greatest_hops(t: Topology, table: &[u8], out: &mut [u8])
-    requires { T (sound t) × (table_checking t table.now ≡ record { number = 0; at = 0 }) × (t.routers ≤ length out.old) }
-    ensures { out.new ≡ figures t table.now ++ drop t.routers out.old }
+pub fn greatest_hops(t: &Topology, table: &[u8], out: &mut [u8])
+    requires { T (sound t.now) × (table_checking t.now table.now ≡ record { number = 0; at = 0 }) × (t.now.routers ≤ length out.old) }
+    ensures { out.new ≡ figures t.now table.now ++ drop t.now.routers out.old }
 {
     let bounds = counting::bounds_of(t, table);
-    counting::put_bounds(bounds, t.routers, out);
+    bounds.put(t.routers, out);
 }

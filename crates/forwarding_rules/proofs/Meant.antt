@@ -13,19 +13,19 @@ use Rattle.network.specs.Forwarding.{start, hop, walk}
 use Rattle.topology_types.specs.Outcome.{turned_away}
 use Rattle.table.specs.Calls.{unless_refused}
 use Rattle.forwarding_rules.specs.Schedule.{row_in, rows_in}
-use Rattle.forwarding_rules.specs.Calls.{said, packet_in, setting_says, hop_says, walk_says, by, counting_hops}
+use Rattle.forwarding_rules.specs.Calls.{said, packet_in, hop_in, walk_in, says, by, counting_hops}
 use Rattle.forwarding_rules.specs.Theorems.{AnswersMean, RowsRight, EmptyWithoutLinks, RowsInTurn, CountRefuses, HopsDone, WalksDone}
 use Rattle.forwarding_rules.proofs.Schedules.{count, counted, counts, least_count}
 use Rattle.forwarding_rules.proofs.Answers as answers
 
 pub answers_mean : AnswersMean
-unfolding said packet_in setting_says hop_says walk_says
+unfolding said packet_in hop_in walk_in says
 answers_mean =
     record {
       packets = λ p. record { packet = refl; setting_set = refl; hop_moved = refl; walk_delivered = refl; walk_dropped = refl };
       hop_delivered = refl;
       hop_dropped = refl;
-      refusals = λ a. record { setting_refused = refl; hop_refused = refl; walk_refused = refl };
+      refusals = λ r. record { setting_refused = refl; hop_refused = refl; walk_refused = refl };
       said_done = λ x. refl;
       said_refused = λ A number at. refl;
     }

@@ -1,23 +1,21 @@
 -- What the greatest hop counts, a setting, a hop and a walk answer, whole (01, Packet, hop and schedule; Refusals, 14, 15 and 21 to 24).
 -- Assumes nothing.
-use Rattle.std.specs.Prelude.{ℕ, Bool, cond, List, [], ◌∷◌, map, eqb, ltb, length}
+use Rattle.std.specs.Prelude.{ℕ, Bool, cond, List, [], ◌∷◌, map, eqb, ltb, length, Result, Ok, Err}
 use Rattle.network.specs.Lists.{below}
 use Rattle.network.specs.Forwarding as network
 use Rattle.network.specs.Forwarding.{Forwarding, start, hop, walk, longest}
-use Rattle.topology_types.specs.declared.Answer.{Answer}
+use Rattle.topology_types.specs.declared.Refusal.{Refusal}
 use Rattle.topology_types.specs.declared.Topology.{Topology}
-use Rattle.topology_types.specs.Outcome.{answer, Outcome, given}
+use Rattle.topology_types.specs.Outcome.{Answer, answer, number_of, Outcome, given}
 use Rattle.topology_types.specs.Topology.{network_of}
 use Rattle.topology_sound.specs.Place.{on_place}
 use Rattle.table.specs.Listed.{rank_in_lem, listed, forwarding_by}
 use Rattle.table.specs.Calls.{unless_refused, table_checking}
 use Rattle.forwarding_rules.specs.declared.Packet.{Packet}
-use Rattle.forwarding_rules.specs.declared.Setting.{Setting}
-use Rattle.forwarding_rules.specs.declared.Setting.TheVariants as setting
-use Rattle.forwarding_rules.specs.declared.Hopped.{Hopped}
-use Rattle.forwarding_rules.specs.declared.Hopped.TheVariants as hopped
-use Rattle.forwarding_rules.specs.declared.Walked.{Walked}
-use Rattle.forwarding_rules.specs.declared.Walked.TheVariants as walked
+use Rattle.forwarding_rules.specs.declared.Hop.{Hop}
+use Rattle.forwarding_rules.specs.declared.Hop.TheVariants as hopped
+use Rattle.forwarding_rules.specs.declared.Walk.{Walk}
+use Rattle.forwarding_rules.specs.declared.Walk.TheVariants as walked
 use Rattle.forwarding_rules.specs.Schedule.{rows_in, sound_length, wrong_states}
 
 -- 01, Refusals: a call answers number 0 and a value, or a refusal with its number and its at
@@ -34,23 +32,32 @@ said (refused number at) = answer number at
 unfoldable pub packet_in : Packet → network.Packet ℕ
 packet_in p = record { station = p.station.0; hops = p.hops }
 
--- 01's number and values for each case of a setting's answer
-unfoldable pub setting_says : Setting → Said (network.Packet ℕ)
-setting_says (setting.Set p) = done (packet_in p)
-setting_says (setting.Refused a) = refused a.number a.at
+-- a hop, and a walk, of the code with its places as numbers
+unfoldable pub hop_in : Hop → network.Hop ℕ
+hop_in hopped.Delivered = network.delivered
+hop_in (hopped.Moved p) = network.moved (packet_in p)
+hop_in hopped.Dropped = network.dropped
 
--- of a hop's
-unfoldable pub hop_says : Hopped → Said (network.Hop ℕ)
-hop_says hopped.Delivered = done network.delivered
-hop_says (hopped.Moved p) = done (network.moved (packet_in p))
-hop_says hopped.Dropped = done network.dropped
-hop_says (hopped.Refused a) = refused a.number a.at
+unfoldable pub walk_in : Walk → network.Walk ℕ
+walk_in (walked.Delivered p) = network.delivered_at (packet_in p)
+walk_in (walked.Dropped p) = network.dropped_at (packet_in p)
 
--- of a walk's
-unfoldable pub walk_says : Walked → Said (network.Walk ℕ)
-walk_says (walked.Delivered p) = done (network.delivered_at (packet_in p))
-walk_says (walked.Dropped p) = done (network.dropped_at (packet_in p))
-walk_says (walked.Refused a) = refused a.number a.at
+-- 01's number and values for each case of what a call returns
+unfoldable pub says : {A B : Type 0} → (A → B) → Result A Refusal → Said B
+says seen (Ok x) = done (seen x)
+says seen (Err r) = refused (number_of r.fault) r.at
+
+-- of a setting
+abbrev pub setting_says : Result Packet Refusal → Said (network.Packet ℕ)
+setting_says = says packet_in
+
+-- of a hop
+abbrev pub hop_says : Result Hop Refusal → Said (network.Hop ℕ)
+hop_says = says hop_in
+
+-- of a walk
+abbrev pub walk_says : Result Walk Refusal → Said (network.Walk ℕ)
+walk_says = says walk_in
 
 -- 01, Packet, hop and schedule: routers that forward by what the table lists
 abbrev pub by : Topology → List ℕ → Forwarding

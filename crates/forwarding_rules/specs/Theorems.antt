@@ -1,7 +1,7 @@
 -- What is proved of what the calls answer: demand 1 for these calls, over all values; demand 3, whose claims are said of any system (Demand3), and demand 2's
 -- last clause, for every sound topology and every table that checking answers 0 for.
 -- Assumes nothing.
-use Rattle.std.specs.Prelude.{ℕ, pred, ◌+◌, ◌*◌, ◌≤◌, ◌<◌, ◌↔◌, ◌≢◌, ◌⊎◌, ◌≡◌, T, length, get_or, take, drop}
+use Rattle.std.specs.Prelude.{ℕ, pred, ◌+◌, ◌*◌, ◌≤◌, ◌<◌, ◌↔◌, ◌≢◌, ◌⊎◌, ◌≡◌, T, length, get_or, take, drop, Ok, Err}
 use mathlib.Core.List.{List, [], map, Memᴰ}
 use Rattle.network.specs.Lists.{below}
 use Rattle.network.specs.Network.{Arc, arcs_of}
@@ -10,17 +10,16 @@ use Rattle.network.specs.Order.{shortest-path}
 use Rattle.network.specs.Forwarding as network
 use Rattle.network.specs.Forwarding.{Packet, Walk, delivered_at, dropped_at}
 use Rattle.network.specs.Theorems.Order.{Accepted}
-use Rattle.topology_types.specs.declared.Answer.{Answer}
+use Rattle.topology_types.specs.declared.Refusal.{Refusal}
 use Rattle.topology_types.specs.declared.Topology.{Topology}
-use Rattle.topology_types.specs.Outcome.{answer}
+use Rattle.topology_types.specs.Outcome.{answer, number_of}
 use Rattle.topology_types.specs.Topology.{network_of}
 use Rattle.topology_sound.specs.Sound.{sound}
 use Rattle.table.specs.Listed.{destination_in_lem, rank_in_lem, places_in, order_in}
 use Rattle.table.specs.Calls.{table_checking}
 use Rattle.forwarding_rules.specs.declared.Packet as code
-use Rattle.forwarding_rules.specs.declared.Setting.TheVariants as setting
-use Rattle.forwarding_rules.specs.declared.Hopped.TheVariants as hopped
-use Rattle.forwarding_rules.specs.declared.Walked.TheVariants as walked
+use Rattle.forwarding_rules.specs.declared.Hop.TheVariants as hopped
+use Rattle.forwarding_rules.specs.declared.Walk.TheVariants as walked
 use Rattle.forwarding_rules.specs.Schedule.{row_in, rows_in, sound_length}
 use Rattle.forwarding_rules.specs.Calls.{Said, done, refused, said, packet_in, setting_says, hop_says, walk_says, by, figures, counting_hops, setting_at, hopping, walking}
 use Rattle.forwarding_rules.specs.Lent.{Left, setting_packet, hopping_packet}
@@ -31,23 +30,23 @@ pub mod Demand3
 -- 01, Packet, hop and schedule; Refusals: a packet of the code, and the answers that hold it, with its place as a number
 pub record PacketMeant (p : code.Packet) : Type 0 where
   pub packet : packet_in p ≡ record { station = p.station.0; hops = p.hops }
-  pub setting_set : setting_says (setting.Set p) ≡ done (record { station = p.station.0; hops = p.hops })
-  pub hop_moved : hop_says (hopped.Moved p) ≡ done (network.moved (record { station = p.station.0; hops = p.hops }))
-  pub walk_delivered : walk_says (walked.Delivered p) ≡ done (delivered_at (record { station = p.station.0; hops = p.hops }))
-  pub walk_dropped : walk_says (walked.Dropped p) ≡ done (dropped_at (record { station = p.station.0; hops = p.hops }))
+  pub setting_set : setting_says (Ok p) ≡ done (record { station = p.station.0; hops = p.hops })
+  pub hop_moved : hop_says (Ok (hopped.Moved p)) ≡ done (network.moved (record { station = p.station.0; hops = p.hops }))
+  pub walk_delivered : walk_says (Ok (walked.Delivered p)) ≡ done (delivered_at (record { station = p.station.0; hops = p.hops }))
+  pub walk_dropped : walk_says (Ok (walked.Dropped p)) ≡ done (dropped_at (record { station = p.station.0; hops = p.hops }))
 
 -- 01, Refusals: the code's refusals keep number and at
-pub record RefusalMeant (a : Answer) : Type 0 where
-  pub setting_refused : setting_says (setting.Refused a) ≡ refused a.number a.at
-  pub hop_refused : hop_says (hopped.Refused a) ≡ refused a.number a.at
-  pub walk_refused : walk_says (walked.Refused a) ≡ refused a.number a.at
+pub record RefusalMeant (r : Refusal) : Type 0 where
+  pub setting_refused : setting_says (Err r) ≡ refused (number_of r.fault) r.at
+  pub hop_refused : hop_says (Err r) ≡ refused (number_of r.fault) r.at
+  pub walk_refused : walk_says (Err r) ≡ refused (number_of r.fault) r.at
 
 -- What each case of the code's answers says, and which number and at that is: 0 and 0 for what is done.
 pub record AnswersMean : Type 1 where
   pub packets : (p : code.Packet) → PacketMeant p
-  pub hop_delivered : hop_says hopped.Delivered ≡ done network.delivered
-  pub hop_dropped : hop_says hopped.Dropped ≡ done network.dropped
-  pub refusals : (a : Answer) → RefusalMeant a
+  pub hop_delivered : hop_says (Ok hopped.Delivered) ≡ done network.delivered
+  pub hop_dropped : hop_says (Ok hopped.Dropped) ≡ done network.dropped
+  pub refusals : (r : Refusal) → RefusalMeant r
   pub said_done : {A : Type 0} (x : A) → said (done x) ≡ answer 0 0
   pub said_refused : (A : Type 0) (number at : ℕ) → said {A = A} (refused number at) ≡ answer number at
 

@@ -1,49 +1,32 @@
--- What the inner calls ask of the bytes and slots that they go through, and what they make of them; of the open contracts only those of `unchecked` name
+-- What the inner calls ask of the bytes that they go through, and what they make of them; of the open contracts only those of `unchecked` name
 -- it, for what was tested before and for the greatest hop counts as ranks.
--- Router u has the slots from u * most_neighbours on.
 -- Assumes nothing.
-use Rattle.std.specs.Prelude.{ℕ, ◌+◌, ◌*◌, ◌≤◌, ◌<◌, Bool, true, ◌&&◌, ◌≢◌, ◌≡◌, T, eqb, length, get_or}
-use mathlib.Core.List.{List, [], ◌∷◌, Memᴰ}
-use Rattle.std.proofs.Math.Option.{Option, none, some}
-use Rattle.network.specs.Lists.{below, keep, any}
-use Rattle.network.specs.Routing.{up}
+use Rattle.std.specs.Prelude.{ℕ, ◌+◌, ◌≤◌, ◌<◌, Bool, true, ◌&&◌, ◌≢◌, ◌≡◌, T, eqb, length, get_or, Option, Some, None}
+use mathlib.Core.List.{List, [], Memᴰ, map}
+use Rattle.std.specs.List.{find}
+use Rattle.network.specs.Lists.{any}
+use Rattle.topology_types.specs.declared.Place.{Place}
 use Rattle.topology_types.specs.declared.Rank.{Rank}
 use Rattle.topology_types.specs.declared.Topology.{Topology}
-use Rattle.topology_types.specs.Limits.{most_routers, most_neighbours}
+use Rattle.topology_types.specs.Limits.{most_routers}
 use Rattle.topology_types.specs.Outcome.{answer}
 use Rattle.topology_sound.specs.Sound.{sound}
+use Rattle.arcs.specs.declared.Arc.{Arc}
 use Rattle.arcs.specs.declared.Arcs.{Arcs}
 use Rattle.arcs.specs.Inner.{Laid}
-use Rattle.distances.specs.Inner.{slot_to}
 use Rattle.table.specs.Listed.{rank_in_lem}
 use Rattle.table.specs.Calls.{table_checking}
 use Rattle.forwarding_rules.specs.Schedule.{sound_length, wrong_states}
 use Rattle.forwarding_rules.specs.Calls.{figure_byte}
-use Rattle.forwarding_steps.specs.declared.unchecked.moving.Next.{Next}
-use Rattle.forwarding_steps.specs.declared.unchecked.moving.Next.TheVariants as next
 use Rattle.forwarding_steps.specs.declared.unchecked.counting.Bounds.{Bounds}
 
--- the first slots of u are of links that have a state
-pub record LinkSlots (link : List ℕ) (states u count : ℕ) : Type 0 where
-  pub place : u < most_routers
-  pub few : count ≤ most_neighbours
-  pub numbered : (j : ℕ) → j < count → get_or link (u * most_neighbours + j) 0 < states
+-- a link that leads to v is up
+abbrev pub is_up : List Arc → List ℕ → ℕ → Bool
+is_up arcs states v = any (λ (arc : Arc). eqb arc.to.0 v && eqb (get_or states arc.link 0) 1) arcs
 
--- slot j of u leads to v over a link that is up
-unfoldable pub slot_up : List ℕ → List ℕ → List ℕ → ℕ → ℕ → ℕ → Bool
-slot_up to link states u v j = eqb (slot_to to u j) v && up states (get_or link (u * most_neighbours + j) 0)
-
--- the first of the places to which a slot of u leads over a link that is up
-unfoldable pub first_of : List ℕ → Option ℕ
-first_of [] = none
-first_of (v ∷ vs) = some v
-
-unfoldable pub first_up : List ℕ → List ℕ → List ℕ → ℕ → ℕ → List ℕ → Option ℕ
-first_up to link states u count places = first_of (keep (λ v. any (slot_up to link states u v) (below count)) places)
-
-unfoldable pub next_place : Next → Option ℕ
-next_place (next.To v) = some v.0
-next_place next.Nowhere = none
+-- the first of the places to which a link leads that is up
+abbrev pub first_up : List Arc → List ℕ → List ℕ → Option Place
+first_up arcs states places = find (λ p. is_up arcs states p.0) (map (λ (v : ℕ). record { 0 = v }) places)
 
 -- the bound of a place
 unfoldable pub bound_of : List Rank → ℕ → ℕ
@@ -55,15 +38,20 @@ pub record Bounded (row : List ℕ) (by : List Rank) : Type 0 where
   pub places : (v : ℕ) → Memᴰ v row → v < most_routers
   pub few : (v : ℕ) → Memᴰ v row → bound_of by v < most_routers
 
--- x is the lowest of the places from u on, n in all, that has the rank r, and 255 if none has
-pub record LowestFrom (n : ℕ) (table : List ℕ) (r u x : ℕ) : Type 0 where
-  pub stands : x ≢ 255 → (u ≤ x) × (x < n) × (rank_in_lem table x ≡ r)
-  pub none_before : (v : ℕ) → u ≤ v → v < n → v < x → rank_in_lem table v ≢ r
+-- how far the places go before one that there may be; past all of them where there is none
+unfoldable pub before : Option Place → ℕ
+before None = 255
+before (Some p) = p.0
+
+-- x is the lowest of the places from u on, n in all, that has the rank r, if any has
+pub record LowestFrom (n : ℕ) (table : List ℕ) (r u : ℕ) (x : Option Place) : Type 0 where
+  pub stands : (p : Place) → x ≡ Some p → (u ≤ p.0) × (p.0 < n) × (rank_in_lem table p.0 ≡ r)
+  pub none_before : (v : ℕ) → u ≤ v → v < n → v < before x → rank_in_lem table v ≢ r
 
 -- of the places from u on the lowest of each rank, and after each of them the next one of its rank
-pub record Chained (n : ℕ) (table : List ℕ) (u : ℕ) (first next : List ℕ) : Type 0 where
-  pub firsts : (r : ℕ) → r < n → LowestFrom n table r u (get_or first r 0)
-  pub nexts : (v : ℕ) → u ≤ v → v < n → rank_in_lem table v < n → LowestFrom n table (rank_in_lem table v) (v + 1) (get_or next v 0)
+pub record Chained (n : ℕ) (table : List ℕ) (u : ℕ) (first next : List (Option Place)) : Type 0 where
+  pub firsts : (r : ℕ) → r < n → LowestFrom n table r u (get_or first r None)
+  pub nexts : (v : ℕ) → u ≤ v → v < n → rank_in_lem table v < n → LowestFrom n table (rank_in_lem table v) (v + 1) (get_or next v None)
 
 -- the table was checked on a sound topology, whose arcs are laid out
 pub record Checked (t : Topology) (a : Arcs) (table : List ℕ) : Type 0 where

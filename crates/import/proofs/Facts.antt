@@ -1,6 +1,6 @@
 -- The prover computes every fact from the definitions.
 -- Assumes nothing.
-use Rattle.network.specs.Lists.{keep, every, any, least_by, member, same_numbers}
+use Rattle.network.specs.Lists.{least_by, member, same_numbers}
 use Rattle.topology_types.specs.Topology.{no_link, padded, contents, held, zeros}
 use Rattle.stream_rules.specs.Stream.{big_endian_on, big_endian, in_bytes}
 use Rattle.stream_rules.specs.Halves.{first_half, second_half, link_halves, halves, same_half, leaves, opposite, link_of}

@@ -1,3 +1,4 @@
 pub mod Output
 pub mod Theorems
 pub mod Facts
+pub mod Inner

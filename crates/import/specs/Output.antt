@@ -1,12 +1,11 @@
 -- What the import program writes for a file of router-LSAs (02, #106).
 -- Assumes nothing.
-use Rattle.std.specs.Prelude.{ℕ, ◌≤◌, cond, List, [], ◌∷◌, ◌≡◌, eqb, leb, length, take}
-use Rattle.stream_rules.specs.declared.Reading.{Reading}
+use Rattle.std.specs.Prelude.{ℕ, ◌≤◌, cond, Result, Ok, Err, List, [], ◌∷◌, ◌≡◌, eqb, leb, length, take}
+use Rattle.stream_rules.specs.Reading.{Reading}
 use Rattle.topology.specs.Written.{written}
 use Rattle.text.specs.Lines.{newline}
 use Rattle.program_io.specs.Output.{refused_line}
 use Rattle.ospf.specs.Import.{importing}
-use Rattle.import.specs.declared.Ends.{Ends}
 
 -- a file of at most 262,144 bytes is imported
 abbrev pub most_file : ℕ
@@ -31,6 +30,16 @@ import_output file = cond (leb (length file) most_file) (imported_stream (import
 -- to standard error: `refused`, number, at, or `too long`
 unfoldable pub complaint : List ℕ → List ℕ
 complaint file = cond (leb (length file) most_file) (complaint_of (importing file)) too_long
+
+-- how many bytes go to standard output and to standard error
+pub record Ends : Type 0 where
+  pub stream : ℕ
+  pub line : ℕ
+
+-- so many to the one, or so many to the other
+abbrev pub ends_of : Result ℕ ℕ → Ends
+ends_of (Ok end) = record { stream = end; line = 0 }
+ends_of (Err end) = record { stream = 0; line = end }
 
 -- The two texts stand at the starts of two buffers, with so many bytes.
 pub record Writes (file : List ℕ) (r : Ends) (stream line : List ℕ) : Type 0 where

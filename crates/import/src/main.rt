@@ -3,11 +3,13 @@
 // standard output, and the line is `too long`.
 #![tactic(auto)]
 
-ghost use Rattle.std.specs.Prelude.{◌≡◌, ◌≤◌, length};
-ghost use Rattle.import.specs.Output.{Writes};
+ghost use Rattle.std.specs.Prelude.{◌≡◌, length};
+ghost use Rattle.import.specs.Inner.{StreamPut};
+ghost use Rattle.import.specs.Output.{Writes, ends_of};
 
 use program_io::{STDERR, STDOUT};
-use text::unchecked::lines;
+use text::unchecked::lines::Page;
+use topology::Refusal;
 
 // The longest file that is imported.
 const FILE: usize = 262144;
@@ -20,71 +22,42 @@ const STREAM: usize = 2883;
 
 const LINE: usize = 50;
 
-// How many bytes go to standard output and to standard error.
-#[derive(Clone, Copy)]
-struct Ends {
-    stream: usize,
-    line: usize,
-}
-
-// Arrays that come out of functions are known by what these ensure.
-fn room_for_file() -> [u8; INPUT]
-    ensures { 262145 ≡ length result }
+// The stream of the topology that is imported, at the start of the slice; answers how many bytes it has.
+fn put_stream(file: &[u8], stream: &mut [u8]) -> Result<usize, Refusal>
+    requires { length stream.old ≡ 2883 }
+    ensures { StreamPut file.now result stream.new }
 {
-    [0; INPUT]
+    topology::write(ospf::import(file)?, stream)
 }
 
-fn room_for_stream() -> [u8; STREAM]
-    ensures { 2883 ≡ length result }
-{
-    [0; STREAM]
-}
-
-fn room_for_line() -> [u8; LINE]
-    ensures { 50 ≡ length result }
-{
-    [0; LINE]
-}
-
-// What goes to standard output, and what to standard error, at the starts of two slices.
-fn put_output(file: &[u8], stream: &mut [u8], line: &mut [u8]) -> Ends
+// What goes to standard output, or else to standard error, at the start of the slice for it; answers how many bytes.
+fn put_output(file: &[u8], stream: &mut [u8], line: &mut [u8]) -> Result<usize, usize>
     requires { (length stream.old ≡ 2883) × (length line.old ≡ 50) }
-    ensures { Writes file.now result stream.new line.new }
+    ensures { Writes file.now (ends_of result) stream.new line.new }
 {
+    let mut page = Page::new(line);
     if FILE < file.len() {
-        let end = lines::put(line, 0, b"too long\n");
-        return Ends {
-            stream: 0,
-            line: end,
-        };
+        page.put(b"too long\n");
+        return Err(page.filled);
     }
-    let reading = ospf::import(file);
-    let answer = reading.answer;
-    if answer.number != 0 {
-        let end = program_io::unchecked::put_refused(line, answer);
-        return Ends {
-            stream: 0,
-            line: end,
-        };
-    }
-    let t = reading.topology;
-    let written = topology::write(t, stream);
-    Ends {
-        stream: written.at,
-        line: 0,
+    match put_stream(file, stream) {
+        Ok(end) => Ok(end),
+        Err(refusal) => {
+            program_io::unchecked::put_refused(&mut page, refusal);
+            Err(page.filled)
+        }
     }
 }
 
 // What is read and written no contract says. That the bytes are the first 262,145 of standard input, and that each text goes to its own output once, is
 // read here and in `program_io`, and tried by examples/edges.
 fn main() {
-    let mut input = room_for_file();
+    let mut input: [u8; INPUT] = text::filled(0);
     let n = program_io::read_input(&mut input);
-    let mut stream = room_for_stream();
-    let mut line = room_for_line();
-    let ends = put_output(&input[..n], &mut stream, &mut line);
-    let size = ends.stream;
-    let width = ends.line;
-    io::write_all(STDOUT, &stream[..size]);
-    io::write_all(STDERR, &line[..width]);
+    let mut stream: [u8; STREAM] = text::filled(0);
+    let mut line: [u8; LINE] = text::filled(0);
+    match put_output(&input[..n], &mut stream, &mut line) {
+        Ok(end) => io::write_all(STDOUT, &stream[..end]),
+        Err(end) => io::write_all(STDERR, &line[..end]),
+    };
 }

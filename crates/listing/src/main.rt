@@ -4,20 +4,25 @@
 // input is not read.
 #![tactic(auto)]
 
-ghost use Rattle.std.specs.Prelude.{◌≡◌, ◌≤◌, length};
+ghost use Rattle.std.specs.Prelude.{◌≤◌, length};
 ghost use Rattle.text.specs.Inner.{Put};
+ghost use Rattle.text.specs.Page.{Puts, Room};
 ghost use Rattle.listing.specs.Output.{listing_output};
 
-use program_io::STDOUT;
+use text::unchecked::lines::Page;
 
 // Room for every output: 3,968 bytes for each of 64 destinations.
 const OUTPUT: usize = 253952;
 
-// An array that comes out of a function is known by what the function ensures.
-fn room() -> [u8; OUTPUT]
-    ensures { 253952 ≡ length result }
+// The whole output for a stream.
+fn put_onto(page: &mut Page<'_>, stream: &[u8])
+    requires { Room page.old 253952 }
+    ensures { Puts page.old (listing_output stream.now) page.new }
 {
-    [0; OUTPUT]
+    match topology::read(stream) {
+        Err(refusal) => program_io::unchecked::put_refused(page, refusal),
+        Ok(t) => report::unchecked::put_all(&t, &arcs::unchecked::of(t), page),
+    }
 }
 
 // The whole output for a stream, at the start of the slice; answers how many bytes it has.
@@ -25,21 +30,14 @@ fn put_output(stream: &[u8], out: &mut [u8]) -> usize
     requires { 253952 ≤ length out.old }
     ensures { (result ≤ 253952) × Put out.old 0 (listing_output stream.now) result out.new }
 {
-    let reading = topology::read(stream);
-    let answer = reading.answer;
-    if answer.number != 0 {
-        return program_io::unchecked::put_refused(out, answer);
-    }
-    let t = reading.topology;
-    report::unchecked::put_all(t, arcs::unchecked::of(t), out)
+    let mut page = Page::new(out);
+    put_onto(&mut page, stream);
+    page.filled
 }
 
 // What is read and written no contract says. That the bytes are the first 65,536 of standard input, and that their output goes to standard output once, is
-// read here and in `program_io`, and tried by examples/edges.
+// read in `program_io`, and tried by examples/edges.
 fn main() {
-    let mut input = program_io::room_for_input();
-    let n = program_io::read_input(&mut input);
-    let mut out = room();
-    let end = put_output(&input[..n], &mut out);
-    io::write_all(STDOUT, &out[..end]);
+    let mut out: [u8; OUTPUT] = text::filled(0);
+    program_io::unchecked::print_by(put_output, &mut out);
 }

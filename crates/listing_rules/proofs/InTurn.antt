@@ -2,28 +2,18 @@
 -- Assumes nothing.
 use Prim.Native.Nat.{ℕ, suc, ◌+◌, ◌*◌, ◌≤◌}
 use mathlib.Core.List.{List, [], ◌∷◌, ◌++◌, Memᴰ}
-use mathlib.Core.Path.{◌≡◌, refl, ap, sym, ◌∙◌}
-use native.Mathlib.Nat.{add-zero, mul-suc}
+use mathlib.Core.Path.{◌≡◌, refl}
+use native.Mathlib.Nat.{mul-suc}
 use native.Mathlib.Numerals.{add-one}
 use native.Mathlib.Omega.{arith}
-use lib.ListN.{length, set, length-append}
-use lib.Seq.{length-sets}
+use lib.ListN.{length, length-append}
+use Rattle.network.specs.Lists.{numbers_from, below}
 use Rattle.topology.specs.Written.{joined_over}
 use Rattle.topology.proofs.Joined.{joined_last}
-use Rattle.text.specs.Inner.{Put}
-use Rattle.text.proofs.Stores.{behind}
-
--- a text put leaves the buffer as long as it was
-pub put_length : {b : List ℕ} {at : ℕ} {s : List ℕ} {r : ℕ} {b' : List ℕ} → Put b at s r b' → length b' ≡ length b
-put_length {b} {at} {s} p = ap length p.stored ∙ length-sets b at s
-
--- where a text of at most k bytes ends
-pub ended : {b : List ℕ} {at : ℕ} {s : List ℕ} {r : ℕ} {b' : List ℕ} → Put b at s r b' → {k : ℕ} → length s ≤ k → (r ≤ at + k) × (length b' ≡ length b)
-ended p h = (omega (arith, p.after), put_length p)
-
--- one byte is one store
-pub put_byte : (b : List ℕ) (at x : ℕ) → Put b at (x ∷ []) (at + 1) (set b at x)
-put_byte b at x = record { after = refl; stored = refl }
+use Rattle.arcs.proofs.Slots.{below_more}
+use Rattle.text.specs.Page.{Puts}
+use Rattle.text.specs.declared.unchecked.lines.Page.{Page}
+use Rattle.text.proofs.Stores.{joined, nothing}
 
 module _ {A : Type 0} (f : A → List ℕ) where
   -- texts of at most so many bytes each
@@ -35,23 +25,28 @@ module _ {A : Type 0} (f : A → List ℕ) where
       simp length-append (omega (arith, each x (Memᴰ.head refl), joined_most most xs (λ y m. each y (Memᴰ.tail m))))
 
   -- the texts of the elements of a list, of which there are i, were put; none has more than `most` bytes
-  pub record SoFar (most : ℕ) (b : List ℕ) (at : ℕ) (xs : List A) (i end : ℕ) (out : List ℕ) : Type 0 where
-    pub put : Put b at (joined_over f xs) end out
-    pub ends : end ≤ at + most * i
-    pub long : length out ≡ length b
+  pub record SoFar (most : ℕ) (entry : Page) (xs : List A) (i : ℕ) (page : Page) : Type 0 where
+    pub puts : Puts entry (joined_over f xs) page
+    pub ends : page.filled ≤ entry.filled + most * i
 
-  module _ (most : ℕ) {b : List ℕ} {at : ℕ} where
-    pub none : SoFar most b at [] 0 at b
+  module _ (most : ℕ) where
+    pub none : (entry : Page) → SoFar most entry [] 0 entry
     unfolding joined_over
-    none = record { put = record { after = sym (add-zero at); stored = refl }; ends = omega arith; long = refl }
+    none entry = record { puts = nothing entry; ends = omega arith }
 
     -- one element more
-    pub more : {xs : List A} {i end : ℕ} {out : List ℕ} {end' : ℕ} {out' : List ℕ} → SoFar most b at xs i end out → (x : A) → length (f x) ≤ most →
-        Put out end (f x) end' out' → {ys : List A} → ys ≡ xs ++ (x ∷ []) → SoFar most b at ys (i + 1) end' out'
-    more {xs} {i} s x few p e =
+    pub more : {entry : Page} {xs : List A} {i : ℕ} {page next : Page} → SoFar most entry xs i page → (x : A) → length (f x) ≤ most →
+        Puts page (f x) next → {ys : List A} → ys ≡ xs ++ (x ∷ []) → SoFar most entry ys (i + 1) next
+    more {xs = xs} {i = i} s x few p e =
         let wide : most * (i + 1) ≡ most * i + most = rw add-one (mul-suc most i) in
-        record {
-          put = rw (e, joined_last f) (behind s.put p);
-          ends = omega (arith, p.after, s.ends);
-          long = put_length p ∙ s.long;
-        }
+        record { puts = rw (e, joined_last f) (joined s.puts p); ends = omega (arith, p.put.after, s.ends) }
+
+-- the texts of the numbers below i
+module _ (f : ℕ → List ℕ) (most : ℕ) where
+  pub none_below : (entry : Page) → SoFar f most entry (below 0) 0 entry
+  unfolding below numbers_from
+  none_below entry = none f most entry
+
+  pub more_below : {entry : Page} {i : ℕ} {page next : Page} → SoFar f most entry (below i) i page → length (f i) ≤ most → Puts page (f i) next →
+      SoFar f most entry (below (i + 1)) (i + 1) next
+  more_below {i = i} s few p = more f most s i few p (below_more i)

@@ -7,7 +7,8 @@ use mathlib.Core.Logic.{⊎_elim}
 use mathlib.Core.Path.{◌≡◌, refl, sym, ◌∙◌}
 use native.Mathlib.Omega.{arith}
 use lib.Dec.{T}
-use lib.ListN.{length, get_or, length-append, get_or-append}
+use lib.ListN.{length, get_or, take}
+use lib.Seq.{take_at}
 use Rattle.network.specs.Lists.{below}
 use Rattle.network.specs.Network.{Arc}
 use Rattle.network.specs.Distance.{PathTo, distances}
@@ -133,29 +134,28 @@ module _ (t : Topology) (good : T (sound t)) (d : ℕ) (place : d < t.routers) w
       (entries_fit (row_stands u h))) in
       omega (arith, few, length_below t.routers, few_routers)
 
-  -- the hop counts at the front of a buffer
-  module _ (hops rest : List ℕ) (is : hops ≡ figures t table ++ rest) where
-    counted : length (figures t table) ≡ t.routers
-    unfolding figures
-    counted = length_map_below (figure_byte t table) t.routers
+  -- the hop counts by place, as they stand at the front of a buffer
+  pub counted : length (figures t table) ≡ t.routers
+  unfolding figures
+  counted = length_map_below (figure_byte t table) t.routers
 
-    at_place : (u : ℕ) → u < t.routers → get_or hops u 0 ≡ figure_byte t table u
-    at_place u h = rw is (get_or-append (figures t table) rest 0 u (omega (arith, counted))) ∙ figure_at u h
+  pub counts : (rest : List ℕ) → take t.routers (figures t table ++ rest) ≡ figures t table
+  counts rest = take_at (figures t table) rest t.routers counted
 
-    pub listable : Listable table hops t.routers d
-    listable =
-        record {
-          destination = place;
-          routers = few_routers;
-          counted = rw is (omega (arith, length-append (figures t table) rest, counted));
-          row = row_stands;
-          rank = rank-byte;
-          hop_count = λ u h. omega (arith, at_place u h, hops_byte u h);
-        }
+  pub listable : Listable table (figures t table) t.routers d
+  listable =
+      record {
+        destination = place;
+        routers = few_routers;
+        counted = omega (arith, counted);
+        row = row_stands;
+        rank = rank-byte;
+        hop_count = λ u h. omega (arith, figure_at u h, hops_byte u h);
+      }
 
-    pub lines : table_text table hops d t.routers ≡ lines_for t d
-    unfolding table_text lines_for line_in line_for
-    lines = joined_same _ _ (below t.routers) (λ u m. rw (at_place u (below_lt _ m)))
+  pub lines : table_text table (figures t table) d t.routers ≡ lines_for t d
+  unfolding table_text lines_for line_in line_for
+  lines = joined_same _ _ (below t.routers) (λ u m. rw (figure_at u (below_lt _ m)))
 
 pub all_length : (t : Topology) → T (sound t) → length (all_lines t) ≤ most_listing_lines * t.routers
 unfolding all_lines

@@ -8,33 +8,58 @@ use mathlib.Core.Option.{Option, some}
 use mathlib.Core.Path.{◌≡◌, refl, sym, ap, subst, ◌∙◌}
 use native.Mathlib.Numerals.{add-one}
 use native.Mathlib.Omega.{arith}
-use lib.ListN.{length, get_or, set, drop, replicate, length-append, length-drop, length-set, length-replicate}
-use lib.Seq.{drop-cons, drop-append-le, drop-set-lt, set_split, set_at, append_snoc}
-use Rattle.network.specs.Network.{Network, size}
+use lib.ListN.{length, get_or, set, take, drop, replicate, length-append, length-drop, length-set, length-replicate}
+use lib.Seq.{length-take-le, drop-cons, drop-append-le, drop-set-lt, set_split, set_at, append_snoc}
+use Rattle.network.specs.Network.{Network, size, arcs_of}
 use Rattle.network.specs.Distance.{PathTo, distances}
 use Rattle.network.specs.Order.{select, continued, placing, build}
 use Rattle.network.specs.Theorems.Order.{Candidate}
 use Rattle.network.proofs.Distance.{starts_in}
 use Rattle.network.proofs.Candidate.{fact_candidate}
-use Rattle.network.proofs.Selection.{selection_right}
+use Rattle.network.proofs.Selection.{ids_apart, selection_right}
 use Rattle.network.proofs.Order.{acceptance_exact, built_accepted}
 use Rattle.topology_types.specs.declared.Topology.{Topology}
 use Rattle.topology_types.specs.Topology.{padded, network_of}
 use Rattle.arcs.specs.declared.Arcs.{Arcs}
+use Rattle.arcs.specs.Back.{network_back}
 use Rattle.order_standings.specs.declared.Mode as own
 use Rattle.order.specs.Calls.{mode_of, order_bytes}
 use Rattle.order.specs.Inner.{LaidOut}
-use Rattle.order_standings.specs.Inner.{waits_for, Lower, Inverse, FirstStandings, Highest, Room, StandingsAfter}
+use Rattle.order_standings.specs.Inner.{waits_for, Lower, Apart, Inverse, FirstStandings, Highest, Room, StandingsAfter}
 use Rattle.order.proofs.Runs.{drop_same}
 use Rattle.order_standings.proofs.Counting.{waiting}
 use Rattle.order_standings.proofs.Kept.{Kept}
-use Rattle.order_standings.proofs.Ties.{lower_small}
-use Rattle.order.proofs.Turn.{facts, every_slot, candidate_waits, none_left, some_left, top_selected, room, placed_too, first_placed}
+use Rattle.topology_sound.proofs.Sound.{sound_exact}
+use Rattle.order_standings.proofs.Parts.{lower_whole, highest_whole}
+use Rattle.order_standings.proofs.Setting.{topology_ids}
+use Rattle.order_standings.proofs.Ties.{lower_small, lower_apart}
+use Rattle.order.proofs.Turn.{facts, within, candidate_waits, none_left, some_left, top_selected, room, placed_too, first_placed}
+
+-- the IDs by place are those of the slice
+module _ {t : Topology} {a : Arcs} {d : ℕ} {m : own.Mode} {ds : List ℕ} (g : LaidOut t a d m ds) where
+  ids_long : t.routers ≤ length t.id
+  ids_long = omega (arith, ((sound_exact t).0 g.is-sound).id_slots, (within g).most)
+
+  pub ids_few : length (take t.routers t.id) ≤ 64
+  ids_few = omega (arith, length-take-le t.routers t.id ids_long, (within g).most)
+
+  pub ties_whole : {lower : List ℕ} → Lower (take t.routers t.id) (length (take t.routers t.id)) lower → Lower t.id t.routers lower
+  ties_whole = lower_whole t.routers t.id ids_long
 
 -- as many IDs are lower than there are places before the last, so at most 63
 pub ties_small : {t : Topology} {a : Arcs} {d : ℕ} {m : own.Mode} {ds lower : List ℕ} → LaidOut t a d m ds → Lower t.id t.routers lower →
     (u : ℕ) → u < t.routers → get_or lower u 0 < 64
-ties_small g ties u h = omega (arith, lower_small ties u h, (every_slot g).most)
+ties_small g ties u h = omega (arith, lower_small ties u h, (within g).most)
+
+-- and IDs differ, so these numbers do
+pub ties_apart : {t : Topology} {a : Arcs} {d : ℕ} {m : own.Mode} {ds lower : List ℕ} → LaidOut t a d m ds → Lower t.id t.routers lower → Apart lower t.routers
+ties_apart {t} g ties =
+    lower_apart ties (within g).most
+    (λ u v h k differ e.
+    let seen = facts g in
+    let u_in : u < size (network_of t) = omega (arith, seen.routers) in
+    let v_in : v < size (network_of t) = omega (arith, seen.routers) in
+    ids_apart seen.well_formed u v u_in v_in differ (topology_ids seen u u_in ∙ e ∙ sym (topology_ids seen v v_in)))
 
 -- before a turn: `rank` routers are placed, and the slice holds them and then what it held at first
 pub record Building (t : Topology) (a : Arcs) (d : ℕ) (m : own.Mode) (ds lower first out keys : List ℕ) (rank : ℕ) : Type 0 where
@@ -49,9 +74,16 @@ pub record Building (t : Topology) (a : Arcs) (d : ℕ) (m : own.Mode) (ds lower
   pub room : t.routers ≤ length first
   pub held : out ≡ placed ++ drop rank first
 
-pub same_long : {t : Topology} {a : Arcs} {d : ℕ} {m : own.Mode} {ds lower first out keys : List ℕ} {rank : ℕ} →
-    Building t a d m ds lower first out keys rank → length out ≡ length first
-same_long b = rw (b.held, length-append, length-drop, b.long) (omega (arith, b.most, b.room))
+-- so many standings are looked at
+module _ {t : Topology} {a : Arcs} {d : ℕ} {m : own.Mode} {ds lower first out keys : List ℕ} {rank : ℕ} (b : Building t a d m ds lower first out keys rank) where
+  keys_long : t.routers ≤ length keys
+  keys_long = omega (arith, b.right.long, (within b.given).most)
+
+  pub some_key : 0 < length (take t.routers keys)
+  some_key = omega (arith, length-take-le t.routers keys keys_long, b.given.place)
+
+  pub top_whole : {best : ℕ} → Highest (take t.routers keys) (length (take t.routers keys)) best → Highest keys t.routers best
+  top_whole = highest_whole t.routers keys keys_long
 
 module _ {t : Topology} {a : Arcs} {d : ℕ} {m : own.Mode} {ds lower first out keys : List ℕ} {rank : ℕ} (b : Building t a d m ds lower first out keys rank)
     (more : rank < t.routers) where
@@ -95,10 +127,10 @@ module _ {t : Topology} {a : Arcs} {d : ℕ} {m : own.Mode} {ds lower first out 
         candidate_waits b.given small b.right u
         (fact_candidate n (facts b.given).well_formed d (inside b.given.place) (mode_of m) b.placed u candidate)
 
-    pub has_room : Room (set keys u 0) a.to a.back ds m u (get_or a.count u 0)
+    pub has_room : Room (set keys u 0) (arcs_of (network_back t) u) ds m u
     has_room = room b.given small b.right place candidate.unplaced waits
 
-    pub again : {r : List ℕ} → StandingsAfter (set keys u 0) a.to a.back ds m u (get_or a.count u 0) r →
+    pub again : {r : List ℕ} → StandingsAfter (set keys u 0) (arcs_of (network_back t) u) ds m u r →
         Building t a d m ds lower first (set out rank u) r (rank + 1)
     unfolding then continued
     again step =
@@ -132,7 +164,7 @@ module _ {t : Topology} {a : Arcs} {d : ℕ} {m : own.Mode} {ds lower first out 
 module _ {t : Topology} {a : Arcs} {d : ℕ} {m : own.Mode} {ds lower : List ℕ} where
   -- after d is placed
   pub first_turn : (first : List ℕ) {keys r : List ℕ} → LaidOut t a d m ds → Lower t.id t.routers lower → t.routers ≤ length first →
-      FirstStandings a.count a.to a.cost ds lower m t.routers keys → StandingsAfter (set keys d 0) a.to a.back ds m d (get_or a.count d 0) r →
+      FirstStandings a ds lower m t.routers keys → StandingsAfter (set keys d 0) (arcs_of (network_back t) d) ds m d r →
       Building t a d m ds lower (set first 0 d) (set first 0 d) r 1
   unfolding build
   first_turn first g ties enough start step =

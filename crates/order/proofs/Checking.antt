@@ -1,6 +1,6 @@
 -- Checking, turn by turn: the standings are right for the routers before `rank`, and each of them but the first was a candidate when placed.
 -- Assumes nothing.
-use Prim.Native.Nat.{ℕ, pred, ◌+◌, ◌≤◌, ◌<◌}
+use Prim.Native.Nat.{ℕ, suc, pred, ◌+◌, ◌≤◌, ◌<◌}
 use mathlib.Core.Bool.{Bool, true, false, not}
 use mathlib.Core.List.Memᴰ
 use mathlib.Core.List.{List, [], ◌∷◌, ◌++◌, Memᴰ}
@@ -14,18 +14,20 @@ use lib.ListN.{length, get_or, set, take, replicate}
 use lib.Seq.{take-suc, length-take-le, get_or-take}
 use Rattle.network.specs.Distance.{PathTo, arrived, distances}
 use Rattle.network.specs.Order.{candidate}
-use Rattle.network.proofs.Pigeon.{at_most}
 use Rattle.network.proofs.Candidate.{candidate_fact}
 use Rattle.topology_types.specs.declared.Topology.{Topology}
 use Rattle.topology_types.specs.Topology.{network_of}
-use Rattle.topology_types.specs.Outcome.{first_or}
+use Rattle.std.specs.Prelude.{Some}
+use Rattle.network.specs.Network.{arcs_of}
 use Rattle.arcs.specs.declared.Arcs.{Arcs}
+use Rattle.arcs.specs.Back.{network_back}
 use Rattle.order_standings.specs.declared.Mode.{Mode}
-use Rattle.order.specs.Calls.{mode_of, unready_ranks}
+use Rattle.order.specs.Calls.{mode_of, first_of, unready_ranks}
 use Rattle.order.specs.Inner.{LaidOut, FirstPlaced}
 use Rattle.order_standings.specs.Inner.{waits_for, FirstStandings, Room, StandingsAfter}
-use Rattle.order.proofs.Ranges.{get_d_mem, mem_get_d, differ, keep_none, keep_first}
+use Rattle.order.proofs.Ranges.{get_d_mem, keep_none, keep_first}
 use Rattle.order.proofs.Entries.{entry_right}
+use Rattle.order.proofs.First.{first_is}
 use Rattle.order_standings.proofs.Counting.{waiting}
 use Rattle.order_standings.proofs.Kept.{Kept}
 use Rattle.order.proofs.Turn.{facts, zeros_small, is-candidate, candidate_waits, room, placed_too, first_placed}
@@ -45,12 +47,10 @@ module _ {t : Topology} {a : Arcs} {d : ℕ} {m : Mode} {ds order keys : List �
   unready? r = not (candidate (network_of t) (distances (network_of t) d) (mode_of m) (take r order) (get_or order r 0))
 
   -- all were candidates
-  pub none_unready : length order ≤ rank → rank ≡ first_or (length order) (unready_ranks (network_of t) d (mode_of m) order)
-  unfolding unready_ranks first_or
+  pub none_unready : length order ≤ rank → unready_ranks (network_of t) d (mode_of m) order ≡ []
+  unfolding unready_ranks
   none_unready over =
-      let end : rank ≡ length order = omega (arith, w.most) in
-      let none = keep_none unready? 1 (pred (length order)) (λ r h k. rw (w.so_far r h (omega (arith, w.proposed.some_rank)))) in
-      rw none end
+      keep_none unready? 1 (pred (length order)) (λ r h k. rw (w.so_far r h (omega (arith, w.proposed.some_rank))))
 
   module _ (more : rank < length order) where
     here : (get_or order rank 0 < t.routers) × (Memᴰ (get_or order rank 0) (take rank order) → ⊥)
@@ -69,11 +69,11 @@ module _ {t : Topology} {a : Arcs} {d : ℕ} {m : Mode} {ds order keys : List �
     candidate_is = is-candidate w.given (zeros_small w.given) w.right first_there w.paths place
 
     -- this one is not a candidate
-    pub unready : leb 17472 (get_or keys (get_or order rank 0) 0) ≡ false → rank ≡ first_or (length order) (unready_ranks (network_of t) d (mode_of m) order)
+    pub unready : leb 17472 (get_or keys (get_or order rank 0) 0) ≡ false → first_of (unready_ranks (network_of t) d (mode_of m) order) ≡ Some rank
     unfolding unready_ranks
     unready e =
-        sym
-        (keep_first unready? (length order) 1 _ rank
+        first_is _ rank
+        (keep_first unready? (suc rank) 1 _ rank
         (record {
           least = w.least;
           within = omega arith;
@@ -86,7 +86,7 @@ module _ {t : Topology} {a : Arcs} {d : ℕ} {m : Mode} {ds order keys : List �
       waits : waits_for m (waiting (network_of t) (distances (network_of t) d) (take rank order) (get_or order rank 0)) ≡ 0
       waits = candidate_waits w.given (zeros_small w.given) w.right _ (subst T (sym (sym candidate_is ∙ e)) tt)
 
-      pub has_room : Room (set keys (get_or order rank 0) 0) a.to a.back ds m (get_or order rank 0) (get_or a.count (get_or order rank 0) 0)
+      pub has_room : Room (set keys (get_or order rank 0) 0) (arcs_of (network_back t) (get_or order rank 0)) ds m (get_or order rank 0)
       has_room = room w.given (zeros_small w.given) w.right place here.1 waits
 
       -- a candidate has a path
@@ -100,7 +100,7 @@ module _ {t : Topology} {a : Arcs} {d : ℕ} {m : Mode} {ds order keys : List �
       next_paths u k =
           ⊎_elim (w.paths u) (λ last. subst (PathTo (network_of t) d) (sym (Memᴰ.eq_of_singleton last)) path) (Memᴰ.append_cases (take rank order) k)
 
-      pub again : {r : List ℕ} → StandingsAfter (set keys (get_or order rank 0) 0) a.to a.back ds m (get_or order rank 0) (get_or a.count (get_or order rank 0) 0) r →
+      pub again : {r : List ℕ} → StandingsAfter (set keys (get_or order rank 0) 0) (arcs_of (network_back t) (get_or order rank 0)) ds m (get_or order rank 0) r →
           Checking t a d m ds order r (rank + 1)
       again step =
           record {
@@ -118,14 +118,8 @@ module _ {t : Topology} {a : Arcs} {d : ℕ} {m : Mode} {ds order keys : List �
           so_far_too r h (yes e') k = rw e' (sym candidate_is ∙ e)
           so_far_too r h (no apart) k = w.so_far r h (omega arith)
 
--- there are no more ranks than routers
-pub begins_short : {t : Topology} {d : ℕ} {order : List ℕ} → FirstPlaced t d order → length order ≤ t.routers
-begins_short {t} {d} {order} b =
-    let right = entry_right t.routers order b.once in
-    at_most t.routers order (differ order 0 (λ i h. (right i h).1)) (λ u k. let (i, h, e) = mem_get_d 0 k in rw e at (right i h).0)
-
 pub first_turn : {t : Topology} {a : Arcs} {d : ℕ} {m : Mode} {ds order keys r : List ℕ} → LaidOut t a d m ds → FirstPlaced t d order →
-    FirstStandings a.count a.to a.cost ds (replicate 64 0) m t.routers keys → StandingsAfter (set keys d 0) a.to a.back ds m d (get_or a.count d 0) r →
+    FirstStandings a ds (replicate 64 0) m t.routers keys → StandingsAfter (set keys d 0) (arcs_of (network_back t) d) ds m d r →
     Checking t a d m ds order r 1
 first_turn {order} g p start step =
     let inside : 0 < length order = p.some_rank in

@@ -81,11 +81,6 @@ module _ {n : Network} (formed : WellFormed n) {d : ℕ} (d_in : d < size n) {m 
       get_or keys u 0 ≡ 17408 + placed_neighbours n placed u * 64 + get_or lower u 0
   height u h out ready = omega (arith, k.unplaced u h out)
 
-  -- no standing is as high as 2^15
-  pub keys_low : (u : ℕ) → u < size n → get_or keys u 0 < 32768
-  keys_low u h =
-      placed_or u placed (λ l. omega (arith, k.low u h l, near_few u h)) (λ out. omega (arith, k.unplaced u h out, near_few u h, small u h))
-
   -- Where d is placed, and each that is placed has a path, a router with a placed neighbour has one too, and a candidate has a placed neighbour.
   module _ (first : Memᴰ d placed) (paths : (u : ℕ) → Memᴰ u placed → PathTo n d u) where
     near_path : (u : ℕ) → 1 ≤ placed_neighbours n placed u → PathTo n d u

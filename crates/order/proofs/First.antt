@@ -3,13 +3,15 @@
 -- Assumes nothing.
 use Prim.Native.Nat.{ℕ, zero, suc, ◌+◌, ◌≤◌, ◌<◌}
 use mathlib.Core.Bool.{Bool, true, false}
-use mathlib.Core.List.{[]}
+use mathlib.Core.List.{List, [], ◌∷◌}
 use mathlib.Core.Logic.{◌⊎◌, inl, inr}
-use mathlib.Core.Path.{◌≡◌, refl}
+use mathlib.Core.Path.{◌≡◌, refl, ap}
 use native.Mathlib.Nat.{eq-or-lt_of_le}
 use native.Mathlib.Omega.{arith}
+use Rattle.std.specs.Prelude.{Some}
 use Rattle.network.specs.Lists.{numbers_from, below, keep}
 use Rattle.topology_types.specs.Outcome.{first_or}
+use Rattle.order.specs.Calls.{first_of}
 
 module _ (f : ℕ → Bool) where
   pub none_from : (s n : ℕ) → ((k : ℕ) → s ≤ k → k < s + n → f k ≡ false) → keep f (numbers_from s n) ≡ []
@@ -36,3 +38,9 @@ module _ (f : ℕ → Bool) where
   pub first_below : (n r z : ℕ) → r < n → ((k : ℕ) → k < r → f k ≡ false) → f r ≡ true → first_or z (keep f (below n)) ≡ r
   unfolding below
   first_below n r z h before here = first_from 0 n r z (omega arith) (omega arith) (λ k l b. before k b) here
+
+-- r is the first of a list where it is, whatever stands for none
+pub first_is : (xs : List ℕ) (r : ℕ) → first_or (suc r) xs ≡ r → first_of xs ≡ Some r
+unfolding first_or
+first_is [] r e = absurd (omega arith)
+first_is (x ∷ xs) r e = ap Some e

@@ -9,9 +9,10 @@ pub mod Entries
 pub mod After
 pub mod Turn
 pub mod Building
-pub mod Lending
 pub mod Checking
 pub mod Answers
 pub mod Orders
 pub mod Verdicts
 pub mod Facts
+pub mod Ranking
+pub mod Judged

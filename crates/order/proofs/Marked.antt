@@ -9,7 +9,7 @@ use mathlib.Core.Path.{◌≡◌, refl, sym, ap, ◌∙◌}
 use borrow.Author.Tests.{ne_eqb}
 use lib.Dec.{eqb}
 use lib.ListN.{length, get_or, set}
-use Rattle.network.specs.Lists.{member, any}
+use Rattle.network.specs.Lists.{member}
 use Rattle.network.proofs.Lists.{mem_member}
 use Rattle.network.proofs.Tests.{as_true}
 use Rattle.distances.proofs.Stored.{stored}

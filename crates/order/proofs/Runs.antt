@@ -3,7 +3,7 @@
 -- Assumes nothing.
 use Prim.Native.Nat.{ℕ, zero, suc, ◌+◌, ◌-◌, ◌≤◌, ◌<◌}
 use mathlib.Core.List.{List, [], ◌∷◌, ◌++◌, map, map-append}
-use mathlib.Core.Path.{◌≡◌, refl, ap}
+use mathlib.Core.Path.{◌≡◌, ap}
 use native.Mathlib.Nat.{sub_self, sub-zero}
 use native.Mathlib.Numerals.{add-one}
 use native.Mathlib.Omega.{arith}
@@ -42,13 +42,3 @@ pub drop_same : (k n x : ℕ) → drop k (replicate n x) ≡ replicate (n - k) x
 drop_same zero n x = rw sub-zero
 drop_same (suc k) zero x = let none : 0 - suc k ≡ 0 = omega arith in rw none
 drop_same (suc k) (suc n) x = let less : suc n - suc k ≡ n - k = omega arith in rw less (drop_same k n x)
-
--- one number for each of the numbers of a run
-same_from : (s k x : ℕ) → map (λ _. x) (numbers_from s k) ≡ replicate k x
-unfolding numbers_from
-same_from s zero x = refl
-same_from s (suc k) x = ap (λ (l : List ℕ). x ∷ l) (same_from (suc s) k x)
-
-pub all_one : (n x : ℕ) → map (λ _. x) (below n) ≡ replicate n x
-unfolding below
-all_one n x = same_from 0 n x

@@ -1,6 +1,6 @@
 -- What each answer of `checking` says: each number tells the test that failed, and those before it passed.
 -- Assumes nothing.
-use Prim.Native.Nat.{ℕ, ◌≤◌, ◌<◌}
+use Prim.Native.Nat.{ℕ, suc, ◌≤◌, ◌<◌}
 use mathlib.Core.List.{List, [], ◌∷◌}
 use mathlib.Core.Logic.{inl, inr, ⊎_elim}
 use mathlib.Core.Path.{◌≡◌, sym, ◌∙◌, ap}
@@ -10,16 +10,18 @@ use lib.Dec.{ltb}
 use lib.ListN.{length, get_or, take}
 use lib.Seq.{length-take-le, get_or-take, take-take}
 use Rattle.network.proofs.Tests.{as_false}
-use Rattle.topology_types.specs.declared.Answer.{Answer}
+use Rattle.topology_types.specs.Outcome.{Answer}
 use Rattle.topology_types.specs.declared.Topology.{Topology}
 use Rattle.topology_types.specs.Topology.{network_of}
-use Rattle.topology_types.specs.Outcome.{first_or, answer}
+use Rattle.topology_types.specs.Outcome.{answer}
 use Rattle.order_standings.specs.declared.Mode.{Mode}
 use Rattle.order_standings.specs.declared.Mode.TheVariants as mode
-use Rattle.order.specs.Calls.{mode_of, reached_count_lem, wrong_ranks, ranks_after, unready_ranks, judging, checking}
+use Rattle.order.specs.Calls.{first_of, mode_of, reached_count_lem, wrong_ranks, ranks_after, unready_ranks, judging, checking}
 use Rattle.order.specs.Theorems as theorems
 use Rattle.order.specs.Theorems.{no_place, repeated, ranked, RightAt, WrongRankAt, UnreadyAt, Called, EntriesRight, Begun, OrderChecked, ChecksEach}
 use Rattle.order.proofs.Entries.{Right, Wrong, entry_right, none_wrong, first-wrong, wrong_first}
+use Rattle.std.specs.Prelude.{Some}
+use Rattle.order.proofs.First.{first_is}
 use Rattle.order.proofs.After.{none_ranked, all_none, first_ranked, ranked_first}
 use Rattle.order.proofs.Answers.{is_14, is_15, is_17, is_18, is_19, is_20, is_0}
 use Rattle.order.proofs.Decided.{Proposed, unsound, outside, other_length, wrong_entry, ranked_after, other_first, unready, judged}
@@ -88,7 +90,7 @@ module _ (t : Topology) (d : ℕ) (order : List ℕ) where
         of_part : (h : r < reach) → Wrong t.routers (take reach order) r → answer 18 r ≡ judging t d m order
         of_part h wrong =
             wrong_entry t d m order long r
-            (sym (wrong_first t.routers (take reach order) reach r (omega (arith, part_long)) wrong (λ k b. right_in k (w.earlier k b) (omega arith)))) h
+            (sym (first_is _ r (wrong_first t.routers (take reach order) (suc r) r (omega (arith, part_long)) wrong (λ k b. right_in k (w.earlier k b) (omega arith)))))
 
         cases : theorems.Wrong t d order r → answer 18 r ≡ judging t d m order
         cases (no_place h out) = of_part h (inl (rw (at_part r h).0 out))
@@ -97,7 +99,7 @@ module _ (t : Topology) (d : ℕ) (order : List ℕ) where
             ranked_after t d m order long
             (none_wrong t.routers (take reach order)
             (λ k l. let inside : k < reach = omega (arith, part_long) in right_in k (w.earlier k (omega arith)) inside)) r
-            (sym (ranked_first order reach t.routers r h w.within out (λ k l b. (w.earlier k b).after l))) (omega (arith, w.within))
+            (sym (first_is _ r (ranked_first order reach (suc r) r h w.within out (λ k l b. (w.earlier k b).after l))))
 
   none_there : (a : EntriesRight t d order) → (wrong_ranks t.routers (take reach order) ≡ []) × (ranks_after reach order ≡ [])
   none_there a = (
@@ -132,16 +134,17 @@ module _ (t : Topology) (d : ℕ) (order : List ℕ) where
       }
 
   in_unready : (m : Mode) → Begun t d order → (r : ℕ) → UnreadyAt t d (mode_of m) order r →
-      r ≡ first_or reach (unready_ranks (network_of t) d (mode_of m) (take reach order))
+      Some r ≡ first_of (unready_ranks (network_of t) d (mode_of m) (take reach order))
   in_unready m b r w =
       let s = b.entries.sized in
       sym
-      (at_unready t s.called.is-sound d s.called.place m (take reach order) reach r w.not_first
+      (first_is _ r
+      (at_unready t s.called.is-sound d s.called.place m (take reach order) (suc r) r w.not_first
       (omega (arith, w.within, part_long s.called s.long))
       (rw ((at_part s.called s.long r w.within).0, (at_part s.called s.long r w.within).1) w.unready)
       (λ k a l.
       let h : k < reach = omega (arith, w.within) in
-      rw ((at_part s.called s.long k h).0, (at_part s.called s.long k h).1) (w.earlier k a l)))
+      rw ((at_part s.called s.long k h).0, (at_part s.called s.long k h).1) (w.earlier k a l))))
 
   -- where 14 and 15 pass, the tests after them answer
   judges : (m : Mode) {x : Answer} → Called t d → x ≡ judging t d m order → checking t d m order ≡ x
@@ -181,7 +184,7 @@ module _ (t : Topology) (d : ℕ) (order : List ℕ) where
           );
           says_20 = (
             λ e. let (p, (rest, ranks)) = is_20 t d m order at e in (begun p, unready_in m p at rest ranks),
-            λ (b, w). judges m b.entries.sized.called (unready t d m order (proposed b) at (in_unready m b at w) w.within),
+            λ (b, w). judges m b.entries.sized.called (unready t d m order (proposed b) at (in_unready m b at w)),
           );
           says_0 = (
             λ e.

@@ -1,12 +1,12 @@
 -- What building and checking an order leaves, whole (01, Order; Refusals, 14, 15, 17 to 20 and 24).
 -- Assumes nothing.
-use Rattle.std.specs.Prelude.{ℕ, pred, ◌-◌, cond, not, ◌||◌, List, [], ◌∷◌, eqb, ltb, length, get_or, take}
+use Rattle.std.specs.Prelude.{ℕ, pred, ◌-◌, cond, not, ◌||◌, List, [], ◌∷◌, Option, Some, None, eqb, ltb, length, get_or, take}
 use Rattle.network.specs.Lists.{numbers_from, below, keep, member}
 use Rattle.network.specs.Network.{Network, size}
 use Rattle.network.specs.Distance.{distances}
 use Rattle.network.specs.Order.{reached, candidate, build}
 use Rattle.network.specs.Order as network
-use Rattle.topology_types.specs.declared.Answer.{Answer}
+use Rattle.topology_types.specs.Outcome.{Answer}
 use Rattle.topology_types.specs.declared.Topology.{Topology}
 use Rattle.topology_types.specs.Topology.{padded, network_of}
 use Rattle.topology_sound.specs.Place.{on_place}
@@ -43,6 +43,11 @@ ranks_after count order = keep (λ r. not (eqb (get_or order r 0) 255)) (numbers
 -- 20: the ranks, but 0, whose router is no candidate when placed
 unfoldable pub unready_ranks : Network → ℕ → network.Mode → List ℕ → List ℕ
 unready_ranks n d m order = keep (λ r. not (candidate n (distances n d) m (take r order) (get_or order r 0))) (numbers_from 1 (pred (length order)))
+
+-- the first of these ranks, if there is one
+abbrev pub first_of : List ℕ → Option ℕ
+first_of [] = None
+first_of (r ∷ rs) = Some r
 
 -- a test over the whole order: it points at the first rank that fails it, else the next test follows
 unfoldable pub refused_at_first : ℕ → List ℕ → Answer → Answer

@@ -11,7 +11,7 @@ use Rattle.topology_types.specs.Topology.{network_of}
 use Rattle.topology_types.specs.declared.Topology.{Topology}
 use Rattle.topology_sound.specs.Sound.{sound}
 use Rattle.arcs.specs.declared.Arcs.{Arcs}
-use Rattle.arcs.specs.Inner.{in_slots, Laid}
+use Rattle.arcs.specs.Inner.{Laid}
 use Rattle.distances.specs.Inner.{farthest, Settled}
 use Rattle.order_standings.specs.declared.Mode.{Mode}
 use Rattle.order_standings.specs.declared.Mode.TheVariants as mode
@@ -31,13 +31,6 @@ pub record LaidOut (t : Topology) (a : Arcs) (d : ℕ) (m : Mode) (ds : List ℕ
   pub holds : Laid t a
   pub place : d < t.routers
   pub for_mode : DistancesFor (network_of t) d m ds
-
--- the same where all that is read of the topology and its arcs is lent: the slots, the IDs and the number of routers
-pub record Lent (t : Topology) (counts to cost back ids : List ℕ) (n d : ℕ) (m : Mode) (ds : List ℕ) : Type 0 where
-  pub link : List ℕ
-  pub laid : LaidOut t (in_slots counts to cost back link) d m ds
-  pub ids_are : t.id ≡ ids
-  pub routers_are : t.routers ≡ n
 
 -- a sound topology with its arcs laid out, a place of it as destination, and the distances to it
 pub record Measured (t : Topology) (a : Arcs) (d : ℕ) (ds : List ℕ) : Type 0 where

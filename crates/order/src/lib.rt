@@ -2,52 +2,36 @@
 #![tactic(auto)]
 
 pub use order_standings::Mode;
-use topology_types::{Answer, Place, Topology};
+use topology_types::{Fault, Place, Refusal, Topology};
 
 mod proposal;
 pub mod unchecked;
 
 ghost use Rattle.std.specs.Prelude.{◌≡◌};
+ghost use Rattle.topology_types.specs.Outcome.{answer_of, tested};
 ghost use Rattle.order.specs.Calls.{building, checking};
 
 // Builds the order for a destination: refusals 14, 15 and 24.
-pub fn build(t: Topology, destination: Place, mode: Mode, out: &mut [u8]) -> Answer
-    ensures { record { answer = result; buffer = out.new } ≡ building t destination.0 mode out.old }
+pub fn build(t: Topology, destination: Place, mode: Mode, out: &mut [u8]) -> Result<usize, Refusal>
+    ensures { record { answer = answer_of result; buffer = out.new } ≡ building t destination.0 mode out.old }
 {
-    let refused = topology_sound::refused_at(t, destination);
-    if refused.number != 0 {
-        return refused;
-    }
+    topology_sound::test_place(t, destination)?;
     let n = t.routers;
     if out.len() < n {
-        return Answer { number: 24, at: n };
+        return Err(Fault::BufferTooShort.at(n));
     }
     let a = arcs::unchecked::of(t);
-    let ds = unchecked::distances_for(&a.count, &a.to, &a.back, n, destination, mode);
-    unchecked::build(
-        &a.count,
-        &a.to,
-        &a.cost,
-        &a.back,
-        &ds,
-        &t.id,
-        n,
-        destination,
-        mode,
-        out,
-    );
-    Answer { number: 0, at: n }
+    let ds = unchecked::distances_for(&t, &a, destination, mode);
+    unchecked::build(&t, &a, &ds, destination, mode, out);
+    Ok(n)
 }
 
 // Checks a proposed order: refusals 14, 15 and 17 to 20.
-pub fn check(t: Topology, destination: Place, mode: Mode, order: &[u8]) -> Answer
-    ensures { result ≡ checking t destination.0 mode order.now }
+pub fn check(t: Topology, destination: Place, mode: Mode, order: &[u8]) -> Result<(), Refusal>
+    ensures { tested result ≡ checking t destination.0 mode order.now }
 {
-    let refused = topology_sound::refused_at(t, destination);
-    if refused.number != 0 {
-        return refused;
-    }
+    topology_sound::test_place(t, destination)?;
     let a = arcs::unchecked::of(t);
-    let ds = distances::unchecked::to(&a.count, &a.to, &a.back, t.routers, destination);
-    unchecked::judge(t, a, ds, destination, mode, order)
+    let ds = distances::unchecked::to(&t, &a, destination);
+    unchecked::judge(&t, &a, &ds, destination, mode, order)
 }

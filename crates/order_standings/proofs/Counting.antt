@@ -9,18 +9,16 @@ use mathlib.Core.Path.{◌≡◌, refl, sym, ◌∙◌, ap, subst}
 use native.Mathlib.Omega.{arith}
 use lib.Dec.{T, eqb, eqb→eq}
 use lib.ListN.{length, get_or}
-use Rattle.network.specs.Lists.{below, keep, any, member}
+use Rattle.network.specs.Lists.{keep, member}
 use Rattle.network.specs.Network.{Arc, Network, size, arcs_of}
 use Rattle.network.specs.Distance.{distance_in, through}
 use Rattle.network.specs.Order.{shortest_next_hops, leads_into, placed_neighbours}
 use Rattle.network.proofs.Tests.{both, and, eq_test}
 use Rattle.network.proofs.Lists.{member_mem}
-use Rattle.arcs.specs.declared.Arcs.{Arcs}
-use Rattle.arcs.specs.Inner.{slot_arc, slot_arcs, ArcsHeld}
-use Rattle.distances.specs.Inner.{slot_to, slot_cost}
-use Rattle.order_standings.specs.Inner.{slot_short, leading, serving}
+use Rattle.distances.proofs.Slots.{arc_place}
+use Rattle.order_standings.specs.Inner.{is_short, leading, serving}
 use Rattle.order_standings.proofs.Setting.{Setting, Agrees}
-use Rattle.order_standings.proofs.Keeping.{once, keep_same, keep_all, keep_keep, kept_sum, kept_most, Found, none_kept, same_kept, keep_map, member_snoc}
+use Rattle.order_standings.proofs.Keeping.{once, keep_same, keep_all, keep_keep, kept_sum, kept_most, Found, none_kept, same_kept, member_snoc}
 
 -- one that is placed after the others, and was not among them, adds to those placed and takes from those unplaced
 added : (b c : Bool) → (T b → T c → ⊥) → once (b || c) ≡ once b + once c
@@ -47,22 +45,12 @@ neighbours_most n placed v = kept_most (leads_into placed) (arcs_of n v)
 abbrev pub waiting : Network → List ℕ → List ℕ → ℕ → ℕ
 waiting n ds placed v = length (keep (λ b. not (leads_into placed b)) (shortest_next_hops n ds v))
 
--- how many arcs of u pass, by its slots
-in-slots : {n : Network} {a : Arcs} → ArcsHeld n a → (u : ℕ) → u < size n → (f : Arc → Bool) →
-    length (keep f (arcs_of n u)) ≡ length (keep (λ j. f (slot_arc a u j)) (below (get_or a.count u 0)))
-unfolding slot_arcs
-in-slots {n} {a} holds u h f = rw (← holds.arcs u h) (keep_map f (slot_arc a u) (below (get_or a.count u 0)))
-
-module _ {n : Network} {a : Arcs} (g : Setting n a) where
-  -- a router of the network is one where the other ends have their arcs
-  other_in : {u : ℕ} → u < size n → u < size g.other
-  other_in h = omega (arith, g.back.sized)
-
+module _ {n other : Network} (g : Setting n other) where
   -- v has as many arcs to u as the other ends have of u to v, over costs with P
   either_end : (u v : ℕ) → u < size n → v < size n → (P : ℕ → Type 0) (f h : Arc → Bool) → ArcsTo u P f → ArcsTo v P h →
-      length (keep f (arcs_of n v)) ≡ length (keep h (arcs_of g.other u))
+      length (keep f (arcs_of n v)) ≡ length (keep h (arcs_of other u))
   either_end u v u_in v_in P f h f-is h_is =
-      same_kept f h (apart u f f-is) (apart v h h_is) (g.formed.places_differ v) (g.back.formed.places_differ u)
+      same_kept f h (apart u f f-is) (apart v h h_is) (g.here.formed.places_differ v) (g.back.formed.places_differ u)
       (there (λ c l. (g.opposite u v c l u_in v_in).1) f h f-is h_is) (there (λ c l. (g.opposite u v c l u_in v_in).0) h f h_is f-is)
     where
       apart : (w : ℕ) (k : Arc → Bool) → ArcsTo w P k → (b c : Arc) → T (k b) → T (k c) → b.to ≢ c.to → ⊥
@@ -75,32 +63,25 @@ module _ {n : Network} {a : Arcs} (g : Setting n a) where
           let (e, good) = (j-is b).0 t in
           (_, across b.cost b.link (subst (λ (w : ℕ). Memᴰ (record { to = w; cost = b.cost; link = b.link }) xs) e m), (k-is _).1 (refl, good))
 
-  -- slots lead to routers of the network
-  pub leading_past : (u v : ℕ) → u < size n → size n ≤ v → leading a.to u (get_or a.count u 0) v ≡ 0
-  unfolding leading slot_to slot_arc
-  leading_past u v h past =
-      sym (in-slots g.holds u h (λ b. eqb b.to v))
-      ∙ none_kept _ (arcs_of n u) (λ (b, m, t). omega (arith, eqb→eq b.to v t, (g.formed.sound u b m).place))
+  -- arcs of the other ends lead to routers of the network
+  pub leading_past : (u v : ℕ) → u < size n → size n ≤ v → leading (arcs_of other u) v ≡ 0
+  unfolding leading
+  leading_past u v h past = none_kept _ (arcs_of other u) (λ (b, m, t). omega (arith, eqb→eq b.to v t, arc_place g.back u h b m))
 
-  pub serving_past : (ds : List ℕ) (u v : ℕ) → u < size n → size n ≤ v → serving a.to a.back ds u (get_or a.count u 0) v ≡ 0
-  unfolding serving slot_to slot_arc
+  pub serving_past : (ds : List ℕ) (u v : ℕ) → u < size n → size n ≤ v → serving (arcs_of other u) ds u v ≡ 0
+  unfolding serving
   serving_past ds u v h past =
-      let sized = g.back.sized in
-      sym (in-slots g.back.holds u (other_in h) (λ b. eqb b.to v && eqb (b.cost + get_or ds u 0) (get_or ds v 0)))
-      ∙ none_kept _ (arcs_of g.other u) (λ (b, m, t). omega (arith, eqb→eq b.to v (both (eqb b.to v) _ t).0, (g.back.formed.sound u b m).place))
+      none_kept _ (arcs_of other u) (λ (b, m, t). omega (arith, eqb→eq b.to v (both (eqb b.to v) _ t).0, arc_place g.back u h b m))
 
-  -- before any router is placed, each waits for as many as its slots lead to
+  -- before any router is placed, each waits for as many as its arcs lead to
   pub waiting_first : (ds slots : List ℕ) → Agrees n ds slots → (u : ℕ) → u < size n →
-      waiting n ds [] u ≡ length (keep (slot_short a.to a.cost slots u) (below (get_or a.count u 0)))
-  unfolding shortest_next_hops leads_into member through slot_short slot_cost slot_to slot_arc
+      waiting n ds [] u ≡ length (keep (is_short slots (get_or slots u 0)) (arcs_of n u))
+  unfolding shortest_next_hops leads_into member through is_short
   waiting_first ds slots agrees u h =
-      ap length (keep_all _ (shortest_next_hops n ds u) (λ b. refl)) ∙ ap length (keep_same _ test (arcs_of n u) same) ∙ in-slots g.holds u h test
+      ap length (keep_all _ (shortest_next_hops n ds u) (λ b. refl)) ∙ ap length (keep_same _ _ (arcs_of n u) same)
     where
-      test : Arc → Bool
-      test b = eqb (b.cost + get_or slots b.to 0) (get_or slots u 0)
-
-      same : (b : Arc) → Memᴰ b (arcs_of n u) → eqb (b.cost + distance_in n ds b.to) (distance_in n ds u) ≡ test b
-      same b m = rw (agrees b.to (g.formed.sound u b m).place, agrees u h)
+      same : (b : Arc) → Memᴰ b (arcs_of n u) → eqb (b.cost + distance_in n ds b.to) (distance_in n ds u) ≡ eqb (b.cost + get_or slots b.to 0) (get_or slots u 0)
+      same b m = rw (agrees b.to (g.here.formed.sound u b m).place, agrees u h)
 
   module _ (placed : List ℕ) (p : ℕ) (p-in : p < size n) (out : Memᴰ p placed → ⊥) where
     apart : (u : ℕ) → T (member u placed) → T (eqb u p) → ⊥
@@ -115,20 +96,20 @@ module _ {n : Network} {a : Arcs} (g : Setting n a) where
         (λ b. rw (member_snoc b.to placed p) (added (member b.to placed) (eqb b.to p) (apart b.to)))
 
     pub neighbours_step : (v : ℕ) → v < size n →
-        placed_neighbours n (placed ++ (p ∷ [])) v ≡ placed_neighbours n placed v + leading a.to p (get_or a.count p 0) v
-    unfolding leading slot_to slot_arc
-    neighbours_step v h = omega (arith, neighbours_more v, to_p, in-slots g.back.holds p (other_in p-in) (λ b. eqb b.to v))
+        placed_neighbours n (placed ++ (p ∷ [])) v ≡ placed_neighbours n placed v + leading (arcs_of other p) v
+    unfolding leading
+    neighbours_step v h = omega (arith, neighbours_more v, to_p)
       where
-        to_p : length (keep (λ b. eqb b.to p) (arcs_of n v)) ≡ length (keep (λ b. eqb b.to v) (arcs_of g.other p))
+        to_p : length (keep (λ b. eqb b.to p) (arcs_of n v)) ≡ length (keep (λ b. eqb b.to v) (arcs_of other p))
         to_p =
             either_end p v p-in h (λ c. Unit {0}) _ _ (λ b. (λ t. (eqb→eq _ _ t, tt), λ e. eq_test e.0))
             (λ b. (λ t. (eqb→eq _ _ t, tt), λ e. eq_test e.0))
 
     -- v waits for one less if p is one of its shortest next hops
     pub waiting_step : (ds slots : List ℕ) → Agrees n ds slots → (v : ℕ) → v < size n →
-        waiting n ds placed v ≡ waiting n ds (placed ++ (p ∷ [])) v + serving a.to a.back slots p (get_or a.count p 0) v
-    unfolding shortest_next_hops leads_into through serving slot_to slot_arc
-    waiting_step ds slots agrees v h = omega (arith, left placed, left (placed ++ (p ∷ [])), fewer, to_p, in-slots g.back.holds p (other_in p-in) serves)
+        waiting n ds placed v ≡ waiting n ds (placed ++ (p ∷ [])) v + serving (arcs_of other p) slots p v
+    unfolding shortest_next_hops leads_into through serving
+    waiting_step ds slots agrees v h = omega (arith, left placed, left (placed ++ (p ∷ [])), fewer, to_p)
       where
         short : Arc → Bool
         short b = eqb (b.cost + distance_in n ds b.to) (distance_in n ds v)
@@ -149,7 +130,7 @@ module _ {n : Network} {a : Arcs} (g : Setting n a) where
         at_p : (b : Arc) → b.to ≡ p → short b ≡ eqb (b.cost + get_or slots p 0) (get_or slots v 0)
         at_p b e = rw (e, agrees p p-in, agrees v h)
 
-        to_p : length (keep (λ b. short b && eqb b.to p) (arcs_of n v)) ≡ length (keep serves (arcs_of g.other p))
+        to_p : length (keep (λ b. short b && eqb b.to p) (arcs_of n v)) ≡ length (keep serves (arcs_of other p))
         to_p =
             either_end p v p-in h (λ c. c + get_or slots p 0 ≡ get_or slots v 0) _ _
             (λ b. (

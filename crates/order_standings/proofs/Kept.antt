@@ -3,22 +3,23 @@
 -- Assumes nothing.
 use Prim.Native.Nat.{ℕ, ◌+◌, ◌*◌, ◌≤◌, ◌<◌}
 use mathlib.Core.List.Memᴰ
-use mathlib.Core.List.{List, [], ◌∷◌, ◌++◌, Memᴰ}
+use mathlib.Core.List.{List, [], ◌∷◌, ◌++◌, map, Memᴰ}
 use mathlib.Core.Logic.{◌≢◌, ⊎_elim}
-use mathlib.Core.Path.{◌≡◌, refl, ◌∙◌, ap, subst}
+use mathlib.Core.Path.{◌≡◌, refl, ap, subst}
 use native.Mathlib.Decide.{dec_lt, ℕ_discrete}
 use native.Mathlib.Omega.{arith}
-use lib.ListN.{length, get_or, set, length-set}
+use lib.ListN.{length, get_or, set}
 use lib.Seq.{get_or-set_same, get_or-set_other}
-use Rattle.network.specs.Lists.{below, keep, any, member}
+use Rattle.network.specs.Lists.{keep, member}
 use Rattle.network.specs.Network.{Network, size, arcs_of}
 use Rattle.network.specs.Order.{leads_into, placed_neighbours}
 use Rattle.network.proofs.Tests.{truth}
 use Rattle.network.proofs.Lists.{member_mem, mem_member}
 use Rattle.arcs.specs.declared.Arcs.{Arcs}
+use Rattle.arcs.specs.Inner.{arcs_at, leaving, ArcsHeld}
 use Rattle.order_standings.specs.declared.Mode.{Mode}
 use Rattle.order_standings.specs.declared.Mode.TheVariants as mode
-use Rattle.order_standings.specs.Inner.{slot_short, waits_for, FirstStandings, serving, standing_after, Room, StandingsAfter}
+use Rattle.order_standings.specs.Inner.{is_short, waits_for, FirstStandings, serving, standing_after, Room, StandingsAfter}
 use Rattle.order_standings.proofs.Keeping.{none_kept}
 use Rattle.order_standings.proofs.Counting.{waiting, leading_past, serving_past, neighbours_most, waiting_first, neighbours_step, waiting_step}
 use Rattle.order_standings.proofs.Setting.{Setting, GoneBy}
@@ -36,10 +37,10 @@ pub record Kept (n : Network) (ds : List ℕ) (m : Mode) (lower placed keys : Li
 pub placed_or : {C : Type 0} (u : ℕ) (placed : List ℕ) → (Memᴰ u placed → C) → ((Memᴰ u placed → ⊥) → C) → C
 placed_or u placed there not = ⊎_elim (λ t. there (member_mem u placed t)) (λ f. not (λ l. f (mem_member u placed l))) (truth (member u placed))
 
-module _ {n : Network} {a : Arcs} (g : Setting n a) {ds slots : List ℕ} {m : Mode} (by : GoneBy n ds m slots) {lower : List ℕ} where
-  pub kept_start : {keys : List ℕ} → FirstStandings a.count a.to a.cost slots lower m (size n) keys → Kept n ds m lower [] keys
+module _ {n other : Network} (g : Setting n other) {ds slots : List ℕ} {m : Mode} (by : GoneBy n ds m slots) {lower : List ℕ} where
+  pub kept_start : {a : Arcs} {keys : List ℕ} → ArcsHeld leaving n a → FirstStandings a slots lower m (size n) keys → Kept n ds m lower [] keys
   unfolding placed_neighbours leads_into member
-  kept_start w =
+  kept_start {a} held w =
       record {
         long = w.long;
         unplaced = λ u h _.
@@ -51,8 +52,8 @@ module _ {n : Network} {a : Arcs} (g : Setting n a) {ds slots : List ℕ} {m : M
       }
     where
       first : (u : ℕ) → u < size n → (w : Mode) → m ≡ w →
-          waits_for m (waiting n ds [] u) ≡ waits_for m (length (keep (slot_short a.to a.cost slots u) (below (get_or a.count u 0))))
-      first u h mode.ShortestPath e = ap (waits_for m) (waiting_first g ds slots (by.shortest e) u h)
+          waits_for m (waiting n ds [] u) ≡ waits_for m (length (keep (is_short slots (get_or slots u 0)) (map leaving (arcs_at a u))))
+      first u h mode.ShortestPath e = rw (held.arcs u h) (ap (waits_for m) (waiting_first g ds slots (by.shortest e) u h))
       first u h mode.Free e = unfold waits_for in rw e
 
   module _ {placed keys : List ℕ} (k : Kept n ds m lower placed keys) (p : ℕ) (p-in : p < size n) (out : Memᴰ p placed → ⊥)
@@ -61,15 +62,15 @@ module _ {n : Network} {a : Arcs} (g : Setting n a) {ds slots : List ℕ} {m : M
     too = placed ++ (p ∷ [])
 
     abbrev next : ℕ → ℕ
-    next = standing_after (set keys p 0) a.to a.back slots m p (get_or a.count p 0)
+    next = standing_after (set keys p 0) (arcs_of other p) slots m p
 
     -- v waits for as many less as it is served
     waits_step : (v : ℕ) → v < size n →
-        waits_for m (waiting n ds placed v) ≡ waits_for m (waiting n ds too v) + waits_for m (serving a.to a.back slots p (get_or a.count p 0) v)
+        waits_for m (waiting n ds placed v) ≡ waits_for m (waiting n ds too v) + waits_for m (serving (arcs_of other p) slots p v)
     waits_step v h = by_mode m refl
       where
         by_mode : (w : Mode) → m ≡ w →
-            waits_for m (waiting n ds placed v) ≡ waits_for m (waiting n ds too v) + waits_for m (serving a.to a.back slots p (get_or a.count p 0) v)
+            waits_for m (waiting n ds placed v) ≡ waits_for m (waiting n ds too v) + waits_for m (serving (arcs_of other p) slots p v)
         by_mode mode.ShortestPath e = unfold waits_for in rw e (waiting_step g placed p p-in out ds slots (by.shortest e) v h)
         by_mode mode.Free e = unfold waits_for in rw e
 
@@ -99,14 +100,14 @@ module _ {n : Network} {a : Arcs} (g : Setting n a) {ds slots : List ℕ} {m : M
           ready,
           waits_step p p-in,
           neighbours_step g placed p p-in out p p-in,
-          get_or-set_same keys p 0 0 (omega (arith, k.long, g.most)),
+          get_or-set_same keys p 0 0 (omega (arith, k.long, g.here.most)),
         )
 
     next_past : (v : ℕ) → size n ≤ v → v < 64 → next v ≡ 0
     unfolding standing_after waits_for
     next_past v past h = by_mode m
       where
-        by_mode : (w : Mode) → standing_after (set keys p 0) a.to a.back slots w p (get_or a.count p 0) v ≡ 0
+        by_mode : (w : Mode) → standing_after (set keys p 0) (arcs_of other p) slots w p v ≡ 0
         by_mode mode.ShortestPath =
             omega (
               arith,
@@ -126,11 +127,11 @@ module _ {n : Network} {a : Arcs} (g : Setting n a) {ds slots : List ℕ} {m : M
         cases (yes e) = rw e here
         cases (no apart) = placed_or v placed (old v h) (λ free. new v h free apart)
 
-    pub kept_room : ((v : ℕ) → v < size n → get_or lower v 0 < 64) → Room (set keys p 0) a.to a.back slots m p (get_or a.count p 0)
-    kept_room small = record { long = length-set keys p 0 ∙ k.long; most = λ v h. bound v h (dec_lt v (size n)) }
+    pub kept_room : ((v : ℕ) → v < size n → get_or lower v 0 < 64) → Room (set keys p 0) (arcs_of other p) slots m p
+    kept_room small v h = bound v h (dec_lt v (size n))
       where
         few : (v : ℕ) → v < size n → placed_neighbours n too v ≤ 16
-        few v l = omega (arith, neighbours_most n too v, g.few v l)
+        few v l = omega (arith, neighbours_most n too v, g.here.few v l)
 
         bound : (v : ℕ) → v < 64 → Dec (v < size n) → next v ≤ 65535
         bound v h (yes l) =
@@ -143,9 +144,9 @@ module _ {n : Network} {a : Arcs} (g : Setting n a) {ds slots : List ℕ} {m : M
     either {C} here old v h l =
         ⊎_elim (old v h) (λ o. ⊎_elim (λ e. rw e here) (λ o'. absurd (Memᴰ.not-nil o')) (Memᴰ.cases_cons o)) (Memᴰ.append_cases placed l)
 
-    pub kept_step : {r : List ℕ} → StandingsAfter (set keys p 0) a.to a.back slots m p (get_or a.count p 0) r → Kept n ds m lower too r
+    pub kept_step : {r : List ℕ} → StandingsAfter (set keys p 0) (arcs_of other p) slots m p r → Kept n ds m lower too r
     kept_step {r} st =
-        let most = g.most in
+        let most = g.here.most in
         record {
           long = st.long;
           unplaced = λ v h free.

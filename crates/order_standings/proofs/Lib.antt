@@ -6,3 +6,4 @@ pub mod Counts
 pub mod Stepping
 pub mod Heights
 pub mod Ties
+pub mod Parts

@@ -1,22 +1,18 @@
--- What the counters go by, and that a sound topology has it: a network within the limits with its arcs in slots, and those of the other ends, and its
--- IDs.
+-- What the counters go by, and that a sound topology has it: a network within the limits, that of the other ends, and its IDs.
 -- Assumes nothing.
 use Prim.Native.Nat.{ℕ, ◌≤◌, ◌<◌}
 use mathlib.Core.List.{List}
 use mathlib.Core.Path.{◌≡◌, sym, ◌∙◌, subst}
 use native.Mathlib.Omega.{arith}
 use lib.Dec.{T}
-use lib.ListN.{length, get_or}
+use lib.ListN.{get_or}
 use lib.Seq.{get_or-take}
-use Rattle.network.specs.Network.{Network, size, id_of, arcs_of, WellFormed, linked}
+use Rattle.network.specs.Network.{Network, size, id_of, linked}
 use Rattle.network.specs.Distance.{absent, distance_in, distances}
 use Rattle.topology_types.specs.declared.Topology.{Topology}
 use Rattle.topology_types.specs.Topology.{contents, network_in, network_of}
 use Rattle.topology_sound.specs.Theorems.{SoundNetwork}
 use Rattle.topology_sound.specs.Sound.{sound}
-use Rattle.topology_sound.proofs.Sound.{sound_exact}
-use Rattle.arcs.specs.declared.Arcs.{Arcs}
-use Rattle.arcs.specs.Inner.{ArcsHeld, slots_back, Laid}
 use Rattle.arcs.specs.Back.{network_back}
 use Rattle.arcs.specs.Theorems.{Opposite}
 use Rattle.arcs.proofs.Back.{back_exact}
@@ -24,16 +20,12 @@ use Rattle.order_standings.specs.declared.Mode.{Mode}
 use Rattle.order_standings.specs.declared.Mode.TheVariants as mode
 use Rattle.distances.specs.Inner.{Settled}
 use Rattle.distances.proofs.Ended.{get_d_within}
-use Rattle.distances.proofs.Slots.{Held, back_held}
+use Rattle.distances.proofs.Slots.{Within, sound_within, back_within}
 
--- a network, well formed and within the limits, and its arcs in slots; with costs and ways back exchanged these hold the arcs of the other ends
-pub record Setting (n : Network) (a : Arcs) : Type 0 where
-  pub formed : WellFormed n
-  pub holds : ArcsHeld n a
-  pub most : size n ≤ 64
-  pub few : (u : ℕ) → u < size n → length (arcs_of n u) ≤ 16
-  pub other : Network
-  pub back : Held other (slots_back a) (size n)
+-- a network, well formed and within the limits, and that of the other ends
+pub record Setting (n other : Network) : Type 0 where
+  pub here : Within n (size n)
+  pub back : Within other (size n)
   pub opposite : Opposite n other (size n)
 
 -- the distances by place that the code has in its slots
@@ -50,17 +42,12 @@ pub record GoneBy (n : Network) (ds : List ℕ) (m : Mode) (slots : List ℕ) : 
   pub shortest : m ≡ mode.ShortestPath → Agrees n ds slots
 
 module _ {t : Topology} (w : SoundNetwork t) where
-  pub topology_setting : T (sound t) → {a : Arcs} → Laid t a → Setting (network_of t) a
-  topology_setting s {a} laid =
+  pub topology_setting : T (sound t) → Setting (network_of t) (network_back t)
+  topology_setting s =
       let sized = w.routers in
-      let tested = (sound_exact t).0 s in
       record {
-        formed = w.well_formed;
-        holds = laid.out;
-        most = omega (arith, tested.routers_most);
-        few = λ u h. tested.neighbours u (omega arith);
-        other = network_back t;
-        back = subst (Held (network_back t) (slots_back a)) (sym sized) (back_held t (slots_back a) s laid.back);
+        here = subst (Within (network_of t)) (sym sized) (sound_within t s);
+        back = subst (Within (network_back t)) (sym sized) (back_within t s);
         opposite = subst (Opposite (network_of t) (network_back t)) (sym sized) (back_exact t s).arcs;
       }
 

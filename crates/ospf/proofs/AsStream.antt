@@ -11,9 +11,9 @@ use lib.ListN.{length}
 use Rattle.topology_types.specs.declared.Half.{Half}
 use Rattle.topology_types.specs.Topology.{Contents}
 use Rattle.topology_sound.specs.Sound.{within}
-use Rattle.stream_rules.specs.declared.Reading.{Reading}
-use Rattle.stream_rules.specs.declared.Record.{Record}
-use Rattle.stream_rules.specs.declared.Record.TheVariants as record_of
+use Rattle.stream_rules.specs.Reading.{Reading}
+use Rattle.stream_rules.specs.Record.{Record}
+use Rattle.stream_rules.specs.Record as record_of
 use Rattle.stream_rules.specs.Halves.{StreamListing}
 use Rattle.stream_rules.specs.Stream.{records}
 use Rattle.stream_rules.specs.Reading.{refusal, accepted_reading, fault, with_limit, added, width, is_end, ended, unless, any_record?, in_turn, nothing_listed, reading}

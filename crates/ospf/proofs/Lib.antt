@@ -4,7 +4,6 @@ pub mod Listed
 pub mod Verdict
 pub mod AsStream
 pub mod Numbers
-pub mod Routed
-pub mod Halving
 pub mod Steps
 pub mod Placed
+pub mod Going

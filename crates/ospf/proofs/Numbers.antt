@@ -17,12 +17,13 @@ use Rattle.network.specs.Lists.{any, keep, member, Pairwise}
 use Rattle.network.proofs.Lists.{member_mem, mem_keep}
 use Rattle.network.proofs.Tests.{truth, as_true, as_false}
 use Rattle.topology_types.specs.declared.Half.{Half}
-use Rattle.stream_rules.specs.declared.Reading.{Reading}
-use Rattle.stream_rules.specs.declared.Record.TheVariants as record_of
+use Rattle.stream_rules.specs.Reading.{Reading}
+use Rattle.stream_rules.specs.Record as record_of
 use Rattle.stream_rules.specs.Halves.{StreamListing, link_halves, halves, same_half, opposite}
 use Rattle.stream_rules.specs.Reading.{refusal, accepted_reading, router_fault_lem, repeated, crowded, halves_fault_lem, fault, with_router, added, ended, unless, nothing_listed}
 use Rattle.stream_rules.specs.Theorems.{Bytes}
-use Rattle.stream_rules.proofs.Halves.{total, one, total_append, total_none, adds_last}
+use Rattle.stream_rules.specs.Inner.{total, one_if}
+use Rattle.stream_rules.proofs.Halves.{total_append, total_none, adds_last}
 use Rattle.stream_rules.proofs.Opposite.{same_places, Once, adds_half}
 use Rattle.stream_rules.proofs.Tables.{same-half}
 use Rattle.stream_rules.proofs.Kept.{Good, good_nothing, kept}
@@ -31,7 +32,7 @@ use Rattle.ospf_halves.specs.Neighbours.{all_of, neighbours_of, half_to, halves_
 use Rattle.ospf.specs.Import.{Placed, router_of, router_in, half_placed, halves_at, halves_in, placed_in, taken_to, at_last, importing}
 use Rattle.ospf.specs.Theorems.{all_halves, SumsRight, ImportNumbers}
 use Rattle.ospf_halves.proofs.Halves.{place_inside, one_each}
-use Rattle.ospf_lsas.proofs.Lsas.{lsas_consecutive}
+use Rattle.ospf_lsas.proofs.InTurn.{lsas_consecutive}
 use Rattle.ospf.proofs.Listed.{ids_arrived}
 use Rattle.ospf.proofs.Verdict.{Verdict, in_26, in_27, in-turn, at_end, verdict, taken_turns}
 use Rattle.ospf.proofs.Plain.{half_plain, id_fits, lsa_bytes}
@@ -95,21 +96,21 @@ unrepeated : (p : StreamListing) (h : Half) → any (same_half h) (halves p) ≡
 unfolding repeated
 unrepeated p h e = e
 
-same_itself : (h : Half) → one (same_half h) h ≡ 1
-unfolding one
+same_itself : (h : Half) → one_if (same_half h) h ≡ 1
+unfolding one_if
 same_itself h = rw (as_true (same_half h h) (same-half h h refl refl))
 
 module _ (test : Half → Bool) (h : Half) where
-  one_most : one test h ≤ 1
-  unfolding one
+  one_most : one_if test h ≤ 1
+  unfolding one_if
   one_most = cases (test h)
     where
       cases : (b : Bool) → cond {A = ℕ} b 1 0 ≤ 1
       cases true = omega arith
       cases false = omega arith
 
-  one_none : (T (test h) → ⊥) → one test h ≡ 0
-  unfolding one
+  one_none : (T (test h) → ⊥) → one_if test h ≡ 0
+  unfolding one_if
   one_none o = rw (as_false (test h) o)
 
 total_first : (f : Half → ℕ) (h : Half) (hs : List Half) → total f (h ∷ hs) ≡ f h + total f hs
@@ -128,8 +129,8 @@ unfolding taken_to
 met_halves none before p g same fits once = met_last p
 met_halves (more {rs} {hs} at h k) before p g same fits once =
     let this = fits h (Memᴰ.head refl) in
-    let few : total (one (same_half h)) (halves p) ≡ 0 =
-    omega (arith, same (one (same_half h)), once h, total_append (one (same_half h)) before (h ∷ hs), total_first (one (same_half h)) h hs, same_itself h) in
+    let few : total (one_if (same_half h)) (halves p) ≡ 0 =
+    omega (arith, same (one_if (same_half h)), once h, total_append (one_if (same_half h)) before (h ∷ hs), total_first (one_if (same_half h)) h hs, same_itself h) in
     let unlisted : any (same_half h) (halves p) ≡ false = total_none (same_half h) (halves p) few in
     met_unless _ at _ (met_half p h this.from_in this.to_in (unrepeated p h unlisted))
     (λ e.
@@ -169,34 +170,34 @@ module _ (ids : List ℕ) (place : ℕ) (l : Lsa) where
       let inside = place_inside id ids (member_mem id ids (mem_keep (λ id. member id ids) (neighbours_of (all_of (links l.bytes))) k).1) in
       subst (λ (h : Half). (h.from.0 ≡ place) × (h.to.0 < length ids)) is (refl, inside)
 
-none_same : (g : Half) (hs : List Half) → ((h : Half) → Memᴰ h hs → T (same_half g h) → ⊥) → total (one (same_half g)) hs ≡ 0
-unfolding total one
+none_same : (g : Half) (hs : List Half) → ((h : Half) → Memᴰ h hs → T (same_half g h) → ⊥) → total (one_if (same_half g)) hs ≡ 0
+unfolding total one_if
 none_same g [] differ = refl
 none_same g (h ∷ hs) differ =
     let first = as_false (same_half g h) (differ h (Memᴰ.head refl)) in
     let others = none_same g hs (λ k m. differ k (Memᴰ.tail m)) in
     rw first (omega (arith, others))
 
-one_to : (g : Half) (hs : List Half) → Pairwise (λ h k. h.to.0 ≢ k.to.0) hs → total (one (same_half g)) hs ≤ 1
+one_to : (g : Half) (hs : List Half) → Pairwise (λ h k. h.to.0 ≢ k.to.0) hs → total (one_if (same_half g)) hs ≤ 1
 one_to g [] w = omega (arith, none_same g [] (λ h m. absurd (Memᴰ.not-nil m)))
 one_to g (h ∷ hs) (Pairwise.then differ w) = cases (truth (same_half g h)) (one_to g hs w)
   where
-    cases : T (same_half g h) ⊎ (T (same_half g h) → ⊥) → total (one (same_half g)) hs ≤ 1 → total (one (same_half g)) (h ∷ hs) ≤ 1
+    cases : T (same_half g h) ⊎ (T (same_half g h) → ⊥) → total (one_if (same_half g)) hs ≤ 1 → total (one_if (same_half g)) (h ∷ hs) ≤ 1
     cases (inl t) few =
         let others = none_same g hs (λ k m s. differ k m (sym (same_places g h t).1 ∙ (same_places g k s).1)) in
-        omega (arith, others, total_first (one (same_half g)) h hs, one_most (same_half g) h)
-    cases (inr o) few = omega (arith, few, total_first (one (same_half g)) h hs, one_none (same_half g) h o)
+        omega (arith, others, total_first (one_if (same_half g)) h hs, one_most (same_half g) h)
+    cases (inr o) few = omega (arith, few, total_first (one_if (same_half g)) h hs, one_none (same_half g) h o)
 
 -- so no half stands twice among those of all LSAs, as their places differ
 once_from : (g : Half) (ids : List ℕ) (place : ℕ) (ls : List Lsa) →
-    (total (one (same_half g)) (all_halves ids place ls) ≤ 1) × (g.from.0 < place → total (one (same_half g)) (all_halves ids place ls) ≡ 0)
+    (total (one_if (same_half g)) (all_halves ids place ls) ≤ 1) × (g.from.0 < place → total (one_if (same_half g)) (all_halves ids place ls) ≡ 0)
 unfolding all_halves total halves_at
 once_from g ids place [] = (omega arith, λ h. refl)
 once_from g ids place (l ∷ ls) =
     let here = halves_at ids place l in
     let (few, none-later) = once_from g ids (place + 1) ls in
-    let both = total_append (one (same_half g)) here (all_halves ids (place + 1) ls) in
-    let none_here : g.from.0 ≢ place → total (one (same_half g)) here ≡ 0 =
+    let both = total_append (one_if (same_half g)) here (all_halves ids (place + 1) ls) in
+    let none_here : g.from.0 ≢ place → total (one_if (same_half g)) here ≡ 0 =
     λ o. none_same g here (λ h m t. o ((same_places g h t).0 ∙ (between ids place l h m).0)) in
     let one-here = one_to g here (unfold halves_at in one_each ids place (all_of (links l.bytes))) in (
       cases (ℕ_discrete g.from.0 place) none_here none-later few one-here both,

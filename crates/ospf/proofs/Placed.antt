@@ -5,7 +5,7 @@ use mathlib.Core.Bool.{false}
 use mathlib.Core.List.{List, [], ◌∷◌, ◌++◌, map, Memᴰ}
 use mathlib.Core.Path.{◌≡◌, refl, ap, ap₂, subst}
 use native.Mathlib.Omega.{arith}
-use Rattle.stream_rules.specs.declared.Record.TheVariants as record_of
+use Rattle.stream_rules.specs.Record as record_of
 use Rattle.ospf_lsas.specs.Lsa.{malformed, Lsa, lsas}
 use Rattle.stream_rules.specs.Theorems.{four_at}
 use Rattle.ospf.specs.Import.{Placed, router_of, router_in, half_placed, halves_at, halves_in, placed_in}

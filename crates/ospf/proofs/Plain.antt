@@ -13,13 +13,13 @@ use lib.Seq.{length-take-le}
 use Rattle.network.specs.Lists.{any, member}
 use Rattle.network.proofs.Lists.{mem_take, mem_keep}
 use Rattle.topology_types.specs.declared.Half.{Half}
-use Rattle.stream_rules.specs.declared.Record.{Record}
-use Rattle.stream_rules.specs.declared.Record.TheVariants as record_of
+use Rattle.stream_rules.specs.Record.{Record}
+use Rattle.stream_rules.specs.Record as record_of
 use Rattle.stream_rules.specs.Halves.{StreamListing, halves}
 use Rattle.stream_rules.specs.Reading.{fault, router_fault_lem, repeated, crowded, halves_fault_lem, is_end, nothing_listed}
 use Rattle.stream_rules.specs.Theorems.{Bytes, two_at}
 use Rattle.stream_rules.proofs.Digits.{bytes_below}
-use Rattle.stream_rules.proofs.Fitting.{Fitting}
+use Rattle.stream_rules.specs.Inner.{Fitting}
 use Rattle.stream_rules.proofs.Kept.{Good, good_nothing, kept}
 use Rattle.ospf_lsas.specs.Lsa.{advertising_router, length_field, link_count, links, malformed, Lsa, lsas}
 use Rattle.ospf_halves.specs.Neighbours.{all_of, halves_of, half_to}
@@ -27,7 +27,7 @@ use Rattle.ospf_lsas.specs.Theorems.{Consecutive, end, faulty, next}
 use Rattle.ospf.specs.Import.{Placed, router_of, router_in, half_placed, halves_at, halves_in, placed_in}
 use Rattle.ospf.specs.Theorems.{Taken, nothing, one_more, AllWhole}
 use Rattle.ospf_lsas.proofs.Malformed.{cut}
-use Rattle.ospf_lsas.proofs.Lsas.{lsas_consecutive}
+use Rattle.ospf_lsas.proofs.InTurn.{lsas_consecutive}
 use Rattle.ospf_halves.proofs.Named.{neighbour_fits}
 
 pub data Plain : Record → Type 0 where

@@ -10,9 +10,9 @@ use native.Mathlib.Decide.{dec_lt}
 use native.Mathlib.Omega.{arith}
 use lib.Dec.{eqb}
 use lib.ListN.{length, length-map}
-use Rattle.topology_types.specs.declared.Answer.{Answer}
+use Rattle.topology_types.specs.Outcome.{Answer}
 use Rattle.topology_types.specs.Outcome.{answer}
-use Rattle.stream_rules.specs.declared.Reading.{Reading}
+use Rattle.stream_rules.specs.Reading.{Reading}
 use Rattle.stream_rules.specs.Halves.{StreamListing}
 use Rattle.stream_rules.specs.Reading.{refusal, accepted_reading, ended, nothing_listed}
 use Rattle.stream_rules.specs.Theorems.{Bytes, Read, EndFaults}
@@ -23,9 +23,9 @@ use Rattle.ospf_lsas.specs.Lsa.{malformed, wrong_sum, Lsa, lsas_from, lsas, firs
 use Rattle.ospf_lsas.specs.Theorems.{Consecutive, end, faulty, next, FirstFault, no_fault, here, later}
 use Rattle.ospf.specs.Import.{Placed, router_of, halves_in, placed_in, taken_to, at_last, importing}
 use Rattle.ospf.specs.Theorems.{Taken, AllWhole, SumsRight, FaultAt, AllTaken, ImportAnswers, ImportReturns, ImportSound}
-use Rattle.ospf_lsas.proofs.Lsas.{lsas_consecutive, points_at_first}
+use Rattle.ospf_lsas.proofs.InTurn.{lsas_consecutive, points_at_first}
 use Rattle.ospf_lsas.proofs.Ends.{points_within}
-use Rattle.ospf.specs.Inner.{all_taken}
+use Rattle.ospf.specs.Inner.{taken_in_turn}
 use Rattle.ospf.proofs.Steps.{by_26, by_27, by_turns}
 use Rattle.ospf.proofs.Turns.{all-taken, first_fault, Outcome, done, failed, outcome}
 use Rattle.ospf.proofs.Plain.{Plain, fault_most, taken_good, placed_plain}
@@ -52,7 +52,7 @@ module _ (file : List ℕ) where
   no_26 whole = omega (arith, (points_within file).none_malformed.1 whole)
 
   pub taken_turns : SumsRight file → importing file ≡ taken_to at_last nothing_listed all
-  unfolding all_taken
+  unfolding taken_in_turn
   taken_turns (whole, right) = sym (by_turns file (no_26 whole) (omega (arith, (points_within file).no_wrong_sum.1 right)))
 
   right_verdict : SumsRight file → Verdict

@@ -3,9 +3,9 @@
 -- Assumes nothing.
 use Rattle.std.specs.Prelude.{ℕ, ◌+◌, false, cond, List, [], ◌∷◌, ◌++◌, map, ltb, length}
 use Rattle.topology_types.specs.declared.Half.{Half}
-use Rattle.stream_rules.specs.declared.Reading.{Reading}
-use Rattle.stream_rules.specs.declared.Record.{Record}
-use Rattle.stream_rules.specs.declared.Record.TheVariants as record_of
+use Rattle.stream_rules.specs.Reading.{Reading}
+use Rattle.stream_rules.specs.Record.{Record}
+use Rattle.stream_rules.specs.Record as record_of
 use Rattle.stream_rules.specs.Halves.{StreamListing}
 use Rattle.stream_rules.specs.Reading.{refusal, fault, added, ended, unless, nothing_listed}
 use Rattle.ospf_lsas.specs.Lsa.{advertising_router, links, Lsa, lsas, first_malformed_lem, first_wrong_sum_lem}

@@ -1,29 +1,42 @@
 // The topology from router-LSAs (RFC 2328, A.4.2), one after another in a file (02, #106).
 #![tactic(auto)]
 
-pub mod unchecked;
-
 ghost use Rattle.std.specs.Prelude.{◌≡◌};
+ghost use Rattle.stream_rules.specs.Reading.{reading_of};
+ghost use Rattle.ospf_lsas.specs.Opened.{lsas_left};
 ghost use Rattle.ospf.specs.Import.{importing};
+ghost use Rattle.ospf.specs.Inner.{taken_in_turn};
 
-use stream::Reading;
-use stream::unchecked::refused;
+use ospf_lsas::Lsas;
+use stream::unchecked::Listing;
+use topology_types::{Fault, Place, Refusal, Topology};
+
+// The routers, LSA by LSA, and then the halves, LSA by LSA: refusals 3, 4, 6, 7, 9, 10 and 12.
+fn taken(lsas: Lsas) -> Result<Topology, Refusal>
+    ensures { reading_of result ≡ taken_in_turn (lsas_left lsas.entry) }
+{
+    let mut listing = Listing::new();
+    for lsa in lsas {
+        listing
+            .take_router(lsa.advertising_router())
+            .map_err(|fault| fault.at(lsa.at))?;
+    }
+    for (place, lsa) in lsas.enumerate() {
+        let given = ospf_halves::unchecked::given(lsa, Place(place as u8), listing.ids());
+        for half in given.as_slice() {
+            listing.take_half(*half).map_err(|fault| fault.at(lsa.at))?;
+        }
+    }
+    listing.ended(0, 1)
+}
 
 // Imports a file of router-LSAs: refusals 26, 27, 3, 4, 6, 7, 9, 10 and 12.
-pub fn import(file: &[u8]) -> Reading
-    ensures { result ≡ importing file.now }
+pub fn import(file: &[u8]) -> Result<Topology, Refusal>
+    ensures { reading_of result ≡ importing file.now }
 {
-    let malformed = ospf_lsas::unchecked::first_malformed(file);
-    if malformed < file.len() {
-        return refused(26, malformed);
+    let lsas = Lsas::of(file)?;
+    match lsas.first_wrong_sum() {
+        Some(at) => Err(Fault::WrongChecksum.at(at)),
+        None => taken(lsas),
     }
-    let wrong = ospf_lsas::unchecked::first_wrong_sum(file);
-    if wrong < file.len() {
-        return refused(27, wrong);
-    }
-    let routers = unchecked::routers_of(file);
-    if routers.answer.number != 0 {
-        return routers;
-    }
-    unchecked::with_halves(file, routers.topology)
 }

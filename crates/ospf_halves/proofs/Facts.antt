@@ -1,6 +1,6 @@
 -- The prover computes every fact from the definitions.
 -- Assumes nothing.
-use Rattle.network.specs.Lists.{keep, every, any, least_by, member, same_numbers}
+use Rattle.network.specs.Lists.{least_by, member, same_numbers}
 use Rattle.stream_rules.specs.Stream.{big_endian_on, big_endian}
 use Rattle.ospf_lsas.specs.Lsa.{advertising_router, length_field, link_count, link_in, link_length_lem, whole_link, link_before, links_in, links}
 use Rattle.ospf_lsas.specs.Facts.{lsa_1, lsa_2, lsa_3, lsa_4, bare}

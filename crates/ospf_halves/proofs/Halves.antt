@@ -1,17 +1,15 @@
 -- An ID stands at its place, so that neighbours in the file and the places of halves are one to one.
 -- Assumes nothing.
-use Prim.Native.Nat.{ℕ, zero, suc, ◌≤◌, ◌<◌}
+use Prim.Native.Nat.{ℕ, zero, suc, ◌<◌}
 use mathlib.Core.Bool.{Bool, true, false, cond}
 use mathlib.Core.List.{List, [], ◌∷◌, ◌++◌, map}
 use mathlib.Core.List.{Memᴰ}
 use mathlib.Core.Logic.{◌≢◌, ⊎_elim}
 use mathlib.Core.Path.{◌≡◌, refl, sym, ap, subst, ◌∙◌}
-use native.Mathlib.Decide.{dec_lt}
 use native.Mathlib.Omega.{arith}
 use borrow.Author.Tests.{eqb-true, eqb-false, eq-eqb, ne_eqb}
 use lib.Dec.{T, eqb, eqb→eq}
-use lib.ListN.{length, get_or, take}
-use lib.Seq.{length-take-le, get_or-take}
+use lib.ListN.{length, get_or}
 use Rattle.network.specs.Lists.{keep, member, Pairwise, nothing, then, Distinct}
 use Rattle.network.proofs.Lists.{mem_keep, keep_mem, pairwise_keep, pairwise_over, member_mem, mem_member}
 use Rattle.network.proofs.Selection.{get_d_mem}
@@ -57,7 +55,7 @@ before_place id (i ∷ ids) (suc p) h e = step (eqb id i) h (λ k. before_place 
     step false h rest = rest (omega arith)
 
 -- the first place at which it stands is its place
-pub first_place : (id : ℕ) (ids : List ℕ) (place : ℕ) → place < length ids → get_or ids place 0 ≡ id → ((p : ℕ) → p < place → get_or ids p 0 ≢ id) →
+first_place : (id : ℕ) (ids : List ℕ) (place : ℕ) → place < length ids → get_or ids place 0 ≡ id → ((p : ℕ) → p < place → get_or ids p 0 ≢ id) →
     place_of id ids ≡ place
 unfolding place_of
 first_place id [] place h e none = absurd (omega arith)
@@ -66,7 +64,7 @@ first_place id (i ∷ ids) (suc place) h e none =
     rw (ne_eqb id i (λ q. none 0 (omega arith) (sym q)))
     (ap (λ (p : ℕ). suc p) (first_place id ids place (omega arith) e (λ p k. none (suc p) (omega arith))))
 
-missing : (id : ℕ) (ids : List ℕ) → (Memᴰ id ids → ⊥) → place_of id ids ≡ length ids
+pub missing : (id : ℕ) (ids : List ℕ) → (Memᴰ id ids → ⊥) → place_of id ids ≡ length ids
 unfolding place_of
 missing id [] none = refl
 missing id (i ∷ ids) none =
@@ -90,28 +88,8 @@ places_each id ids =
     found place h e =
         (ap (λ (p : ℕ). get_or ids p 0) (sym e) ∙ place_is id ids (listed (omega arith)), λ p k. before_place id ids p (omega arith))
 
--- a walk over the first n IDs stops at the first place, or at n
-pub stopped : (ids : List ℕ) (n id i : ℕ) → n ≤ length ids → i ≤ n → ((p : ℕ) → p < i → get_or ids p 0 ≢ id) → (i < n → get_or ids i 0 ≡ id) →
-    i ≡ place_of id (take n ids)
-stopped ids n id i fits h none here = step (dec_lt i n)
-  where
-    long : length (take n ids) ≡ n
-    long = length-take-le n ids fits
-
-    step : Dec (i < n) → i ≡ place_of id (take n ids)
-    step (yes k) =
-        sym (first_place id (take n ids) i (omega (arith, long)) (get_or-take n ids i 0 k ∙ here k)
-        (λ p l e. none p l (sym (get_or-take n ids p 0 (omega arith)) ∙ e)))
-    step (no k) =
-        let gone : place_of id (take n ids) ≡ length (take n ids) =
-        missing id (take n ids)
-        (λ m.
-        let inside = place_inside id (take n ids) m in
-        none (place_of id (take n ids)) (omega (arith, long)) (sym (get_or-take n ids _ 0 (omega (arith, long))) ∙ place_is id (take n ids) m)) in
-        omega (arith, long)
-
 -- where IDs differ, the place of what stands at a place is that place
-pub place_at : (ids : List ℕ) (place : ℕ) → Distinct ids → place < length ids → place_of (get_or ids place 0) ids ≡ place
+place_at : (ids : List ℕ) (place : ℕ) → Distinct ids → place < length ids → place_of (get_or ids place 0) ids ≡ place
 unfolding place_of
 place_at [] place d h = absurd (omega arith)
 place_at (i ∷ ids) zero d h = rw (eq-eqb i i refl)

@@ -1,6 +1,5 @@
 pub mod Facts
 pub mod Neighbours
 pub mod Halves
-pub mod Lowest
 pub mod Named
 pub mod Given

@@ -1,25 +1,19 @@
--- A metric of two bytes is below 65,536, so that a router is a neighbour if and only if the lowest metric to it is.
+-- A metric of two bytes is below 65,536, so that the lowest metric to a neighbour is.
 -- Assumes nothing.
 use Prim.Native.Nat.{ℕ, ◌<◌}
-use mathlib.Core.Bool.{Bool, true, false}
 use mathlib.Core.List.Memᴰ
 use mathlib.Core.List.{List, Memᴰ}
 use mathlib.Core.Option.{Option, none, some}
-use mathlib.Core.Path.{◌≡◌, refl, sym, subst, ◌∙◌}
+use mathlib.Core.Path.{◌≡◌, refl}
 use native.Mathlib.Omega.{arith}
-use borrow.Author.Tests.{ltb-true, lt-ltb}
-use lib.Dec.{T, ltb}
 use lib.ListN.{get_or}
-use Rattle.network.specs.Lists.{member}
-use Rattle.network.proofs.Lists.{member_mem, mem_member}
-use Rattle.network.proofs.Tests.{as_true, as_false}
 use Rattle.ospf_lsas.specs.Lsa.{RouterLink, links_in}
 use Rattle.ospf_halves.specs.Neighbours.{all_of, point_to_point, lowest_to_lem, neighbours_of}
 use Rattle.ospf_halves.specs.Theorems.{AllOf}
 use Rattle.ospf_lsas.proofs.Links.{metrics}
 use Rattle.ospf_lsas.proofs.Malformed.{links_of}
-use Rattle.ospf_halves.proofs.Neighbours.{lowest_each, lowest_of}
-use Rattle.ospf_halves.proofs.Halves.{neighbour_of, of_neighbour, typed, untyped}
+use Rattle.ospf_halves.proofs.Neighbours.{lowest_each}
+use Rattle.ospf_halves.proofs.Halves.{neighbour_of, typed}
 
 pub all-of : AllOf
 unfolding all_of
@@ -38,23 +32,6 @@ module _ (id : ℕ) (ls : List RouterLink) (two-bytes : (l : RouterLink) → Mem
   lower m =
       let (l, n, t, e) = neighbour_of ls id m in
       omega (arith, lowest_each id (point_to_point ls) l (typed ls l n t) e, two-bytes l n)
-
-  named : lowest_to_lem id (point_to_point ls) < 65536 → Memᴰ id (neighbours_of ls)
-  named h =
-      let (l, m, e, is) = (lowest_of id (point_to_point ls) h).attained in
-      let (n, t) = untyped ls l m in
-      subst (λ (v : ℕ). Memᴰ v (neighbours_of ls)) e (of_neighbour ls l n t)
-
-  by_lowest : ltb (lowest_to_lem id (point_to_point ls)) 65536 ≡ member id (neighbours_of ls)
-  by_lowest = cases (member id (neighbours_of ls)) refl
-    where
-      cases : (b : Bool) → member id (neighbours_of ls) ≡ b → ltb (lowest_to_lem id (point_to_point ls)) 65536 ≡ member id (neighbours_of ls)
-      cases true e = lt-ltb _ _ (lower (member_mem id (neighbours_of ls) (subst T (sym e) tt))) ∙ sym e
-      cases false e = as_false _ (λ t. subst T e (mem_member id (neighbours_of ls) (named (ltb-true _ _ (as_true _ t))))) ∙ sym e
-
-pub is_neighbour : (n : ℕ) (s : List ℕ) (id : ℕ) → ((i : ℕ) → get_or s i 0 < 256) →
-    ltb (lowest_to_lem id (point_to_point (all_of (links_in n s)))) 65536 ≡ member id (neighbours_of (all_of (links_in n s)))
-is_neighbour n s id bytes = by_lowest id (all_of (links_in n s)) (all_fit n s bytes)
 
 pub neighbour_fits : (n : ℕ) (s : List ℕ) (id : ℕ) → ((i : ℕ) → get_or s i 0 < 256) → Memᴰ id (neighbours_of (all_of (links_in n s))) →
     lowest_to_lem id (point_to_point (all_of (links_in n s))) < 65536

@@ -11,7 +11,7 @@ use native.Mathlib.Nat.{le_antisymm}
 use native.Mathlib.Omega.{arith}
 use borrow.Author.Tests.{eqb-true, eq-eqb, ne_eqb}
 use lib.Dec.{T, eqb, eqb→eq}
-use Rattle.network.specs.Lists.{keep, member, any, nothing, then, Distinct}
+use Rattle.network.specs.Lists.{keep, member, nothing, then, Distinct}
 use Rattle.network.proofs.Least.{least_each, least_from}
 use Rattle.network.proofs.Lists.{mem_keep, keep_mem, pairwise_keep, member_mem, mem_member}
 use Rattle.network.proofs.Tests.{as_true, as_false, eq_test}

@@ -1,15 +1,11 @@
 -- The neighbours of a router by its links, and the halves that they give (02, #106; RFC 2328, A.4.2).
 -- Assumes nothing.
 use Rattle.std.specs.Prelude.{ℕ, suc, cond, not, List, [], ◌∷◌, map, eqb}
-use Rattle.std.proofs.Math.Option.{Option, none, some}
 use Rattle.network.specs.Lists.{keep, least_by, member}
 use Rattle.topology_types.specs.declared.Half.{Half}
 use Rattle.ospf_lsas.specs.Lsa.{RouterLink}
-
--- the links that bytes were read as, none if they were not
-unfoldable pub all_of : Option (List RouterLink) → List RouterLink
-all_of none = []
-all_of (some ls) = ls
+-- handed on: the links that bytes were read as
+unfoldable pub use Rattle.ospf_lsas.specs.Lsa.{all_of}
 
 -- A.4.2, type 1: a point-to-point connection to another router, whose Router ID is the Link ID. 02, #106: other links are skipped.
 unfoldable pub point_to_point : List RouterLink → List RouterLink

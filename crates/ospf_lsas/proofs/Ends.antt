@@ -5,6 +5,9 @@ use mathlib.Core.Bool.{Bool, true, false, cond}
 use mathlib.Core.List.Memᴰ
 use mathlib.Core.List.{List, [], ◌∷◌, Memᴰ}
 use mathlib.Core.Logic.{◌⊎◌, ⊎_elim}
+use Rattle.std.proofs.Common.{Some, None}
+use Rattle.std.specs.Option.{option_map}
+use Rattle.std.specs.List.{find}
 use mathlib.Core.Path.{◌≡◌, refl, ap}
 use native.Mathlib.Omega.{arith}
 use lib.ListN.{length, length-drop}
@@ -12,7 +15,7 @@ use Rattle.ospf_lsas.specs.Lsa.{malformed, wrong_sum, Lsa, lsas, first_at, first
 use Rattle.stream_rules.specs.Theorems.{two_at}
 use Rattle.ospf_lsas.specs.Theorems.{Consecutive, end, faulty, next, PointsWithin}
 use Rattle.ospf_lsas.proofs.Malformed.{well_formed}
-use Rattle.ospf_lsas.proofs.Lsas.{lsas_consecutive}
+use Rattle.ospf_lsas.proofs.InTurn.{lsas_consecutive}
 
 begins : {at : ℕ} {s : List ℕ} {ls : List Lsa} → Consecutive at s ls → (l : Lsa) → Memᴰ l ls → l.at < at + length s
 begins end l m = absurd (Memᴰ.not-nil m)
@@ -50,11 +53,48 @@ module _ (test : List ℕ → Bool) (size : ℕ) where
       go true w = omega (arith, h l (Memᴰ.head refl))
       go false w = w
 
+  -- where a search for the first that has the fault ends
+  first_found : (ls : List Lsa) → ((l : Lsa) → Memᴰ l ls → l.at < size) → (at : ℕ) →
+      Some at ≡ option_map (λ (l : Lsa). l.at) (find (λ (l : Lsa). test l.bytes) ls) → (first_at test size ls ≡ at) × (at < size)
+  unfolding first_at
+  first_found [] h at e = cc
+  first_found (l ∷ ls) h at e = go (test l.bytes) (first_found ls (λ k m. h k (Memᴰ.tail m)) at) e
+    where
+      go : (b : Bool) →
+          (Some at ≡ option_map (λ (l : Lsa). l.at) (find (λ (l : Lsa). test l.bytes) ls) → (first_at test size ls ≡ at) × (at < size)) →
+          Some at ≡ option_map (λ (l : Lsa). l.at) (cond b (Some l) (find (λ (l : Lsa). test l.bytes) ls)) →
+          (cond b l.at (first_at test size ls) ≡ at) × (at < size)
+      go true rest e = let is : l.at ≡ at = cc in (is, omega (arith, is, h l (Memᴰ.head refl)))
+      go false rest e = rest e
+
+  nowhere : (ls : List Lsa) → None ≡ option_map (λ (l : Lsa). l.at) (find (λ (l : Lsa). test l.bytes) ls) → first_at test size ls ≡ size
+  unfolding first_at
+  nowhere [] e = refl
+  nowhere (l ∷ ls) e = go (test l.bytes) (nowhere ls) e
+    where
+      go : (b : Bool) → (None ≡ option_map (λ (l : Lsa). l.at) (find (λ (l : Lsa). test l.bytes) ls) → first_at test size ls ≡ size) →
+          None ≡ option_map (λ (l : Lsa). l.at) (cond b (Some l) (find (λ (l : Lsa). test l.bytes) ls)) → cond b l.at (first_at test size ls) ≡ size
+      go true rest e = cc
+      go false rest e = rest e
+
+below_size : (file : List ℕ) (l : Lsa) → Memᴰ l (lsas file) → l.at < length file
+below_size file l m = omega (arith, begins (lsas_consecutive file) l m)
+
+pub wrong_at : (file : List ℕ) (at : ℕ) → Some at ≡ option_map (λ (l : Lsa). l.at) (find (λ (l : Lsa). wrong_sum l.bytes) (lsas file)) →
+    (first_wrong_sum_lem file ≡ at) × (at < length file)
+unfolding first_wrong_sum_lem
+wrong_at file = first_found wrong_sum (length file) (lsas file) (below_size file)
+
+pub wrong_nowhere : (file : List ℕ) → None ≡ option_map (λ (l : Lsa). l.at) (find (λ (l : Lsa). wrong_sum l.bytes) (lsas file)) →
+    first_wrong_sum_lem file ≡ length file
+unfolding first_wrong_sum_lem
+wrong_nowhere file = nowhere wrong_sum (length file) (lsas file)
+
 pub points_within : PointsWithin
 unfolding first_malformed_lem first_wrong_sum_lem
 points_within file =
     let size = length file in
-    let below : (l : Lsa) → Memᴰ l (lsas file) → l.at < size = λ l m. omega (arith, begins (lsas_consecutive file) l m) in
+    let below = below_size file in
     record {
       none_malformed = (has_none malformed size (lsas file) below, none_has malformed size (lsas file));
       no_wrong_sum = (has_none wrong_sum size (lsas file) below, none_has wrong_sum size (lsas file));

@@ -4,7 +4,8 @@ use Prim.Native.Nat.{ℕ, ◌≤◌}
 use mathlib.Core.List.{List}
 use mathlib.Core.Path.{◌≡◌, refl}
 use native.Mathlib.Omega.{arith}
-use lib.ListN.{length, get_or}
+use lib.ListN.{length, get_or, take}
+use Rattle.stream_rules.specs.Stream.{big_endian}
 use Rattle.stream_rules.proofs.Stream.{two-at, four-at}
 use Rattle.ospf_lsas.specs.Lsa.{ls_type, advertising_router, checksum, length_field, link_count, link_in}
 use Rattle.stream_rules.specs.Theorems.{two_at, four_at}
@@ -24,3 +25,8 @@ fields_each s h =
 pub link_is : (s : List ℕ) → 12 ≤ length s → link_in s ≡ record { id = four_at s 0; kind = get_or s 8 0; metric = two_at s 10 }
 unfolding link_in
 link_is s h = rw (four-at s 0 (omega arith), two-at s 10 (omega arith))
+
+-- the same with the Link ID as its bytes are read
+pub link_reads : (s : List ℕ) → 12 ≤ length s → link_in s ≡ record { id = big_endian (take 4 s); kind = get_or s 8 0; metric = two_at s 10 }
+unfolding link_in
+link_reads s h = rw (two-at s 10 (omega arith)) refl

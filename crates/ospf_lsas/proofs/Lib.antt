@@ -3,6 +3,7 @@ pub mod Fields
 pub mod Links
 pub mod Sums
 pub mod Malformed
-pub mod Lsas
+pub mod InTurn
+pub mod HandedOn
 pub mod Walk
 pub mod Ends

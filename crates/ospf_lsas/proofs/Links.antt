@@ -1,24 +1,26 @@
 -- Links are taken from the front, one at a time, each as wide as its number of TOS says; none may be left over.
 -- Assumes nothing.
 use Prim.Native.Nat.{ℕ, zero, suc, ◌+◌, ◌-◌, ◌*◌, ◌≤◌, ◌<◌}
-use mathlib.Core.Bool.{Bool, true, false, cond, ◌&&◌}
+use mathlib.Core.Bool.{Bool, true, false, cond, ◌&&◌, false≢true}
 use mathlib.Core.List.Memᴰ
 use mathlib.Core.List.{List, [], ◌∷◌, Memᴰ}
 use mathlib.Core.Logic.{⊎_elim}
 use mathlib.Core.Option.{Option, none, some, none-ne-some, some-injective}
+use Rattle.std.proofs.Common.{Some, None}
 use mathlib.Core.Path.{◌≡◌, refl, sym, ap, subst, ◌∙◌}
-use native.Mathlib.Decide.{dec_lt}
 use native.Mathlib.Numerals.{sub-one}
 use native.Mathlib.Omega.{arith}
-use borrow.Author.Tests.{leb-true, le-leb, eq-eqb, ne_eqb}
+use borrow.Author.Tests.{leb-true, le-leb, ne_eqb}
 use lib.Dec.{eqb}
-use lib.ListN.{length, get_or, drop, length-drop}
-use lib.Seq.{get_or-drop, drop-drop}
-use Rattle.ospf_lsas.specs.Lsa.{RouterLink, link_in, link_length_lem, whole_link, link_before, links_in, some?}
+use lib.ListN.{length, get_or, take, drop}
+use Rattle.stream_rules.specs.Stream.{big_endian}
+use lib.Seq.{get_or-drop}
+use Rattle.ospf_lsas.specs.Lsa.{RouterLink, link_in, link_length_lem, whole_link, link_before, links_in, some?, all_of}
+use Rattle.stream_rules.specs.Theorems.{two_at}
 use Rattle.ospf_lsas.specs.Theorems.{Links, no-link, link, LinksListed, Metrics}
-use Rattle.ospf_lsas.proofs.Fields.{link_is}
+use Rattle.ospf_lsas.proofs.Fields.{link_is, link_reads}
 
-both : (a b : Bool) → (a && b) ≡ true → (a ≡ true) × (b ≡ true)
+pub both : (a b : Bool) → (a && b) ≡ true → (a ≡ true) × (b ≡ true)
 both true b e = (refl, e)
 both false b e = absurd (let z : ◌≡◌ {A = ℕ} 0 1 = cc in omega arith)
 
@@ -77,73 +79,80 @@ metric_fits (link s fits least most rest) bytes l m =
 pub metrics : Metrics
 metrics n s bytes ls e = metric_fits ((links_listed n s ls).0 e) bytes
 
--- a whole link begins at an offset, by the bytes there
-pub record Here (s : List ℕ) (at : ℕ) : Type 0 where
-  pub fits : 12 + 4 * get_or s (at + 9) 0 ≤ length s - at
-  pub least : 1 ≤ get_or s (at + 8) 0
-  pub most : get_or s (at + 8) 0 ≤ 4
-
-module _ (s : List ℕ) (at : ℕ) where
-  to_whole : Here s at → Whole (drop at s)
-  to_whole h =
-      record {
-        fits = rw (get_or-drop at s 9 0, length-drop at s) h.fits;
-        least = rw (get_or-drop at s 8 0) h.least;
-        most = rw (get_or-drop at s 8 0) h.most;
-      }
-
-  pub from_whole : Whole (drop at s) → Here s at
-  from_whole w =
-      record {
-        fits = rw (get_or-drop at s 9 0, length-drop at s) at w.fits;
-        least = rw (get_or-drop at s 8 0) at w.least;
-        most = rw (get_or-drop at s 8 0) at w.most;
-      }
-
-  -- so many links begin there: the first of them, and the others after it
-  one_more : (n : ℕ) → 0 < n → Here s at → some? (links_in n (drop at s)) ≡ some? (links_in (n - 1) (drop (at + (12 + 4 * get_or s (at + 9) 0)) s))
-  unfolding links_in link_length_lem link_before some?
-  one_more zero more h = absurd (omega arith)
-  one_more (suc n) more h =
-      rw (whole_is (drop at s) (to_whole h), get_or-drop at s 9 0, drop-drop (12 + 4 * get_or s (at + 9) 0) at s, sub-one (suc n))
-      (kept (links_in n (drop (at + (12 + 4 * get_or s (at + 9) 0)) s)))
+-- so many links are the first of them and the others behind it
+module _ (n : ℕ) (s : List ℕ) where
+  pub one_more : whole_link s ≡ true → some? (links_in (suc n) s) ≡ some? (links_in n (drop (link_length_lem s) s))
+  unfolding links_in link_before some?
+  one_more e = rw e (kept (links_in n (drop (link_length_lem s) s)))
     where
-      kept : (o : Option (List RouterLink)) → some? (link_before (link_in (drop at s)) o) ≡ some? o
+      kept : (o : Option (List RouterLink)) → some? (link_before (link_in s) o) ≡ some? o
       kept none = refl
       kept (some ls) = refl
 
-  no_more : (n : ℕ) → 0 < n → (Here s at → ⊥) → some? (links_in n (drop at s)) ≡ false
+  pub no_more : whole_link s ≡ false → some? (links_in (suc n) s) ≡ false
   unfolding links_in some?
-  no_more zero more h = absurd (omega arith)
-  no_more (suc n) more h = rw (not_whole (whole_link (drop at s)) refl)
-    where
-      not_whole : (b : Bool) → whole_link (drop at s) ≡ b → whole_link (drop at s) ≡ false
-      not_whole false e = e
-      not_whole true e = absurd (h (from_whole (whole_says (drop at s) e)))
+  no_more e = rw e refl
 
-none_left : (s : List ℕ) → some? (links_in 0 s) ≡ eqb (length s) 0
+-- the link that is handed on, and those behind it
+pub record Next (left : ℕ) (s : List ℕ) : Type 0 where
+  pub whole : Whole s
+  pub others : some? (links_in (left - 1) (drop (12 + 4 * get_or s 9 0) s)) ≡ true
+  pub front : all_of (links_in left s)
+      ≡ record { id = big_endian (take 4 s); kind = get_or s 8 0; metric = two_at s 10 } ∷ all_of (links_in (left - 1) (drop (12 + 4 * get_or s 9 0) s))
+
+pub next_link : (left : ℕ) (s : List ℕ) → (left ≡ 0 → ⊥) → some? (links_in left s) ≡ true → Next left s
+unfolding links_in link_before some? all_of link_length_lem
+next_link zero s h t = absurd (h refl)
+next_link (suc n) s h t =
+    let (w, others, front) = go (whole_link s) refl (links_in n (drop (link_length_lem s) s)) t in
+    let whole = whole_says s w in
+    record {
+      whole = whole;
+      others = rw (sub-one (suc n)) others;
+      front = rw (sub-one (suc n), ← link_reads s (omega (arith, whole.fits))) front;
+    }
+  where
+    go : (b : Bool) → whole_link s ≡ b → (o : Option (List RouterLink)) → some? (cond b (link_before (link_in s) o) none) ≡ true →
+        (whole_link s ≡ true) × (some? o ≡ true) × (all_of (cond b (link_before (link_in s) o) none) ≡ link_in s ∷ all_of o)
+    go false e o t = absurd (false≢true t)
+    go true e none t = absurd (false≢true t)
+    go true e (some ls) t = (e, refl, refl)
+
+pub no_links : (s : List ℕ) → all_of (links_in 0 s) ≡ []
+unfolding links_in all_of
+no_links [] = refl
+no_links (b ∷ s) = refl
+
+pub none_left : (s : List ℕ) → some? (links_in 0 s) ≡ eqb (length s) 0
 unfolding links_in some?
 none_left [] = refl
 none_left (b ∷ s) = sym (ne_eqb (suc (length s)) 0 (λ e. omega arith))
 
--- the bytes are as many links as a number says if and only if those from an offset on are as many as are left
-pub record Left (s : List ℕ) (number at left : ℕ) : Type 0 where
-  pub inside : at ≤ length s
-  pub rest : some? (links_in left (drop at s)) ≡ some? (links_in number s)
+-- the length of a link, by whether it is whole
+module _ (s : List ℕ) where
+  pub is_link : Whole s → Some (12 + 4 * get_or s 9 0) ≡ cond (whole_link s) (Some (link_length_lem s)) None
+  unfolding link_length_lem
+  is_link w = rw (whole_is s w) refl
 
-module _ {s : List ℕ} {number at left : ℕ} (l : Left s number at left) where
-  pub taken : 0 < left → Here s at → Left s number (at + (12 + 4 * get_or s (at + 9) 0)) (left - 1)
-  taken more h =
-      record { inside = omega (arith, l.inside, h.fits); rest = sym (one_more s at left more h) ∙ l.rest }
-
-  pub refused : 0 < left → (Here s at → ⊥) → false ≡ some? (links_in number s)
-  refused more h = sym (no_more s at left more h) ∙ l.rest
-
-  pub ended : left ≡ 0 → eqb at (length s) ≡ some? (links_in number s)
-  ended last = same (dec_lt at (length s)) ∙ sym (none_left (drop at s)) ∙ rw last at l.rest
+  pub no_link : (Whole s → ⊥) → None ≡ cond (whole_link s) (Some (link_length_lem s)) None
+  no_link h = go (whole_link s) refl
     where
-      same : Dec (at < length s) → eqb at (length s) ≡ eqb (length (drop at s)) 0
-      same (yes h) =
-          ne_eqb at (length s) (λ e. omega arith) ∙ sym (ne_eqb (length (drop at s)) 0 (λ e. omega (arith, length-drop at s)))
-      same (no h) =
-          eq-eqb at (length s) (omega (arith, l.inside)) ∙ sym (eq-eqb (length (drop at s)) 0 (omega (arith, length-drop at s)))
+      go : (b : Bool) → whole_link s ≡ b → None ≡ cond b (Some (link_length_lem s)) None
+      go true e = absurd (h (whole_says s e))
+      go false e = refl
+
+  -- and what the length says of it
+  pub link_there : (n : ℕ) → Some n ≡ cond (whole_link s) (Some (link_length_lem s)) None → (whole_link s ≡ true) × (n ≡ link_length_lem s) × (n ≤ length s)
+  unfolding link_length_lem
+  link_there n e = go (whole_link s) refl e
+    where
+      go : (b : Bool) → whole_link s ≡ b → Some n ≡ cond b (Some (link_length_lem s)) None → (whole_link s ≡ true) × (n ≡ link_length_lem s) × (n ≤ length s)
+      go true w h = let is : n ≡ 12 + 4 * get_or s 9 0 = cc in (w, is, omega (arith, (whole_says s w).fits))
+      go false w h = cc
+
+  pub none_there : None ≡ cond (whole_link s) (Some (link_length_lem s)) None → whole_link s ≡ false
+  none_there e = go (whole_link s) refl e
+    where
+      go : (b : Bool) → whole_link s ≡ b → None ≡ cond b (Some (link_length_lem s)) None → whole_link s ≡ false
+      go true w h = cc
+      go false w h = w

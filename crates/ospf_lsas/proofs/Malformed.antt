@@ -5,6 +5,7 @@ use mathlib.Core.Bool.{Bool, true, false, cond, not, ◌||◌}
 use mathlib.Core.List.{List, [], ◌∷◌}
 use mathlib.Core.Logic.{◌≢◌}
 use mathlib.Core.Option.{Option, none, some}
+use Rattle.std.proofs.Common.{Some, None}
 use mathlib.Core.Path.{◌≡◌, refl, sym, ap, ◌∙◌}
 use native.Mathlib.Nat.{sub-zero, zero-sub}
 use native.Mathlib.Omega.{arith}
@@ -133,11 +134,14 @@ cut s e =
       own = rw long (is_well (take (two_at s 18) s) ls (alone s ls r));
     }
 
+pub enough : (s : List ℕ) → malformed s ≡ false → 24 ≤ length s
+enough s e = let c = cut s e in omega (arith, c.begun, c.fits)
+
 -- what `length_of` answers where an LSA is malformed, and where it is not
-pub refuses : (s : List ℕ) → malformed s ≡ true → 0 ≡ cond (malformed s) 0 (length_field s)
+pub refuses : (s : List ℕ) → malformed s ≡ true → None ≡ cond (malformed s) None (Some (length_field s))
 refuses s e = rw e
 
-pub drop_take : (m n : ℕ) (l : List ℕ) → drop m (take n l) ≡ take (n - m) (drop m l)
+drop_take : (m n : ℕ) (l : List ℕ) → drop m (take n l) ≡ take (n - m) (drop m l)
 drop_take zero n l = rw (sub-zero n)
 drop_take (suc m) zero l = rw (zero-sub (suc m))
 drop_take (suc m) (suc n) [] = sym (take-nil (suc n - suc m))
@@ -150,5 +154,24 @@ module _ (s : List ℕ) (enough : 24 ≤ length s) (whole : two_at s 18 ≤ leng
   pub no_links : some? (links_in (two_at s 22) (take (two_at s 18 - 24) (drop 24 s))) ≡ false → malformed s ≡ true
   no_links e = rw e at by_part
 
-  pub answers : some? (links_in (two_at s 22) (take (two_at s 18 - 24) (drop 24 s))) ≡ true → two_at s 18 ≡ cond (malformed s) 0 (length_field s)
-  answers e = rw (rw e at by_part) (sym (fields_each s enough).ls_length)
+  pub answers : some? (links_in (two_at s 22) (take (two_at s 18 - 24) (drop 24 s))) ≡ true → Some (two_at s 18) ≡ cond (malformed s) None (Some (length_field s))
+  answers e = rw (rw e at by_part) (ap Some (sym (fields_each s enough).ls_length))
+
+-- the links of an LSA that is not malformed, by its bytes
+pub record Body (s : List ℕ) : Type 0 where
+  pub begun : 24 ≤ two_at s 18
+  pub whole : two_at s 18 ≤ length s
+  pub are : some? (links_in (two_at s 22) (take (two_at s 18 - 24) (drop 24 s))) ≡ true
+  pub is : links_in (two_at s 22) (take (two_at s 18 - 24) (drop 24 s)) ≡ links s
+
+pub body : (s : List ℕ) → malformed s ≡ false → Body s
+unfolding some?
+body s e =
+    let (ls, r) = (well_formed s).0 e in
+    let part = drop_take 24 (two_at s 18) s in
+    record {
+      begun = r.begun;
+      whole = r.whole;
+      are = rw (sym part, (links_listed (two_at s 22) (drop 24 (take (two_at s 18) s)) ls).1 r.matching) refl;
+      is = sym (rw part at (links_by s (omega (arith, r.begun, r.whole))));
+    }

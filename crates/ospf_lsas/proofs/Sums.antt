@@ -1,7 +1,7 @@
 -- An octet more at the end counts once in C0, and C0 with it once more in C1, by induction on the octets before it; remainders may be taken at each.
 -- Assumes nothing.
 use Prim.Native.Nat.{ℕ, ◌+◌, ◌%◌, ◌≤◌, ◌<◌}
-use mathlib.Core.Bool.{true, not}
+use mathlib.Core.Bool.{Bool, true, false, not, ◌&&◌, ◌||◌}
 use mathlib.Core.List.{List, [], ◌∷◌, ◌++◌}
 use mathlib.Core.Logic.{◌≢◌}
 use mathlib.Core.Path.{◌≡◌, refl, ap, ◌∙◌}
@@ -10,8 +10,8 @@ use native.Mathlib.Numerals.{add-one}
 use native.Mathlib.Omega.{arith}
 use borrow.Author.Tests.{eqb-true, eqb-false, eq-eqb, ne_eqb, not-false}
 use lib.Dec.{eqb}
-use lib.ListN.{length, get_or, take, drop, length-append, drop_of_length-le}
-use lib.Seq.{length-take-le, take_all, take-suc, drop-append-le}
+use lib.ListN.{length, get_or, take, drop, length-append}
+use lib.Seq.{take-suc}
 use Rattle.stream_rules.proofs.Stream.{two-at}
 use Rattle.ospf_lsas.specs.Lsa.{checksum, c0, c1, wrong_sum}
 use Rattle.stream_rules.specs.Theorems.{two_at}
@@ -34,43 +34,26 @@ pub sums : Sums
 unfolding c0 c1
 sums = record { c0_none = refl; c1_none = refl; c0_next = c0_next; c1_next = c1_next }
 
--- the remainders of both sums over the octets from 2 to i
+-- the remainders of both sums over the first octets
 pub record Summed (s : List ℕ) (i r0 r1 : ℕ) : Type 0 where
-  pub begun : 2 ≤ i
-  pub inside : i ≤ length s
-  pub sum_0 : r0 ≡ c0 (drop 2 (take i s)) % 255
-  pub sum_1 : r1 ≡ c1 (drop 2 (take i s)) % 255
+  pub sum_0 : r0 ≡ c0 (take i s) % 255
+  pub sum_1 : r1 ≡ c1 (take i s) % 255
 
 module _ (s : List ℕ) where
-  pub at_first : 2 ≤ length s → Summed s 2 0 0
+  pub of_none : Summed s 0 0 0
   unfolding c0 c1
-  at_first h =
-      let none = drop_of_length-le (take 2 s) {i = 2} (omega (arith, length-take-le 2 s h)) in
-      record { begun = omega arith; inside = h; sum_0 = rw none; sum_1 = rw none }
+  of_none = record { sum_0 = refl; sum_1 = refl }
 
-  module _ (i r0 r1 : ℕ) (so : Summed s i r0 r1) where
-    octet_more : i < length s → drop 2 (take (i + 1) s) ≡ drop 2 (take i s) ++ (get_or s i 0 ∷ [])
-    octet_more h =
-        rw (add-one, take-suc s i 0 h, drop-append-le 2 (take i s) (get_or s i 0 ∷ []) (omega (arith, length-take-le i s so.inside, so.begun)))
-
-    pub octet_added : i < length s → Summed s (i + 1) ((r0 + get_or s i 0) % 255) ((r1 + (r0 + get_or s i 0) % 255) % 255)
-    octet_added h =
-        let before = drop 2 (take i s) in
-        let zero-sum = c0_next before (get_or s i 0) in
-        let one-sum = c1_next before (get_or s i 0) in
-        record {
-          begun = omega (arith, so.begun);
-          inside = omega arith;
-          sum_0 = rw (octet_more h) (omega (arith, zero-sum, so.sum_0));
-          sum_1 = rw (octet_more h) (omega (arith, zero-sum, one-sum, so.sum_0, so.sum_1));
-        }
-
-    module _ (e : length s ≤ i) where
-      pub whole_0 : r0 ≡ c0 (drop 2 s) % 255
-      whole_0 = rw (take_all i s e) at so.sum_0
-
-      pub whole_1 : r1 ≡ c1 (drop 2 s) % 255
-      whole_1 = rw (take_all i s e) at so.sum_1
+  pub octet_added : {i r0 r1 : ℕ} → Summed s i r0 r1 → i < length s →
+      Summed s (i + 1) ((r0 + get_or s i 0) % 255) ((r1 + (r0 + get_or s i 0) % 255) % 255)
+  octet_added {i} so h =
+      let before = take i s in
+      let zero-sum = c0_next before (get_or s i 0) in
+      let one-sum = c1_next before (get_or s i 0) in
+      record {
+        sum_0 = rw (add-one, take-suc s i 0 h) (omega (arith, zero-sum, so.sum_0));
+        sum_1 = rw (add-one, take-suc s i 0 h) (omega (arith, zero-sum, one-sum, so.sum_0, so.sum_1));
+      }
 
 -- the tests of 27 in their order
 module _ (s : List ℕ) (h : 18 ≤ length s) where
@@ -83,13 +66,17 @@ module _ (s : List ℕ) (h : 18 ≤ length s) where
   no_checksum e = rw (checked, eq-eqb (two_at s 16) 0 e)
 
   module _ (some : two_at s 16 ≢ 0) where
-    pub wrong_c0 : c0 (drop 2 s) % 255 ≢ 0 → wrong_sum s ≡ true
-    unfolding wrong_sum
-    wrong_c0 e = rw (checked, ne_eqb (two_at s 16) 0 some, ne_eqb (c0 (drop 2 s) % 255) 0 e)
-
     pub by_c1 : c0 (drop 2 s) % 255 ≡ 0 → wrong_sum s ≡ not (eqb (c1 (drop 2 s) % 255) 0)
     unfolding wrong_sum
     by_c1 e = rw (checked, ne_eqb (two_at s 16) 0 some, eq-eqb (c0 (drop 2 s) % 255) 0 e)
+
+  pub by_sums : two_at s 16 ≢ 0 → wrong_sum s ≡ not (eqb (c0 (drop 2 s) % 255) 0 && eqb (c1 (drop 2 s) % 255) 0)
+  unfolding wrong_sum
+  by_sums some = rw (checked, ne_eqb (two_at s 16) 0 some) (go (eqb (c0 (drop 2 s) % 255) 0) (eqb (c1 (drop 2 s) % 255) 0))
+    where
+      go : (a b : Bool) → (not a || not b) ≡ not (a && b)
+      go true b = refl
+      go false b = refl
 
 pub right_sum : RightSum
 unfolding wrong_sum

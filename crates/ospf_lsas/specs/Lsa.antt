@@ -66,6 +66,11 @@ some? (some a) = true
 unfoldable pub links : List ℕ → Option (List RouterLink)
 links lsa = links_in (link_count lsa) (drop 24 (take (length_field lsa) lsa))
 
+-- the links that bytes were read as, none if they were not
+unfoldable pub all_of : Option (List RouterLink) → List RouterLink
+all_of none = []
+all_of (some ls) = ls
+
 -- 02, #106, 26, of the bytes from an LSA's first byte on: cut short, an LS type other than 1, a link type outside 1 to 4, or a length that does not
 -- match the links
 unfoldable pub malformed : List ℕ → Bool

@@ -1,19 +1,18 @@
 -- Paths gathered behind others and then more behind these are gathered at once: the counts add up, and texts put one behind the other are one text.
 -- Assumes nothing.
-use Prim.Native.Nat.{ℕ, ◌+◌, ◌*◌, ◌≤◌, ◌<◌}
+use Prim.Native.Nat.{ℕ, ◌+◌, ◌-◌, ◌*◌, ◌≤◌, ◌<◌}
 use mathlib.Core.List.{List, [], ◌∷◌, ◌++◌, map, append-nil}
-use mathlib.Core.Path.{◌≡◌, refl, sym, ap, ◌∙◌}
+use mathlib.Core.Path.{◌≡◌, refl, sym, ap, subst, ◌∙◌}
 use native.Mathlib.Nat.{add-zero}
 use native.Mathlib.Numerals.{add-one}
 use native.Mathlib.Omega.{arith}
-use lib.ListN.{length, set}
+use lib.ListN.{length, set, take, drop}
 use lib.Seq.{sets}
 use Rattle.network.specs.Lists.{counted}
 use Rattle.network.proofs.Counted.{counted_map, counts_exact}
 use Rattle.topology.specs.Written.{joined_over}
 use Rattle.topology.proofs.Joined.{joined_behind}
-use Rattle.text.specs.Inner.{Put}
-use Rattle.text.proofs.Stores.{behind}
+use Rattle.text.proofs.Stores.{behind, in_place}
 use Rattle.paths.specs.Inner.{PathsGathered}
 
 -- a path that goes by u next, put over a route, is the rest of it put over the route that goes by u
@@ -62,17 +61,23 @@ module _ {route : List ℕ} {moves : ℕ} where
         put = λ few. rw (joined_on route moves u ps) (g.put few);
       }
 
+-- as many bytes of a buffer with a path in their place
+placed : (b path part : List ℕ) (at n : ℕ) → length path ≡ n → at + n ≤ length b → part ≡ path →
+    take at b ++ (part ++ drop (at + n - at) (drop at b)) ≡ sets b at path
+placed b path part at n long h e =
+    subst (λ (n : ℕ). at + n ≤ length b → take at b ++ (part ++ drop (at + n - at) (drop at b)) ≡ sets b at path) long (λ h. in_place b path part at h e) h
+
 -- one path more, put whole
-pub one : {path b : List ℕ} {count e : ℕ} {b' : List ℕ} → length path ≡ 64 → count < 512 → Put b (64 * count) path e b' →
-    PathsGathered path 64 b count ([] ∷ []) (count + 1) b'
+pub one : {path b part : List ℕ} {count : ℕ} → length path ≡ 64 → count < 512 → 32768 ≤ length b → part ≡ path →
+    PathsGathered path 64 b count ([] ∷ []) (count + 1) (take (64 * count) b ++ (part ++ drop (64 * count + 64 - 64 * count) (drop (64 * count) b)))
 unfolding counted joined_over
-one {path} long few p =
+one {path} {b} {part} {count} long few room e =
     record {
       total = omega arith;
-      put = λ h. rw (append-nil path) (record { after = omega (arith, long); stored = p.stored });
+      put = λ h. rw (append-nil path) (record { after = omega (arith, long); stored = placed b path part (64 * count) 64 long (omega arith) e });
     }
 
 -- one path more than there may be
-pub full : {path b : List ℕ} {count : ℕ} → count ≤ 512 → 512 ≤ count → PathsGathered path 64 b count ([] ∷ []) (count + 1) b
+pub full : {path b : List ℕ} {count : ℕ} → count ≤ 512 → 512 ≤ count → PathsGathered path 64 b count ([] ∷ []) 513 b
 unfolding counted
 full few most = record { total = omega arith; put = λ h. absurd (omega arith) }

@@ -2,14 +2,13 @@
 -- Assumes nothing.
 use Prim.Native.Nat.{ℕ, ◌+◌, ◌≤◌, ◌<◌}
 use mathlib.Core.List.{List, [], ◌∷◌, ◌++◌}
-use mathlib.Core.Path.{◌≡◌}
+use mathlib.Core.Path.{◌≡◌, sym}
 use native.Mathlib.Numerals.{add-one}
 use native.Mathlib.Omega.{arith}
 use lib.ListN.{length, get_or, set}
 use Rattle.network.specs.Lists.{counted}
 use Rattle.network.specs.Row.{rank}
 use Rattle.network.specs.Theorems.Routing.{FallingRows}
-use Rattle.topology_types.specs.declared.Place.{Place}
 use Rattle.topology_types.specs.declared.Topology.{Topology}
 use Rattle.topology_types.specs.Topology.{network_of}
 use Rattle.topology_sound.proofs.Sound.{sound_exact}
@@ -25,9 +24,7 @@ use Rattle.paths_rules.specs.Theorems.{Passed, PathRule}
 use Rattle.paths_rules.proofs.Listed.{o, lower}
 use Rattle.paths_rules.proofs.Entries.{turn}
 use Rattle.paths_rules.proofs.Rule.{paths_by_rule}
-use Rattle.paths.specs.declared.gathering.Entry.{Entry}
-use Rattle.paths.specs.declared.gathering.Entry.TheVariants as entry
-use Rattle.paths.specs.Inner.{Reads, Asked, PathsGathered}
+use Rattle.paths.specs.Inner.{Asked, PathsGathered}
 use Rattle.paths.proofs.Behind.{onward}
 
 module _ {t : Topology} {table : List ℕ} {u : ℕ} (on : Passed t table u) where
@@ -90,21 +87,19 @@ module _ {t : Topology} {table : List ℕ} {u : ℕ} (on : Passed t table u) whe
         paths = rw add-one (rule.entry i v l);
       }
 
-  -- by what was read as the entry i of its row
-  module _ {row : List ℕ} (is : row ≡ places_in table u) (i : ℕ) (r : Entry) (reads : Reads row i r) where
-    pub past : r ≡ entry.Past → paths_past t table u i ≡ []
-    unfolding Reads
-    past e = rule.past i (rw (e, is) at reads)
+  -- by whether its row has an entry i
+  module _ {row : List ℕ} (is : row ≡ places_in table u) (i : ℕ) where
+    pub past : length row ≤ i → paths_past t table u i ≡ []
+    past h = rule.past i (rw is at h)
 
-    pub next : (v : Place) → r ≡ entry.To v → Next i v.0
-    unfolding Reads
-    next v e = listed_next i v.0 (rw (e, is) at reads)
+    pub next : (v : ℕ) → (i < length row) × ((z : ℕ) → v ≡ get_or row i z) → Next i v
+    next v (h, e) = listed_next i v (rw is at h, sym (rw is at e 0))
 
 -- What is asked of the place that an entry names; and of the same station with other paths gathered, or one fewer to come.
 module _ {table : List ℕ} {u moves count : ℕ} {out : List ℕ} (a : Asked table u moves count out) where
-  pub asked_next : {i v : ℕ} → Next a.on i v → count ≤ 512 → Asked table v (moves + 1) (count + 1) out
-  asked_next n few =
-      record { topology = a.topology; on = n.stands; short = omega (arith, a.short, n.falls); few = omega arith; room = a.room }
+  pub asked_next : {i v : ℕ} → Next a.on i v → Asked table v (moves + 1) count out
+  asked_next n =
+      record { topology = a.topology; on = n.stands; short = omega (arith, a.short, n.falls); few = a.few; room = a.room }
 
-  pub asked_again : {now : ℕ} → now ≤ 513 → {left : List ℕ} → length left ≡ length out → Asked table u moves now left
+  pub asked_again : {now : ℕ} → now ≤ 512 → {left : List ℕ} → length left ≡ length out → Asked table u moves now left
   asked_again few long = record { topology = a.topology; on = a.on; short = a.short; few = few; room = omega (arith, a.room) }

@@ -4,43 +4,27 @@ ghost use Rattle.topology_types.specs.declared.Topology.{Topology};
 ghost use Rattle.topology_types.specs.Limits.{most_routers};
 ghost use Rattle.paths_rules.specs.Calls.{most_paths, paths_of, paths_past};
 ghost use Rattle.paths_rules.specs.Theorems.{Passed};
-ghost use Rattle.paths.specs.Inner.{most_bytes, Reads, Asked, PathsGathered};
+ghost use Rattle.paths.specs.Inner.{most_bytes, Asked, PathsPut};
 
 use super::{PATH, PATHS};
-use table::unchecked::reading;
-use text::unchecked::lines;
+use table::unchecked::reading::Table;
 use topology_types::Place;
 
-// An entry of a row, unless the row has fewer.
-#[derive(Clone, Copy)]
-enum Entry {
-    To(Place),
-    Past,
-}
-
-// The entry i of a row.
-fn entry_in(row: &[u8], i: usize) -> Entry
-    ensures { Reads row.now i result }
-{
-    if row.len() <= i {
-        return Entry::Past;
-    }
-    Entry::To(Place(row[i]))
-}
-
-// A path that has come to its end; one beyond 512 is not put. Answers how many there are then.
-fn put_path(path: [u8; PATH], out: &mut [u8], count: usize) -> usize
+// A path that has come to its end. Answers how many there are then; none beyond 512, where the path is not put.
+fn put_path(path: [u8; PATH], out: &mut [u8], count: usize) -> Option<usize>
     requires { (count ≤ most_paths) × (most_bytes ≤ length out.old) }
-    ensures { PathsGathered path most_routers out.old count ([] ∷ []) result out.new }
+    ensures { PathsPut path most_routers out.old count ([] ∷ []) result out.new }
 {
     if PATHS <= count {
-        return count + 1;
+        return None;
     }
-    lines::put(out, PATH * count, &path);
-    count + 1
+    let at = PATH * count;
+    out[at..at + PATH].copy_from_slice(&path);
+    Some(count + 1)
 }
 
-// The paths from a station, which is reached by a route of so many moves.
+// The paths from a station, which is reached by a route of so many moves. It and the next function call each other (01, Forms by place); the slice is lent
+// and the count answered, in no one struct, for beyond 512 there is no count. The route is a path's 64 bytes, of which the moves are the first: no heap.
 #[cycle(from_station_through_entries)]
 pub(crate) fn from_station(
     table: &[u8],
@@ -49,20 +33,20 @@ pub(crate) fn from_station(
     moves: usize,
     out: &mut [u8],
     count: usize,
-) -> usize
-    requires { Asked table.now station.0 (moves + 1) (count + 1) out.old }
-    ensures { (t : Topology) → Passed t table.now station.0 → PathsGathered route moves out.old count (paths_of t table.now station.0) result out.new }
+) -> Option<usize>
+    requires { Asked table.now station.0 (moves + 1) count out.old }
+    ensures { (t : Topology) → Passed t table.now station.0 → PathsPut route moves out.old count (paths_of t table.now station.0) result out.new }
 {
     let mut here = route;
     here[moves] = station.0;
-    let home = reading::destination_in(reading::layout_of(table), table);
-    if station.0 == home.0 {
+    let home = Table::of(table).destination();
+    if station == home {
         return put_path(here, out, count);
     }
     through_entries(table, station, 0, here, moves + 1, out, count)
 }
 
-// The paths through the entries of a station's row, from the entry i on; a count beyond 512 goes no further.
+// The paths through the entries of a station's row, from the entry i on; beyond 512 it goes no further.
 #[cycle(from_station_through_entries)]
 fn through_entries(
     table: &[u8],
@@ -72,18 +56,14 @@ fn through_entries(
     moves: usize,
     out: &mut [u8],
     count: usize,
-) -> usize
+) -> Option<usize>
     requires { Asked table.now station.0 moves count out.old }
-    ensures { (t : Topology) → Passed t table.now station.0 → PathsGathered route moves out.old count (paths_past t table.now station.0 i) result out.new }
+    ensures { (t : Topology) → Passed t table.now station.0 → PathsPut route moves out.old count (paths_past t table.now station.0 i) result out.new }
 {
-    if PATHS < count {
-        return count;
-    }
-    let u = station.0 as usize;
-    let row = reading::row_in(reading::layout_of(table), table, u);
-    let Entry::To(next) = entry_in(row, i) else {
-        return count;
+    let row = Table::of(table).row(station.index());
+    let Some(next) = row.get(i) else {
+        return Some(count);
     };
-    let more = from_station(table, next, route, moves, out, count);
+    let more = from_station(table, Place(*next), route, moves, out, count)?;
     through_entries(table, station, i + 1, route, moves, out, more)
 }

@@ -2,12 +2,13 @@
 -- Assumes nothing.
 use Prim.Native.Nat.{ℕ, zero, suc, ◌+◌, ◌*◌, ◌-◌, ◌≤◌, ◌<◌}
 use mathlib.Core.List.{List, [], ◌∷◌, ◌++◌, append_assoc, Memᴰ}
-use mathlib.Core.Path.{◌≡◌, refl, ap, ap₂, ◌∙◌}
+use mathlib.Core.Path.{◌≡◌, refl, ap, ap₂, sym, ◌∙◌}
 use native.Mathlib.Nat.{mul-suc, add-zero, zero-add}
 use native.Mathlib.Omega.{arith}
 use borrow.Author.Tests.{eq-eqb, ne_eqb}
-use lib.ListN.{length, get_or, replicate, length-append, length-replicate, length-take, length-drop}
+use lib.ListN.{length, get_or, drop, replicate, length-append, length-replicate, length-take, length-drop}
 use lib.Seq.{take_at, drop-append-add}
+use Rattle.std.proofs.lemmas.List.{drop_at, drop-drop}
 use Rattle.network.specs.Lists.{numbers_from, below}
 use Rattle.topology_types.specs.Topology.{padded}
 use Rattle.topology.specs.Written.{joined_over}
@@ -33,6 +34,17 @@ module _ (bytes : List ℕ) (i : ℕ) (whole : 64 * i + 64 ≤ length bytes) whe
   pub in_few : length (places_of (path_in bytes i)) ≤ 64
   unfolding places_of
   in_few = omega (arith, before_length 255 (path_in bytes i), in_long)
+
+-- where 64 bytes are taken off the front of what is left behind the first i paths, they are path i, and what is left is what is behind the first i + 1
+pub taken : (bytes : List ℕ) (i : ℕ) (path rest : List ℕ) → drop (64 * i) bytes ≡ path ++ rest → length path ≡ 64 →
+    (path ≡ path_in bytes i) × (rest ≡ drop (64 * (i + 1)) bytes) × (64 * i + 64 ≤ length bytes)
+unfolding path_in
+taken bytes i path rest e wide =
+    let next : 64 * (i + 1) ≡ 64 * i + 64 = omega arith in (
+      rw e (sym (take_at path rest 64 wide)),
+      rw (next, ← drop-drop 64 (64 * i) bytes, e) (sym (drop_at path rest 64 wide)),
+      omega (arith, ap length e, length-append path rest, length-drop (64 * i) bytes),
+    )
 
 -- of equal bytes, nothing stands before the first
 before_same : (stop n : ℕ) → before stop (replicate n stop) ≡ []

@@ -1,21 +1,22 @@
 -- The listing's table is accepted, so what is gathered over it is the start's paths, and the lines made of their bytes are those of the start.
 -- Assumes nothing.
-use Prim.Native.Nat.{ℕ, ◌≤◌, ◌<◌}
+use Prim.Native.Nat.{ℕ, ◌*◌, ◌/◌, ◌≤◌, ◌<◌}
 use mathlib.Core.Bool.{cond}
-use mathlib.Core.List.{List, [], ◌∷◌, ◌++◌, Memᴰ}
+use mathlib.Core.List.{List, [], ◌∷◌, ◌++◌, Memᴰ, append-nil}
 use mathlib.Core.Path.{◌≡◌}
 use native.Mathlib.Decide.{dec_lt}
 use native.Mathlib.Omega.{arith}
 use borrow.Author.Tests.{lt-ltb, le-ltb}
 use lib.Dec.{ltb}
-use lib.ListN.{length, drop}
+use lib.ListN.{length, take}
+use lib.Seq.{length-take-le, length-sets}
 use Rattle.network.specs.Lists.{counted}
 use Rattle.topology_types.specs.declared.Topology.{Topology}
 use Rattle.topology_sound.proofs.Sound.{sound_exact}
 use Rattle.topology.specs.Written.{joined_over}
 use Rattle.order.proofs.Ranges.{get_d_mem}
-use Rattle.text.proofs.Stores.{put_start}
-use Rattle.listing_rules.proofs.InTurn.{put_length, joined_most}
+use Rattle.text.proofs.Stores.{start}
+use Rattle.listing_rules.proofs.InTurn.{joined_most}
 use Rattle.listing_rules.proofs.Tables.{accepted}
 use Rattle.paths_rules.specs.Calls.{paths_of, path_bytes, paths_bytes}
 use Rattle.paths_rules.specs.Theorems.{Passed}
@@ -65,23 +66,27 @@ module _ {t : Topology} {table : List ℕ} {d u : ℕ} (w : Toward t table d u) 
     too-many h = rw (← w.listed, beyond l h)
 
     module _ (few : r ≤ 512) (room : most_bytes ≤ length b) where
-      bytes : b' ≡ joined_over path_bytes (paths_of t table u) ++ drop (length (paths_bytes t table u)) b
-      unfolding paths_bytes
-      bytes = put_start (l.put few) (omega (arith, needed l few))
-
       all : r ≡ length (paths_of t table u)
       unfolding counted
       all = omega (arith, l.total)
 
-      pub gathered : Paths b' r
+      pub long : 64 * r ≤ length b'
+      long = rw ((l.put few).stored, length-sets) (omega arith)
+
+      bytes : take (64 * r) b' ≡ joined_over path_bytes (paths_of t table u) ++ []
+      unfolding paths_bytes
+      bytes = rw append-nil (start b (paths_bytes t table u) b' (64 * r) (l.put few).stored (needed l few) (omega arith))
+
+      pub gathered : Paths (take (64 * r) b')
       gathered = record {
-        few = few;
-        whole = omega (arith, put_length (l.put few));
+        few = rw (length-take-le _ _ long) (omega arith);
         places = λ i h.
-            let inside : i < length (paths_of t table u) = omega (arith, all) in
+            let inside : i < length (paths_of t table u) = omega (arith, all, rw (length-take-le _ _ long) at h) in
             rw (there (paths_of t table u) _ bytes each i inside) (short (each _ (get_d_mem (paths_of t table u) i [] inside)));
       }
 
-      pub are : paths_text d u b' r ≡ lines_from t d u
+      pub are : paths_text d u (take (64 * r) b') (length (take (64 * r) b') / 64) ≡ lines_from t d u
       unfolding lines_from
-      are = rw (← w.listed, within l few, all) (lines (paths_of t table u) _ bytes each d u)
+      are =
+          let many : length (take (64 * r) b') / 64 ≡ length (paths_of t table u) = omega (arith, length-take-le _ _ long, all) in
+          rw (← w.listed, within l few, many) (lines (paths_of t table u) _ bytes each d u)

@@ -1,7 +1,7 @@
 -- What the inner functions ask of the bytes of paths, and what they make of them; of the open contracts only those of `unchecked` name it, for the table
 -- and the room that they ask for.
 -- Assumes nothing.
-use Rattle.std.specs.Prelude.{ℕ, ◌*◌, ◌≤◌, ◌<◌, List, ◌∷◌, ◌++◌, ◌≡◌, T, length, take, drop}
+use Rattle.std.specs.Prelude.{ℕ, ◌+◌, ◌*◌, ◌≤◌, ◌<◌, List, ◌∷◌, ◌++◌, ◌≡◌, T, length, take, drop}
 use Rattle.network.specs.Lists.{below}
 use Rattle.topology_types.specs.declared.Topology.{Topology}
 use Rattle.topology_types.specs.Limits.{most_routers}
@@ -38,11 +38,10 @@ path_in bytes i = take most_routers (drop (most_routers * i) bytes)
 unfoldable pub paths_text : ℕ → ℕ → List ℕ → ℕ → List ℕ
 paths_text d u bytes count = joined_over (λ i. path_line d u (places_of (path_in bytes i))) (below count)
 
--- so many paths stand in bytes
-pub record Paths (bytes : List ℕ) (count : ℕ) : Type 0 where
-  pub few : count ≤ most_paths
-  pub whole : most_routers * count ≤ length bytes
-  pub places : (i : ℕ) → i < count → Short (places_of (path_in bytes i))
+-- at most so many paths stand in bytes
+pub record Paths (bytes : List ℕ) : Type 0 where
+  pub few : length bytes ≤ most_routers * most_paths
+  pub places : (i : ℕ) → most_routers * i + most_routers ≤ length bytes → Short (places_of (path_in bytes i))
 
 -- destination and start are places of a sound topology, and the table is that of the listing
 pub record Toward (t : Topology) (table : List ℕ) (d u : ℕ) : Type 0 where

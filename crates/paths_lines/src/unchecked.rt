@@ -1,38 +1,25 @@
-// For callers that have tested the topology, destination and start, built the table and lent the room.
+// For callers that have tested the topology, destination and start, built the table and have room on the page.
 ghost use Rattle.std.specs.Prelude.{◌≡◌, ◌≤◌, length};
-ghost use Rattle.text.specs.Inner.{Put};
+ghost use Rattle.text.specs.Page.{Puts, Room};
 ghost use Rattle.paths_lines.specs.Lines.{lines_from};
 ghost use Rattle.paths_lines.specs.Inner.{most_path_lines, Toward};
 
 use super::printing;
-use paths::PATHS;
+use paths::{BYTES, PATH, PATHS};
+use text::unchecked::lines::Page;
 use topology_types::{Place, Topology};
 
 // Room for the lines of a start: 200 bytes for each path.
 pub const LINES: usize = 200 * PATHS;
 
-// An array comes out of a function, so that a proof that lends it knows it by what the function ensures and not by all its elements.
-pub fn room_for_lines() -> [u8; LINES]
-    ensures { most_path_lines ≡ length result }
+// The lines of a start.
+pub fn put_lines(t: &Topology, table: &[u8], destination: Place, start: Place, page: &mut Page<'_>)
+    requires { Toward t.now table.now destination.0 start.0 × Room page.old most_path_lines }
+    ensures { Puts page.old (lines_from t.now destination.0 start.0) page.new }
 {
-    [0; LINES]
-}
-
-// The lines of a start, in the first bytes of the slice; answers how many bytes they have.
-pub fn put_lines(
-    t: Topology,
-    table: &[u8],
-    destination: Place,
-    start: Place,
-    out: &mut [u8],
-) -> usize
-    requires { Toward t table.now destination.0 start.0 × (most_path_lines ≤ length out.old) }
-    ensures { Put out.old 0 (lines_from t destination.0 start.0) result out.new }
-{
-    let mut paths = paths::unchecked::room_for_paths();
-    let count = paths::unchecked::gather(t, table, start, &mut paths);
-    if PATHS < count {
-        return printing::put_too_many(out, destination, start);
+    let mut paths: [u8; BYTES] = text::filled(0);
+    match paths::unchecked::gather(t, table, start, &mut paths) {
+        Some(count) => printing::put_paths(page, destination, start, &paths[..PATH * count]),
+        None => printing::put_too_many(page, destination, start),
     }
-    printing::put_paths(out, destination, start, &paths, count)
 }

@@ -1,41 +1,38 @@
-// For callers that have tested the topology, laid out its arcs and lent the room.
+// For callers that have tested the topology, laid out its arcs and have room on the page.
 pub mod fields;
 
-ghost use Rattle.std.specs.Prelude.{◌+◌, ◌*◌, ◌≤◌, ◌<◌, T, length};
+ghost use Rattle.std.specs.Prelude.{◌*◌, ◌<◌, T};
 ghost use Rattle.topology_sound.specs.Sound.{sound};
 ghost use Rattle.arcs.specs.Inner.{Laid};
-ghost use Rattle.text.specs.Inner.{Put};
+ghost use Rattle.text.specs.Page.{Puts, Room};
 ghost use Rattle.listing_rules.specs.Listing.{lines_for, all_lines};
 ghost use Rattle.listing_rules.specs.Inner.{most_listing_lines};
 
 use super::printing;
 use arcs::Arcs;
 use order::Mode;
-use topology_types::{Place, Topology};
+use table::unchecked::reading::Table;
+use text::unchecked::lines::Page;
+use topology_types::{Place, ROUTERS, Topology};
 
-// The lines of a destination, from an offset of the slice on; answers the offset after them.
-pub fn put_lines(t: Topology, a: Arcs, destination: Place, out: &mut [u8], at: usize) -> usize
-    requires { T (sound t) × Laid t a × (destination.0 < t.routers) × (at + most_listing_lines ≤ length out.old) }
-    ensures { Put out.old at (lines_for t destination.0) result out.new }
+// The lines of a destination.
+pub fn put_lines(t: &Topology, a: &Arcs, destination: Place, page: &mut Page<'_>)
+    requires { T (sound t.now) × Laid t.now a.now × (destination.0 < t.now.routers) × Room page.old most_listing_lines }
+    ensures { Puts page.old (lines_for t.now destination.0) page.new }
 {
     let built = table::unchecked::build(t, a, destination, Mode::ShortestPath);
-    let bytes = built.bytes;
-    let length = built.length;
-    let mut hops = printing::room_for_hops();
-    forwarding::unchecked::greatest_hops(t, &bytes[..length], &mut hops);
-    printing::put_table(out, at, &bytes[..length], &hops, t.routers, destination)
+    let table = built.as_slice();
+    let mut hops = [0u8; ROUTERS];
+    forwarding::unchecked::greatest_hops(t, table, &mut hops);
+    printing::put_table(page, Table::of(table), &hops[..t.routers], destination);
 }
 
-// The lines of all destinations, into the first bytes of the slice; answers how many bytes they are.
-pub fn put_all(t: Topology, a: Arcs, out: &mut [u8]) -> usize
-    requires { T (sound t) × Laid t a × (most_listing_lines * t.routers ≤ length out.old) }
-    ensures { Put out.old 0 (all_lines t) result out.new }
+// The lines of all destinations.
+pub fn put_all(t: &Topology, a: &Arcs, page: &mut Page<'_>)
+    requires { T (sound t.now) × Laid t.now a.now × Room page.old (most_listing_lines * t.now.routers) }
+    ensures { Puts page.old (all_lines t.now) page.new }
 {
-    let mut end: usize = 0;
-    let mut d: usize = 0;
-    while d < t.routers {
-        end = put_lines(t, a, Place(d as u8), out, end);
-        d += 1;
+    for d in 0..t.routers {
+        put_lines(t, a, Place(d as u8), page);
     }
-    end
 }

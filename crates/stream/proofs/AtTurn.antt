@@ -13,9 +13,9 @@ use borrow.Author.Tests.{lt-ltb, le-ltb}
 use lib.Dec.{ltb}
 use lib.ListN.{length, get_or, drop, length-drop, drop_of_length-le}
 use lib.Seq.{drop-drop}
-use Rattle.stream_rules.specs.declared.Record.{Record}
-use Rattle.stream_rules.specs.declared.Record.TheVariants as record_of
-use Rattle.stream_rules.specs.declared.Reading.{Reading}
+use Rattle.stream_rules.specs.Record.{Record}
+use Rattle.stream_rules.specs.Record as record_of
+use Rattle.stream_rules.specs.Reading.{Reading}
 use Rattle.stream_rules.specs.Halves.{StreamListing}
 use Rattle.stream_rules.specs.Stream.{record_in, records}
 use Rattle.stream_rules.specs.Reading.{refusal, fault, added, width, is_end, ended, unless, in_turn, nothing_listed, reading}
@@ -44,7 +44,7 @@ first-is [] h = absurd (omega arith)
 first-is (kind ∷ rest) h = (_, refl)
 
 module _ (s : List ℕ) (p : StreamListing) (at : ℕ) (turn : Turn s p at) where
-  pub turn_past : length s ≤ at → reading s ≡ refusal 1 at
+  turn_past : length s ≤ at → reading s ≡ refusal 1 at
   unfolding records in_turn
   turn_past h = turn.goes_on ∙ rw (drop_of_length-le s h)
 
@@ -65,11 +65,19 @@ module _ (s : List ℕ) (p : StreamListing) (at : ℕ) (turn : Turn s p at) wher
       let w = whole_record p (drop at s) none in
       turn.goes_on ∙ rw (w.next, e, some_records, left_over)
 
-  turn_fault : at < length s → fault p (record_in (drop at s)) ≢ 0 → reading s ≡ refusal (fault p (record_in (drop at s))) at
-  unfolding in_turn
-  turn_fault h other =
-      let (rest, e) = first-is (drop at s) (simp length-drop (omega arith)) in
-      turn.goes_on ∙ rw e (unless_fault _ at _ other)
+  turn_fault : fault p (record_in (drop at s)) ≢ 0 → reading s ≡ refusal (fault p (record_in (drop at s))) at
+  unfolding in_turn fault record_in
+  turn_fault other = cases (dec_lt at (length s))
+    where
+      cases : Dec (at < length s) → reading s ≡ refusal (fault p (record_in (drop at s))) at
+      cases (yes h) =
+          let (rest, e) = first-is (drop at s) (simp length-drop (omega arith)) in
+          turn.goes_on ∙ rw e (unless_fault _ at _ other)
+      cases (no h) = let past : length s ≤ at = omega arith in turn_past past ∙ rw (drop_of_length-le s past)
+
+  pub turn_inside : record_in (drop at s) ≡ record_of.End → at < length s
+  unfolding fault
+  turn_inside e = let w = whole_record p (drop at s) (rw e refl) in omega (arith, w.some, w.fits, length-drop at s)
 
   module _ (none : fault p (record_in (drop at s)) ≡ 0) where
     w : WholeRecord (drop at s)
@@ -88,8 +96,8 @@ module _ (s : List ℕ) (p : StreamListing) (at : ℕ) (turn : Turn s p at) wher
 
   -- the record as the code has it: its fault refuses, else the reading goes on
   module _ (r : Record) (is : r ≡ record_in (drop at s)) where
-    pub turn_refused : at < length s → fault p r ≢ 0 → refusal (fault p r) at ≡ reading s
-    turn_refused h other = rw is (sym (turn_fault h (rw is at other)))
+    pub turn_refused : fault p r ≢ 0 → refusal (fault p r) at ≡ reading s
+    turn_refused other = rw is (sym (turn_fault (rw is at other)))
 
     pub turn_taken : fault p r ≡ 0 → is_end r ≡ false → Turn s (added p r) (at + width r) × (1 ≤ width r)
     turn_taken none e =

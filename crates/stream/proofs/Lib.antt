@@ -1,4 +1,5 @@
 pub mod AtTurn
 pub mod Filled
 pub mod Standing
+pub mod Steps
 pub mod Readers

@@ -1,3 +1,4 @@
 pub mod Reader
 pub mod Inner
+pub mod Listing
 pub mod Theorems

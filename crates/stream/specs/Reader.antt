@@ -1,11 +1,15 @@
 -- The record reader: it carries the lent stream and the offset it has reached (01, Topology stream).
 -- Assumes nothing.
 use Rattle.std.specs.Prelude.{ℕ, ◌+◌, List, drop}
-use Rattle.stream_rules.specs.declared.Record.{Record}
+use Rattle.stream_rules.specs.Record.{Record}
 use Rattle.stream_rules.specs.Stream.{record_in}
 use Rattle.stream_rules.specs.Reading.{width}
 use Rattle.stream.specs.declared.reader.Reader.{Reader}
-use Rattle.stream.specs.declared.bytes.Taken.{Taken}
+
+-- a record, and the offset past it
+pub record Taken : Type 0 where
+  pub found : Record
+  pub at : ℕ
 
 -- the record that begins at an offset of a stream, and the offset past it. A refusal stands in a record's place and takes no byte
 unfoldable pub taken : List ℕ → ℕ → Taken

@@ -2,8 +2,8 @@
 -- Refusals, 1 and 2). Numbers and widths are written out.
 -- Assumes nothing.
 use Rattle.std.specs.Prelude.{ℕ, ◌+◌, ◌<◌, List, [], ◌∷◌, ◌≢◌, ◌≡◌, length, drop}
-use Rattle.stream_rules.specs.declared.Record.{Record}
-use Rattle.stream_rules.specs.declared.Record.TheVariants as record_of
+use Rattle.stream_rules.specs.Record.{Record}
+use Rattle.stream_rules.specs.Record as record_of
 use Rattle.stream_rules.specs.Theorems.{four_bytes, two_bytes, half_of}
 use Rattle.stream.specs.declared.reader.Reader.{Reader}
 use Rattle.stream.specs.Reader.{Next, next}

@@ -1,152 +1,183 @@
-// The steps of `read`, for callers that take routers and halves from elsewhere, and numbers in bytes. What a `requires` says callers prove, and no code tests.
+// What is listed while routers and halves are taken, for callers that have them from elsewhere than a stream, and numbers in bytes.
 pub mod numbers;
 
-ghost use Rattle.std.specs.Prelude.{cond, ◌≢◌, ◌≡◌, [], ◌∷◌, ◌+◌, ◌*◌, ◌<◌, ◌≤◌, ltb, length, take, get_or, set};
-ghost use Rattle.topology_types.specs.Limits.{most_routers, most_halves, most_links};
-ghost use Rattle.topology_types.specs.Topology.{Contents, contents, held};
-ghost use Rattle.stream_rules.specs.Halves.{StreamListing, opposite};
-ghost use Rattle.stream_rules.specs.Reading.{refusal, router_fault_lem, halves_fault_lem};
+ghost use Rattle.std.specs.Prelude.{◌+◌, ◌≡◌, ◌<◌, ltb};
+ghost use Rattle.topology_types.specs.Outcome.{failed};
+ghost use Rattle.stream_rules.specs.Halves.{StreamListing};
+ghost use Rattle.stream_rules.specs.Halves as said_of;
+ghost use Rattle.stream_rules.specs.Reading.{reading_of, nothing_listed};
 ghost use Rattle.stream_rules.specs.Reading as said;
-ghost use Rattle.stream_rules.specs.Inner.{WhileRead, Indexed};
-ghost use Rattle.stream.specs.Inner.{Roomy, opposite_cost, paired};
+ghost use Rattle.stream_rules.specs.Record as record_of;
+ghost use Rattle.stream_rules.specs.Inner.{record_seen, Stands};
+ghost use Rattle.stream.specs.Inner.{ends_fault};
 
-use super::{Reading, taking};
-use topology_sound::unchecked;
-use topology_types::{Answer, HALVES, Half, LINKS, Link, NEIGHBOURS, Place, ROUTERS, Topology};
+use super::Record;
+use super::tables::Tables;
+use topology_types::{DEFAULT_NEXT_HOPS, Fault, HALVES, Half, Link, ROUTERS, Refusal, Topology};
 
-// All zeros but for the next-hop limit.
-pub fn blank(limit: u8) -> Topology
-    ensures { result ≡ held record { ids = []; links = []; limit = limit } }
+// Routers, links and lone halves that are listed: a half whose opposite is listed makes a link with it in the topology; lone ones stand in the tables
+// alone. Beside them stands how many halves there are, lone ones too.
+#[derive(Drop)]
+pub struct Listing {
+    topology: Topology,
+    tables: Tables,
+    halves: usize,
+    ghost stands: { ∥ ((p : StreamListing) × Stands p topology tables.costs tables.leaving halves) ∥₁ },
+}
+
+// The half the other way round, at the same cost.
+#[tactic(auto, unfolding(stream_rules::specs::Halves::opposite))]
+fn opposite(h: Half) -> Half
+    ensures { result ≡ said_of.opposite h }
 {
-    let none = Link {
-        first: Place(0),
-        second: Place(0),
-        cost: 0,
-        back: 0,
-    };
-    Topology {
-        routers: 0,
-        links: 0,
-        limit: limit,
-        id: [0; ROUTERS],
-        link: [none; LINKS],
+    Half {
+        from: h.to,
+        to: h.from,
+        cost: h.cost,
     }
 }
 
-// What a refused reading returns.
-pub fn refused(number: u8, at: usize) -> Reading
-    ensures { result ≡ refusal number at }
+// Refusals 5 to 7, with n routers listed.
+fn test_ends(n: usize, h: Half) -> Result<(), Fault>
+    ensures { failed result ≡ ends_fault n h }
 {
-    let zeros = blank(0);
-    Reading {
-        answer: Answer {
-            number: number,
-            at: at,
-        },
-        topology: zeros,
+    if n <= h.from.index() || n <= h.to.index() {
+        return Err(Fault::PlaceNotListed);
     }
-}
-
-// Refusals 3 and 4: the number of the first test that the router fails, 0 if it fails none.
-pub fn router_fault(ids: &[u32; ROUTERS], n: usize, id: u32) -> u8
-    requires { (n ≤ most_routers) × (length ids.now ≡ most_routers) }
-    ensures { (c : Contents) → c.ids ≡ take n ids.now → result ≡ router_fault_lem c id }
-{
-    if unchecked::is_listed(ids, n, id) {
-        return 3;
-    }
-    if ROUTERS <= n {
-        return 4;
-    }
-    0
-}
-
-// Refusals 5 to 10: the same of a half or, where both are listed at once, of a link, with n routers and m halves listed so far, which the tables are of. A
-// place is looked up only where it is listed.
-pub fn halves_fault<'a>(
-    costs: &'a [u16; ROUTERS * ROUTERS],
-    leaving: &'a [usize; ROUTERS],
-    n: usize,
-    m: usize,
-    h: Half,
-    both: bool,
-) -> u8
-    requires { ((p : StreamListing) × Indexed p n m costs.now leaving.now) × (n ≤ most_routers) × (m ≤ most_halves) }
-    ensures { (p : StreamListing) → Indexed p n m costs.now leaving.now → result ≡ halves_fault_lem p h (cond both (h ∷ opposite h ∷ []) (h ∷ [])) }
-{
-    let from = h.from.index();
-    let to = h.to.index();
-    if n <= from {
-        return 5;
-    }
-    if n <= to {
-        return 5;
-    }
-    if from == to {
-        return 6;
+    if h.from == h.to {
+        return Err(Fault::LinkToItself);
     }
     if h.cost == 0 {
-        return 7;
+        return Err(Fault::CostZero);
     }
-    if costs[from * ROUTERS + to] != 0 {
-        return 8;
-    }
-    if both && costs[to * ROUTERS + from] != 0 {
-        return 8;
-    }
-    let adds = if both { 2 } else { 1 };
-    if HALVES < m + adds {
-        return 9;
-    }
-    if NEIGHBOURS <= leaving[from] {
-        return 10;
-    }
-    if both && NEIGHBOURS <= leaving[to] {
-        return 10;
-    }
-    0
+    Ok(())
 }
 
-// What is held with a half more, which no test refuses: with its opposite, if that is listed, it makes a link.
-pub fn half_taken<'a>(
-    t: Topology,
-    costs: &'a mut [u16; ROUTERS * ROUTERS],
-    leaving: &'a mut [usize; ROUTERS],
-    h: Half,
-) -> Topology
-    requires { Roomy leaving.old h.from.0 h.to.0 × (opposite_cost costs.old h ≢ 0 → t.links < most_links) }
-    ensures { (result ≡ paired t h (opposite_cost costs.old h)) × (costs.new ≡ set costs.old (h.from.0 * most_routers + h.to.0) h.cost) × (leaving.new ≡ set leaving.old h.from.0 (get_or leaving.old h.from.0 0 + 1)) }
-{
-    let from = h.from;
-    let to = h.to;
-    let u = from.index();
-    let v = to.index();
-    let mut held = t;
-    let m = held.links;
-    let opposite = costs[v * ROUTERS + u];
-    if opposite != 0 {
-        held.link[m] = Link {
-            first: to,
-            second: from,
-            cost: opposite,
+impl Listing {
+    ghost use Rattle.stream.specs.Listing.{Lists, Taken};
+
+    // Nothing is listed.
+    pub fn new() -> Self
+        ensures { Lists nothing_listed result }
+    {
+        Listing {
+            topology: Topology::empty(DEFAULT_NEXT_HOPS),
+            tables: Tables::new(),
+            halves: 0,
+        }
+    }
+
+    // The IDs of the routers, by place.
+    pub fn ids(&self) -> &[u32]
+        ensures { (p : StreamListing) → Lists p self.now → result.now ≡ p.contents.ids }
+    {
+        &self.topology.id[..self.topology.routers]
+    }
+
+    // A router more: refusals 3 and 4.
+    pub fn take_router(&mut self, id: u32) -> Result<(), Fault>
+        ensures { Taken (record_of.Router id) self.old self.new result }
+    {
+        if topology_sound::unchecked::is_listed(self.ids(), id) {
+            return Err(Fault::RouterListedBefore);
+        }
+        let n = self.topology.routers;
+        if ROUTERS <= n {
+            return Err(Fault::TooManyRouters);
+        }
+        self.topology.id[n] = id;
+        self.topology.routers = n + 1;
+        Ok(())
+    }
+
+    // A link more, both its halves at once: refusals 5 to 10.
+    pub fn take_link(&mut self, h: Half) -> Result<(), Fault>
+        ensures { Taken (record_of.Link h) self.old self.new result }
+    {
+        let back = opposite(h);
+        test_ends(self.topology.routers, h)?;
+        self.tables.test_new(h)?;
+        self.tables.test_new(back)?;
+        if HALVES < self.halves + 2 {
+            return Err(Fault::TooManyLinks);
+        }
+        self.tables.test_room(h.from)?;
+        self.tables.test_room(h.to)?;
+        let m = self.topology.links;
+        self.topology.link[m] = Link {
+            first: h.from,
+            second: h.to,
+            cost: h.cost,
             back: h.cost,
         };
-        held.links = m + 1;
+        self.topology.links = m + 1;
+        self.tables.mark(h);
+        self.tables.mark(back);
+        self.halves += 2;
+        Ok(())
     }
-    taking::mark(costs, leaving, u, v, h.cost);
-    held
-}
 
-// At the end record: refusals 11 and 12.
-pub fn ended(t: Topology, at: usize, length: usize) -> Reading
-    requires { WhileRead t × (at < «length») }
-    ensures { result ≡ said.ended (ltb (at + 1) «length») at (contents t) }
-{
-    if at + 1 < length {
-        return refused(11, at + 1);
+    // A half more: refusals 5 to 10. With its opposite, if that is listed, it makes a link.
+    pub fn take_half(&mut self, h: Half) -> Result<(), Fault>
+        ensures { Taken (record_of.Half h) self.old self.new result }
+    {
+        test_ends(self.topology.routers, h)?;
+        self.tables.test_new(h)?;
+        if HALVES < self.halves + 1 {
+            return Err(Fault::TooManyLinks);
+        }
+        self.tables.test_room(h.from)?;
+        let opposite = self.tables.cost_like(opposite(h));
+        if opposite != 0 {
+            let m = self.topology.links;
+            self.topology.link[m] = Link {
+                first: h.to,
+                second: h.from,
+                cost: opposite,
+                back: h.cost,
+            };
+            self.topology.links = m + 1;
+        }
+        self.tables.mark(h);
+        self.halves += 1;
+        Ok(())
     }
-    if t.routers == 0 {
-        return refused(12, at);
+
+    // The next-hop limit: refusal 16.
+    pub fn take_limit(&mut self, k: u8) -> Result<(), Fault>
+        ensures { Taken (record_of.Limit k) self.old self.new result }
+    {
+        if !topology_sound::unchecked::in_range(k) {
+            return Err(Fault::LimitOutOfRange);
+        }
+        self.topology.limit = k;
+        Ok(())
     }
-    taking::taken(t)
+
+    // What a record of a stream lists.
+    pub(crate) fn take(&mut self, record: Record) -> Result<(), Fault>
+        ensures { Taken (record_seen (Ok «record»)) self.old self.new result }
+    {
+        match record {
+            Record::Router(id) => self.take_router(id),
+            Record::Link(h) => self.take_link(h),
+            Record::Half(h) => self.take_half(h),
+            Record::Limit(k) => self.take_limit(k),
+            Record::End => Ok(()),
+        }
+    }
+
+    // At the end record: refusals 11 and 12.
+    pub fn ended(self, at: usize, length: usize) -> Result<Topology, Refusal>
+        requires { at < «length» }
+        ensures { (p : StreamListing) → Lists p self → reading_of result ≡ said.ended (ltb (at + 1) «length») at p.contents }
+    {
+        if at + 1 < length {
+            return Err(Fault::ByteAfterEnd.at(at + 1));
+        }
+        if self.topology.routers == 0 {
+            return Err(Fault::NoRouter.at(at));
+        }
+        Ok(self.topology)
+    }
 }

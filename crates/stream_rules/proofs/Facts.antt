@@ -9,13 +9,13 @@ use mathlib.Core.Path.{◌≡◌, refl, ap}
 use native.Mathlib.Omega.{arith}
 use lib.Dec.{T, eqb, eqb→eq}
 use lib.ListN.{take}
-use Rattle.network.specs.Lists.{numbers_from, below, keep, every, any, member, same_numbers}
+use Rattle.network.specs.Lists.{numbers_from, below, every, member, same_numbers}
 use Rattle.network.proofs.Tests.{both}
 use Rattle.topology_types.specs.declared.Half.{Half}
 use Rattle.topology_types.specs.Topology.{no_link, padded, contents, held, zeros}
 use Rattle.topology_sound.specs.Sound.{within}
-use Rattle.stream_rules.specs.declared.Record.{Record}
-use Rattle.stream_rules.specs.declared.Record.TheVariants as record_of
+use Rattle.stream_rules.specs.Record.{Record}
+use Rattle.stream_rules.specs.Record as record_of
 use Rattle.stream_rules.specs.Halves.{StreamListing, first_half, second_half, link_halves, halves, same_half, leaves, opposite, link_of}
 use Rattle.stream_rules.specs.Stream.{big_endian_on, big_endian, body_length, half_in, decoded, record_in, records}
 use Rattle.stream_rules.specs.Reading.{refusal, accepted_reading, router_fault_lem, repeated, crowded, halves_fault_lem, fault, with_router, with_link, with_limit}

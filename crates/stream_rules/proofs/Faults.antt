@@ -1,34 +1,22 @@
 -- What the tests of a record say of its fault: a fault refuses, and the tests of halves in turn, from one of them on, as the tables have them.
 -- Assumes nothing.
-use Prim.Native.Nat.{ℕ, zero, suc, ◌+◌, ◌*◌, ◌≤◌, ◌<◌}
-use mathlib.Core.Bool.{cond, not}
+use Prim.Native.Nat.{ℕ, zero, suc, ◌+◌}
+use mathlib.Core.Bool.{cond}
 use mathlib.Core.List.{List}
-use mathlib.Core.Path.{◌≡◌, refl, sym}
-use native.Mathlib.Omega.{arith}
-use lib.Dec.{eqb, ltb, leb}
-use lib.ListN.{length, get_or}
+use mathlib.Core.Path.{◌≡◌, refl}
+use lib.Dec.{eqb, ltb}
+use lib.ListN.{length}
 use Rattle.network.specs.Lists.{any}
 use Rattle.topology_types.specs.declared.Half.{Half}
-use Rattle.topology_types.specs.Limits.{most_routers, most_halves, most_neighbours}
-use Rattle.stream_rules.specs.declared.Reading.{Reading}
+use Rattle.topology_types.specs.Limits.{most_halves}
+use Rattle.stream_rules.specs.Reading.{Reading}
 use Rattle.stream_rules.specs.Halves.{StreamListing, halves}
 use Rattle.stream_rules.specs.Reading.{refusal, repeated, crowded, unless}
-use Rattle.stream_rules.specs.Inner.{Indexed}
 
 pub unless_fault : (number at : ℕ) (r : Reading) → (number ≡ 0 → ⊥) → unless number at r ≡ refusal number at
 unfolding unless
 unless_fault zero at r h = absurd (h refl)
 unless_fault (suc number) at r h = refl
-
--- what the tables have of places that are listed
-module _ {p : StreamListing} {n m : ℕ} {costs leaving : List ℕ} (i : Indexed p n m costs leaving) (few : n ≤ most_routers) where
-  pub repeated_by : (h : Half) {u v : ℕ} → u ≡ h.from.0 → v ≡ h.to.0 → u < n → v < n →
-      repeated p h ≡ not (eqb (get_or costs (u * most_routers + v) 0) 0)
-  repeated_by h f s a b = rw (f, s) (sym (i.listed h (omega arith) (omega arith)))
-
-  pub crowded_by : (place : ℕ) {u : ℕ} → u ≡ place → u < n → crowded p place ≡ leb most_neighbours (get_or leaving u 0)
-  unfolding crowded
-  crowded_by place e h = rw (e, i.out place (omega arith))
 
 -- the tests of halves from one of them on, the last first
 module _ (p : StreamListing) (h : Half) (new : List Half) where

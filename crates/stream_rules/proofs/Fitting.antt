@@ -11,21 +11,13 @@ use lib.Dec.{eqb}
 use lib.ListN.{length, get_or, take, drop, length-drop, take-append-drop}
 use lib.Seq.{length-take-le}
 use Rattle.network.proofs.Lists.{mem_take}
-use Rattle.stream_rules.specs.declared.Record.{Record}
-use Rattle.stream_rules.specs.declared.Record.TheVariants as record_of
+use Rattle.stream_rules.specs.Record.{Record}
+use Rattle.stream_rules.specs.Record as record_of
 use Rattle.stream_rules.specs.Stream.{big_endian, body_length, half_in, decoded, record_in}
+use Rattle.stream_rules.specs.Inner.{Fitting}
 use Rattle.stream_rules.specs.Theorems.{Bytes}
 use Rattle.stream_rules.proofs.Digits.{bytes_below}
 use Rattle.stream_rules.proofs.Stream.{cut, whole}
-
--- what every record of bytes says fits where it is stored
-abbrev pub Fitting : Record → Type 0
-Fitting (record_of.Router id) = id < 2 ^ 32
-Fitting (record_of.Link h) = h.cost < 2 ^ 16
-Fitting (record_of.Half h) = h.cost < 2 ^ 16
-Fitting (record_of.Limit k) = Unit {0}
-Fitting record_of.End = Unit {0}
-Fitting (record_of.Refused number) = Unit {0}
 
 -- what a kind and a body of bytes say fits
 decoded_fits : (kind : ℕ) (body : List ℕ) → Bytes body → length body ≡ body_length kind → Fitting (decoded kind body)

@@ -22,7 +22,8 @@ use Rattle.topology_types.specs.declared.Half.{Half}
 use Rattle.topology_types.specs.declared.Link.{Link}
 use Rattle.topology_types.specs.Topology.{seen}
 use Rattle.stream_rules.specs.Halves.{first_half, second_half, link_halves, same_half, leaves}
-use Rattle.stream_rules.proofs.Halves.{total, one, total_most, total_part, Adds}
+use Rattle.stream_rules.proofs.Halves.{total_most, total_part, Adds}
+use Rattle.stream_rules.specs.Inner.{one_if, total}
 use Rattle.stream_rules.proofs.Opposite.{Once, once_more}
 
 -- a half as a link of its cost both ways, so that a sound half is a sound link
@@ -37,7 +38,7 @@ pub record GoodHalves (n : ℕ) (hs : List Half) : Type 0 where
   pub each : total (unsound n) hs ≡ 0
   pub once : Once hs
   pub many : total (λ k. 1) hs ≤ 512
-  pub leaving : (u : ℕ) → total (one (leaves u)) hs ≤ 16
+  pub leaving : (u : ℕ) → total (one_if (leaves u)) hs ≤ 16
 
 pub good_none : (n : ℕ) → GoodHalves n []
 unfolding total
@@ -93,24 +94,24 @@ sound_among_more n m hs h e = omega (arith, total_most (unsound m) (unsound n) h
         go (no z) = omega (arith, at_most_one m k)
 
 -- what a test gives of one half
-pub leaves_it : (k : Half) → one (leaves k.from.0) k ≡ 1
-unfolding one leaves
+pub leaves_it : (k : Half) → one_if (leaves k.from.0) k ≡ 1
+unfolding one_if leaves
 leaves_it k = rw (eq-eqb k.from.0 k.from.0 refl)
 
-pub leaves_other : (u : ℕ) (k : Half) → k.from.0 ≢ u → one (leaves u) k ≡ 0
-unfolding one leaves
+pub leaves_other : (u : ℕ) (k : Half) → k.from.0 ≢ u → one_if (leaves u) k ≡ 0
+unfolding one_if leaves
 leaves_other u k e = rw (ne_eqb k.from.0 u e)
 
-pub same_one : (g k : Half) → g.from.0 ≡ k.from.0 → g.to.0 ≡ k.to.0 → one (same_half g) k ≡ 1
-unfolding one same_half
+pub same_one : (g k : Half) → g.from.0 ≡ k.from.0 → g.to.0 ≡ k.to.0 → one_if (same_half g) k ≡ 1
+unfolding one_if same_half
 same_one g k e f = rw (eq-eqb _ _ e, eq-eqb _ _ f)
 
-pub same_none : (g k : Half) → g.from.0 ≢ k.from.0 → one (same_half g) k ≡ 0
-unfolding one same_half
+pub same_none : (g k : Half) → g.from.0 ≢ k.from.0 → one_if (same_half g) k ≡ 0
+unfolding one_if same_half
 same_none g k e = rw (ne_eqb _ _ e)
 
 pub good_more : (n : ℕ) (hs : List Half) (h : Half) (more : List Half) → GoodHalves n hs → Adds hs h more → SoundLink n (as_link h) →
-    total (one (same_half h)) hs ≡ 0 → total (λ k. 1) hs < 512 → total (one (leaves h.from.0)) hs < 16 → GoodHalves n more
+    total (one_if (same_half h)) hs ≡ 0 → total (λ k. 1) hs < 512 → total (one_if (leaves h.from.0)) hs < 16 → GoodHalves n more
 good_more n hs h more g adds sound none room few =
     record {
       each = omega (arith, adds (unsound n), g.each, sound_zero n h sound);
@@ -119,9 +120,9 @@ good_more n hs h more g adds sound none room few =
       leaving = λ u. left u (ℕ_discrete h.from.0 u);
     }
   where
-    left : (u : ℕ) → Dec (h.from.0 ≡ u) → total (one (leaves u)) more ≤ 16
-    left u (yes e) = rw (← e) (omega (arith, adds (one (leaves h.from.0)), leaves_it h))
-    left u (no e) = omega (arith, adds (one (leaves u)), leaves_other u h e, g.leaving u)
+    left : (u : ℕ) → Dec (h.from.0 ≡ u) → total (one_if (leaves u)) more ≤ 16
+    left u (yes e) = rw (← e) (omega (arith, adds (one_if (leaves h.from.0)), leaves_it h))
+    left u (no e) = omega (arith, adds (one_if (leaves u)), leaves_other u h e, g.leaving u)
 
 -- the links whose halves these are
 pub links_many : (ls : List Link) → total (λ k. 1) (link_halves ls) ≡ 2 * length ls
@@ -145,14 +146,14 @@ pairs_apart (l ∷ ls) once =
     let (f, s) = halves-in ls listed in
     let first = same_one (first_half l) (first_half l) refl refl in
     let most = once (first_half l) in
-    let test = one (same_half (first_half l)) in
+    let test = one_if (same_half (first_half l)) in
     ⊎_elim (λ (d, b). omega (arith, most, first, total_part test (link_halves ls) f, same_one (first_half l) (first_half link) d b))
     (λ (d, b). omega (arith, most, first, total_part test (link_halves ls) s, same_one (first_half l) (second_half link) d b))
     (subst (SamePair (seen l)) (sym e) same))
     (pairs_apart ls (λ g. omega (arith, once g)))
 
-pub arcs_few : (u number : ℕ) (ls : List Link) → length (arcs_among u number (map seen ls)) ≤ total (one (leaves u)) (link_halves ls)
-unfolding link_halves total seen first_half second_half arcs_among one leaves
+pub arcs_few : (u number : ℕ) (ls : List Link) → length (arcs_among u number (map seen ls)) ≤ total (one_if (leaves u)) (link_halves ls)
+unfolding link_halves total seen first_half second_half arcs_among one_if leaves
 arcs_few u number [] = omega arith
 arcs_few u number (l ∷ ls) = go (eqb l.first.0 u) (eqb l.second.0 u) _ _ _ _ (arcs_few u (suc number) ls)
   where

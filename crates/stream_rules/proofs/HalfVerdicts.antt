@@ -17,7 +17,8 @@ use Rattle.stream_rules.specs.Halves.{StreamListing, first_half, second_half, li
 use Rattle.stream_rules.specs.Reading.{repeated, crowded, halves_fault_lem, fault}
 use Rattle.stream_rules.specs.Theorems.{HalfListed, halves_listed, halves_leaving, BothListed, Differing, Costing, HalfFaults, LinkFaults}
 use Rattle.stream_rules.proofs.Faults.{from_6, from_7, from_8, from_9, from_10}
-use Rattle.stream_rules.proofs.Halves.{total, one, length_total, length_keep, halves_total}
+use Rattle.stream_rules.proofs.Halves.{length_total, length_keep, halves_total}
+use Rattle.stream_rules.specs.Inner.{one_if, total}
 use Rattle.stream_rules.proofs.Opposite.{same_places}
 use Rattle.stream_rules.proofs.GoodHalves.{links_many, halves-in}
 use Rattle.stream_rules.proofs.Tables.{same-half}
@@ -43,8 +44,8 @@ halves_count p =
     )
 
 links_leaving : (u : ℕ) (ls : List Link) →
-    total (one (leaves u)) (link_halves ls) ≡ length (keep (λ l. eqb l.first.0 u) ls) + length (keep (λ l. eqb l.second.0 u) ls)
-unfolding total link_halves one leaves first_half second_half
+    total (one_if (leaves u)) (link_halves ls) ≡ length (keep (λ l. eqb l.first.0 u) ls) + length (keep (λ l. eqb l.second.0 u) ls)
+unfolding total link_halves one_if leaves first_half second_half
 links_leaving u [] = refl
 links_leaving u (l ∷ ls) = go (eqb l.first.0 u) (eqb l.second.0 u) (links_leaving u ls)
   where
@@ -54,8 +55,8 @@ links_leaving u (l ∷ ls) = go (eqb l.first.0 u) (eqb l.second.0 u) (links_leav
     seconds : List Link
     seconds = keep (λ l. eqb l.second.0 u) ls
 
-    go : (a b : Bool) → total (one (leaves u)) (link_halves ls) ≡ length firsts + length seconds →
-        cond a 1 0 + (cond b 1 0 + total (one (leaves u)) (link_halves ls)) ≡ length (cond a (l ∷ firsts) firsts) + length (cond b (l ∷ seconds) seconds)
+    go : (a b : Bool) → total (one_if (leaves u)) (link_halves ls) ≡ length firsts + length seconds →
+        cond a 1 0 + (cond b 1 0 + total (one_if (leaves u)) (link_halves ls)) ≡ length (cond a (l ∷ firsts) firsts) + length (cond b (l ∷ seconds) seconds)
     go true true e = omega arith
     go true false e = omega arith
     go false true e = omega arith
@@ -67,7 +68,7 @@ leaving_count p u =
     omega (
       arith,
       length_keep (leaves u) (halves p),
-      halves_total (one (leaves u)) p,
+      halves_total (one_if (leaves u)) p,
       links_leaving u p.contents.links,
       length_keep (leaves u) p.lone,
     )

@@ -11,22 +11,10 @@ use lib.ListN.{length}
 use Rattle.network.specs.Lists.{any, keep}
 use Rattle.topology_types.specs.declared.Half.{Half}
 use Rattle.topology_types.specs.declared.Link.{Link}
-use Rattle.stream_rules.specs.declared.Record.TheVariants as record_of
+use Rattle.stream_rules.specs.Record as record_of
 use Rattle.stream_rules.specs.Halves.{StreamListing, first_half, second_half, link_halves, halves, same_half, opposite, link_of}
 use Rattle.stream_rules.specs.Reading.{with_link, added}
-
--- what f gives over the halves, added up
-unfoldable pub total : (Half → ℕ) → List Half → ℕ
-total f [] = 0
-total f (h ∷ hs) = f h + total f hs
-
--- 1 for a half that passes the test
-unfoldable pub one : (Half → Bool) → Half → ℕ
-one test k = cond (test k) 1 0
-
--- what a half costs that is the same as h
-unfoldable pub cost_like : Half → Half → ℕ
-cost_like h k = cond (same_half h k) k.cost 0
+use Rattle.stream_rules.specs.Inner.{total, one_if}
 
 pub total_append : (f : Half → ℕ) (hs ks : List Half) → total f (hs ++ ks) ≡ total f hs + total f ks
 unfolding total
@@ -78,31 +66,31 @@ module _ (test : Half → Bool) where
       go true e = omega arith
       go false e = omega arith
 
-  pub length_keep : (hs : List Half) → length (keep test hs) ≡ total (one test) hs
-  unfolding one
+  pub length_keep : (hs : List Half) → length (keep test hs) ≡ total (one_if test) hs
+  unfolding one_if
   length_keep hs = length_total (keep test hs) ∙ total_keep (λ k. 1) hs
 
   -- none passes
-  pub none_total : (hs : List Half) → any test hs ≡ false → total (one test) hs ≡ 0
-  unfolding total one
+  pub none_total : (hs : List Half) → any test hs ≡ false → total (one_if test) hs ≡ 0
+  unfolding total one_if
   none_total [] e = refl
   none_total (h ∷ hs) e = go (test h) e (none_total hs)
     where
-      go : (b : Bool) → (b || any test hs) ≡ false → (any test hs ≡ false → total (one test) hs ≡ 0) → cond b 1 0 + total (one test) hs ≡ 0
+      go : (b : Bool) → (b || any test hs) ≡ false → (any test hs ≡ false → total (one_if test) hs ≡ 0) → cond b 1 0 + total (one_if test) hs ≡ 0
       go true e rest = let never : ◌≡◌ {A = ℕ} 0 1 = cc in absurd (omega arith)
       go false e rest = omega (arith, rest e)
 
-  pub total_none : (hs : List Half) → total (one test) hs ≡ 0 → any test hs ≡ false
-  unfolding total one
+  pub total_none : (hs : List Half) → total (one_if test) hs ≡ 0 → any test hs ≡ false
+  unfolding total one_if
   total_none [] e = refl
   total_none (h ∷ hs) e = go (test h) e (total_none hs)
     where
-      go : (b : Bool) → cond b 1 0 + total (one test) hs ≡ 0 → (total (one test) hs ≡ 0 → any test hs ≡ false) → (b || any test hs) ≡ false
+      go : (b : Bool) → cond b 1 0 + total (one_if test) hs ≡ 0 → (total (one_if test) hs ≡ 0 → any test hs ≡ false) → (b || any test hs) ≡ false
       go true e rest = absurd (omega arith)
       go false e rest = rest (omega arith)
 
   -- what those add up to of which there are none
-  pub nothing_kept : (f : Half → ℕ) (hs : List Half) → total (one test) hs ≡ 0 → total (λ k. cond (test k) (f k) 0) hs ≡ 0
+  pub nothing_kept : (f : Half → ℕ) (hs : List Half) → total (one_if test) hs ≡ 0 → total (λ k. cond (test k) (f k) 0) hs ≡ 0
   nothing_kept f hs e = sym (total_keep f hs) ∙ go (keep test hs) (length_keep hs ∙ e)
     where
       go : (ks : List Half) → length ks ≡ 0 → total f ks ≡ 0
@@ -141,8 +129,8 @@ adds_link p h f =
     )
 
 -- both halves of a link are among those of links, or none
-pub both_or_none : (h : Half) (ls : List Link) → total (one (same_half (opposite h))) (link_halves ls) ≡ total (one (same_half h)) (link_halves ls)
-unfolding total link_halves one same_half opposite first_half second_half
+pub both_or_none : (h : Half) (ls : List Link) → total (one_if (same_half (opposite h))) (link_halves ls) ≡ total (one_if (same_half h)) (link_halves ls)
+unfolding total link_halves one_if same_half opposite first_half second_half
 both_or_none h [] = refl
 both_or_none h (l ∷ ls) =
     rw (

@@ -11,13 +11,13 @@ use borrow.Author.Tests.{lt-ltb, le-ltb, ne_eqb}
 use lib.ListN.{length, length-append}
 use Rattle.topology_types.specs.declared.Half.{Half}
 use Rattle.topology_types.specs.Topology.{no_link, padded, held, zeros}
-use Rattle.stream_rules.specs.declared.Record.{Record}
-use Rattle.stream_rules.specs.declared.Record.TheVariants as record_of
+use Rattle.stream_rules.specs.Record.{Record}
+use Rattle.stream_rules.specs.Record as record_of
 use Rattle.stream_rules.specs.Halves.{StreamListing, link_halves, halves, opposite, link_of}
 use Rattle.stream_rules.specs.Stream.{big_endian_on, big_endian, body_length, half_in, decoded, record_in, records}
 use Rattle.stream_rules.specs.Reading.{refusal, fault, with_router, with_link, with_limit, added, width, is_end, ended, unless, any_record?, in_turn, nothing_listed, reading}
 use Rattle.stream_rules.specs.Theorems.{four_bytes, two_bytes, half_of, BytesList, refused, RecordBytes, CutShort, ReadsInTurn}
-use Rattle.stream_rules.proofs.Halves.{total}
+use Rattle.stream_rules.specs.Inner.{total}
 use Rattle.stream_rules.proofs.Opposite.{Once}
 use Rattle.stream_rules.proofs.Lone.{once_added, first_added, second_added}
 

@@ -22,15 +22,14 @@ use Rattle.topology_types.specs.Topology.{held, seen}
 use Rattle.topology_types.proofs.Prefix.{distinct_more}
 use Rattle.topology_sound.specs.Sound.{within}
 use Rattle.topology_sound.proofs.Sound.{within_fact}
-use Rattle.stream_rules.specs.declared.Record.{Record}
-use Rattle.stream_rules.specs.declared.Record.TheVariants as record_of
+use Rattle.stream_rules.specs.Record.{Record}
+use Rattle.stream_rules.specs.Record as record_of
 use Rattle.stream_rules.specs.Halves.{StreamListing, link_halves, halves, same_half, leaves, opposite}
 use Rattle.stream_rules.specs.Reading.{repeated, crowded, fault, with_router, with_link, with_limit, arrived, added, nothing_listed}
-use Rattle.stream_rules.specs.Inner.{WhileRead}
-use Rattle.stream_rules.proofs.Fitting.{Fitting}
+use Rattle.stream_rules.specs.Inner.{WhileRead, Fitting, one_if, total}
 use Rattle.stream_rules.proofs.Held.{contents_held}
 use Rattle.stream_rules.proofs.NoFault.{NewRouter, NewHalves, router_passes, halves_pass, one_fails, both_fail}
-use Rattle.stream_rules.proofs.Halves.{total, one, length_total, length_keep, none_total, halves_total, adds_last, adds_link}
+use Rattle.stream_rules.proofs.Halves.{length_total, length_keep, none_total, halves_total, adds_last, adds_link}
 use Rattle.stream_rules.proofs.Opposite.{adds_half}
 use Rattle.stream_rules.proofs.GoodHalves.{as_link, unsound, GoodHalves, good_none, good_more, sound_among_more, same_none, leaves_other}
 use Rattle.stream_rules.proofs.GoodHalves.{links_many, pairs_apart, arcs_few, links_sound}
@@ -57,11 +56,11 @@ module _ (p : StreamListing) (g : Good p) where
       record {
         ids-differ = distinct_fact p.contents.ids g.ids-differ;
         each = links_sound (length p.contents.ids) p.contents.links (omega (arith, part (unsound (length p.contents.ids)), g.good_halves.each));
-        pairs-differ = pairs_apart p.contents.links (λ h. omega (arith, part (one (same_half h)), g.good_halves.once h));
+        pairs-differ = pairs_apart p.contents.links (λ h. omega (arith, part (one_if (same_half h)), g.good_halves.once h));
       }
 
   pub neighbours : (u : ℕ) → length (arcs_among u 0 (map seen p.contents.links)) ≤ 16
-  neighbours u = omega (arith, arcs_few u 0 p.contents.links, part (one (leaves u)), g.good_halves.leaving u)
+  neighbours u = omega (arith, arcs_few u 0 p.contents.links, part (one_if (leaves u)), g.good_halves.leaving u)
 
 pub good_nothing : Good nothing_listed
 unfolding nothing_listed distinct halves link_halves
@@ -77,11 +76,11 @@ good_nothing =
 
 -- halves that a record lists, as tests of totals
 module _ (p : StreamListing) where
-  pub fresh_none : (h : Half) → repeated p h ≡ false → total (one (same_half h)) (halves p) ≡ 0
+  pub fresh_none : (h : Half) → repeated p h ≡ false → total (one_if (same_half h)) (halves p) ≡ 0
   unfolding repeated
   fresh_none h e = none_total (same_half h) (halves p) e
 
-  pub few_leave : (u : ℕ) → crowded p u ≡ false → total (one (leaves u)) (halves p) < 16
+  pub few_leave : (u : ℕ) → crowded p u ≡ false → total (one_if (leaves u)) (halves p) < 16
   unfolding crowded
   few_leave u e = omega (arith, leb-false 16 (length (keep (leaves u) (halves p))) e, length_keep (leaves u) (halves p))
 
@@ -149,9 +148,9 @@ module _ (p : StreamListing) (g : Good p) where
         back_least = s.back_least;
         back_most = s.back_most;
       })
-      (omega (arith, more (one (same_half (opposite h))), fresh_none p (opposite h) fresh', same_none (opposite h) h (λ e. s.ends_differ (sym e))))
+      (omega (arith, more (one_if (same_half (opposite h))), fresh_none p (opposite h) fresh', same_none (opposite h) h (λ e. s.ends_differ (sym e))))
       (omega (arith, more (λ k. 1), new.room))
-      (omega (arith, more (one (leaves h.to.0)), few_leave p h.to.0 few', leaves_other h.to.0 h s.ends_differ))
+      (omega (arith, more (one_if (leaves h.to.0)), few_leave p h.to.0 few', leaves_other h.to.0 h s.ends_differ))
 
   -- the same routers and K with other halves
   relisted : (q : StreamListing) → p.contents.ids ≡ q.contents.ids → p.contents.limit ≡ q.contents.limit → GoodHalves n (halves q) → Good q

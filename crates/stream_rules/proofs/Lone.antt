@@ -12,13 +12,14 @@ use Rattle.network.specs.Lists.{any, keep}
 use Rattle.network.proofs.Tests.{truth, as_false}
 use Rattle.network.proofs.Lists.{split, any_some, some_any}
 use Rattle.topology_types.specs.declared.Half.{Half}
-use Rattle.stream_rules.specs.declared.Record.{Record}
-use Rattle.stream_rules.specs.declared.Record.TheVariants as record_of
+use Rattle.stream_rules.specs.Record.{Record}
+use Rattle.stream_rules.specs.Record as record_of
 use Rattle.stream_rules.specs.Halves.{StreamListing, halves, same_half, opposite, link_of}
 use Rattle.stream_rules.specs.Reading.{repeated, fault, with_router, with_link, with_limit, arrived, added}
 use Rattle.stream_rules.specs.Theorems.{half_of, link_at}
 use Rattle.stream_rules.proofs.NoFault.{halves_pass, one_fails, both_fail}
-use Rattle.stream_rules.proofs.Halves.{total, one, total_append, total_none, halves_total, adds_last, adds_link}
+use Rattle.stream_rules.proofs.Halves.{total_append, total_none, halves_total, adds_last, adds_link}
+use Rattle.stream_rules.specs.Inner.{one_if, total}
 use Rattle.stream_rules.proofs.Opposite.{Once, once_more, same_places, adds_half}
 use Rattle.stream_rules.proofs.GoodHalves.{same_none}
 use Rattle.stream_rules.proofs.Kept.{fresh_none}
@@ -44,17 +45,17 @@ kept_none test (h ∷ hs) e = go (test h) e (kept_none test hs)
     go false e rest = let (k, r) = rest e in (k, ap (λ (l : List Half). h ∷ l) r)
 
 -- one that passes, and no other
-kept_one : (test : Half → Bool) (before : List Half) (k : Half) (after : List Half) → test k ≡ true → total (one test) (before ++ (k ∷ after)) ≤ 1 →
+kept_one : (test : Half → Bool) (before : List Half) (k : Half) (after : List Half) → test k ≡ true → total (one_if test) (before ++ (k ∷ after)) ≤ 1 →
     (keep test (before ++ (k ∷ after)) ≡ k ∷ []) × (keep (λ h. not (test h)) (before ++ (k ∷ after)) ≡ before ++ after)
-unfolding total one
+unfolding total one_if
 kept_one test before k after e few =
-    let all = total_append (one test) before (k ∷ after) in
+    let all = total_append (one_if test) before (k ∷ after) in
     let this : cond {A = ℕ} (test k) 1 0 ≡ 1 = rw e in
     let (none, rest) = kept_none test before (total_none test before (omega arith)) in
     let (none', rest') = kept_none test after (total_none test after (omega arith)) in
     (rw (kept_behind test before (k ∷ after), none, e, none'), rw (kept_behind (λ h. not (test h)) before (k ∷ after), rest, e, rest'))
 
-not_itself : (h : Half) → h.from.0 ≢ h.to.0 → one (same_half (opposite h)) h ≡ 0
+not_itself : (h : Half) → h.from.0 ≢ h.to.0 → one_if (same_half (opposite h)) h ≡ 0
 unfolding opposite
 not_itself h apart = same_none (opposite h) h (λ e. apart (sym e))
 
@@ -67,7 +68,7 @@ once_added p once (record_of.Link h) e =
     let (fresh, fresh') = both_fail (repeated p) h (opposite h) new.fresh in
     let more = adds_last (halves p) h in
     once_more (halves p ++ (h ∷ [])) _ (opposite h) (once_more (halves p) _ h once (fresh_none p h fresh) more)
-    (omega (arith, more (one (same_half (opposite h))), fresh_none p (opposite h) fresh', not_itself h new.ends_differ))
+    (omega (arith, more (one_if (same_half (opposite h))), fresh_none p (opposite h) fresh', not_itself h new.ends_differ))
     (adds_link p h)
 once_added p once (record_of.Half h) e =
     let fresh = one_fails (repeated p) h ((halves_pass p h (h ∷ [])).0 e).fresh in
@@ -116,7 +117,7 @@ module _ (p : StreamListing) (u v cost : ℕ) where
       added p (record_of.Half (half_of u v cost)) ≡ record { contents = with_link p.contents (link_at v u c cost); lone = before ++ after }
   unfolding added arrived link_of
   second_added once before c after stands =
-      let few : total (one against) (before ++ (half_of v u c ∷ after)) ≤ 1 =
-      omega (arith, once (opposite (half_of u v cost)), halves_total (one against) p, ap (total (one against)) stands) in
+      let few : total (one_if against) (before ++ (half_of v u c ∷ after)) ≤ 1 =
+      omega (arith, once (opposite (half_of u v cost)), halves_total (one_if against) p, ap (total (one_if against)) stands) in
       let (kept, rest) = kept_one against before (half_of v u c) after (against_it c) few in
       rw (stands, kept, rest)

@@ -16,7 +16,7 @@ use Rattle.stream_rules.specs.Halves.{StreamListing, halves}
 use Rattle.stream_rules.specs.Reading.{router_fault_lem, repeated, crowded, halves_fault_lem}
 
 -- a test that would refuse, in a chain that does not
-passed : (b : Bool) (k x : ℕ) → cond b (suc k) x ≡ 0 → (b ≡ false) × (x ≡ 0)
+pub passed : (b : Bool) (k x : ℕ) → cond b (suc k) x ≡ 0 → (b ≡ false) × (x ≡ 0)
 passed true k x e = absurd (omega (arith, e))
 passed false k x e = (refl, e)
 
@@ -44,7 +44,7 @@ pub record NewHalves (p : StreamListing) (h : Half) (new : List Half) : Type 0 w
   pub room : length (halves p) + length new ≤ 512
   pub uncrowded : any (λ k. crowded p k.from.0) new ≡ false
 
-both_listed : (a b : Bool) → not (a && b) ≡ false → (a ≡ true) × (b ≡ true)
+pub both_listed : (a b : Bool) → not (a && b) ≡ false → (a ≡ true) × (b ≡ true)
 both_listed true true e = (refl, refl)
 both_listed true false e = let never : ◌≡◌ {A = ℕ} 0 1 = cc in absurd (omega arith)
 both_listed false b e = let never : ◌≡◌ {A = ℕ} 0 1 = cc in absurd (omega arith)

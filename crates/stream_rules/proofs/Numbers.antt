@@ -8,7 +8,7 @@ use lib.ListN.{length}
 use Rattle.network.specs.Lists.{any, member}
 use Rattle.topology_types.specs.declared.Half.{Half}
 use Rattle.topology_sound.specs.Sound.{within}
-use Rattle.stream_rules.specs.declared.Record.{Record}
+use Rattle.stream_rules.specs.Record.{Record}
 use Rattle.stream_rules.specs.Halves.{StreamListing, halves}
 use Rattle.stream_rules.specs.Reading.{router_fault_lem, repeated, crowded, halves_fault_lem, fault}
 use Rattle.stream_rules.specs.Theorems.{RecordBytes, four_bytes}

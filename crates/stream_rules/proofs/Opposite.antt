@@ -13,10 +13,11 @@ use Rattle.network.specs.Lists.{any, keep}
 use Rattle.network.proofs.Tests.{both, truth, as_false, as_true}
 use Rattle.network.proofs.Lists.{mem_keep}
 use Rattle.topology_types.specs.declared.Half.{Half}
-use Rattle.stream_rules.specs.declared.Record.TheVariants as record_of
+use Rattle.stream_rules.specs.Record as record_of
 use Rattle.stream_rules.specs.Halves.{StreamListing, first_half, second_half, link_halves, halves, same_half, opposite, link_of}
 use Rattle.stream_rules.specs.Reading.{with_link, arrived, added}
-use Rattle.stream_rules.proofs.Halves.{total, one, cost_like, total_append, total_split, total_keep, length_keep, none_total, nothing_kept, Adds}
+use Rattle.stream_rules.proofs.Halves.{total_append, total_split, total_keep, length_keep, none_total, nothing_kept, Adds}
+use Rattle.stream_rules.specs.Inner.{cost_like, one_if, total}
 use Rattle.stream_rules.proofs.Halves.{links_more, halves_total, both_or_none}
 
 -- the same half goes from the same place to the same place
@@ -30,7 +31,7 @@ unfolding same_half
 same_tests g h t k = let (e, f) = same_places g h t in rw (e, f)
 
 abbrev pub Once : List Half → Type 0
-Once hs = (g : Half) → total (one (same_half g)) hs ≤ 1
+Once hs = (g : Half) → total (one_if (same_half g)) hs ≤ 1
 
 -- the same numbers from tests that agree
 pub total_same : (f g : Half → ℕ) (hs : List Half) → ((k : Half) → f k ≡ g k) → total f hs ≡ total g hs
@@ -39,18 +40,18 @@ total_same f g [] e = refl
 total_same f g (h ∷ hs) e = omega (arith, e h, total_same f g hs e)
 
 -- a half more, of which there is none
-pub once_more : (hs more : List Half) (h : Half) → Once hs → total (one (same_half h)) hs ≡ 0 → Adds hs h more → Once more
-unfolding one
+pub once_more : (hs more : List Half) (h : Half) → Once hs → total (one_if (same_half h)) hs ≡ 0 → Adds hs h more → Once more
+unfolding one_if
 once_more hs more h once none adds g = cases (truth (same_half g h))
   where
-    cases : T (same_half g h) ⊎ (T (same_half g h) → ⊥) → total (one (same_half g)) more ≤ 1
+    cases : T (same_half g h) ⊎ (T (same_half g h) → ⊥) → total (one_if (same_half g)) more ≤ 1
     cases (inl t) =
-        let same = total_same (one (same_half g)) (one (same_half h)) hs (λ k. ap (λ b. cond {A = ℕ} b 1 0) (same_tests g h t k)) in
-        let last : one (same_half g) h ≡ 1 = ap (λ b. cond {A = ℕ} b 1 0) (as_true (same_half g h) t) in
-        omega (arith, adds (one (same_half g)))
+        let same = total_same (one_if (same_half g)) (one_if (same_half h)) hs (λ k. ap (λ b. cond {A = ℕ} b 1 0) (same_tests g h t k)) in
+        let last : one_if (same_half g) h ≡ 1 = ap (λ b. cond {A = ℕ} b 1 0) (as_true (same_half g h) t) in
+        omega (arith, adds (one_if (same_half g)))
     cases (inr o) =
-        let last : one (same_half g) h ≡ 0 = ap (λ b. cond {A = ℕ} b 1 0) (as_false (same_half g h) o) in
-        omega (arith, adds (one (same_half g)), once g)
+        let last : one_if (same_half g) h ≡ 0 = ap (λ b. cond {A = ℕ} b 1 0) (as_false (same_half g h) o) in
+        omega (arith, adds (one_if (same_half g)), once g)
 
 module _ (p : StreamListing) (once : Once (halves p)) (h : Half) (new : any (same_half h) (halves p) ≡ false) where
   -- the lone halves that are the opposite
@@ -58,10 +59,10 @@ module _ (p : StreamListing) (once : Once (halves p)) (h : Half) (new : any (sam
   opposites = keep (same_half (opposite h)) p.lone
 
   -- the opposite is none of those of links
-  linked_none : total (one (same_half (opposite h))) (link_halves p.contents.links) ≡ 0
+  linked_none : total (one_if (same_half (opposite h))) (link_halves p.contents.links) ≡ 0
   linked_none =
       let fresh = none_total (same_half h) (halves p) new in
-      omega (arith, both_or_none h p.contents.links, halves_total (one (same_half h)) p)
+      omega (arith, both_or_none h p.contents.links, halves_total (one_if (same_half h)) p)
 
   -- what the opposite costs, 0 if it is not listed
   abbrev pub opposite-cost : ℕ
@@ -78,7 +79,7 @@ module _ (p : StreamListing) (once : Once (halves p)) (h : Half) (new : any (sam
       omega (
         arith,
         length_keep (same_half (opposite h)) p.lone,
-        halves_total (one (same_half (opposite h))) p,
+        halves_total (one_if (same_half (opposite h))) p,
         once (opposite h),
       )
 

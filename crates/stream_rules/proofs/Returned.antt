@@ -21,13 +21,14 @@ use Rattle.topology_types.proofs.Arcs.{arcs_listed}
 use Rattle.topology_sound.specs.Sound.{sound}
 use Rattle.topology_sound.specs.Theorems.{Sound}
 use Rattle.topology_sound.proofs.Sound.{sound_exact}
-use Rattle.stream_rules.specs.declared.Record.{Record}
+use Rattle.stream_rules.specs.Record.{Record}
 use Rattle.stream_rules.specs.Halves.{StreamListing}
 use Rattle.stream_rules.specs.Stream.{body_length, records}
 use Rattle.stream_rules.specs.Reading.{refusal, accepted_reading, fault, added, width, is_end, ended, unless, any_record?, in_turn, nothing_listed, reading}
 use Rattle.stream_rules.specs.Theorems.{Bytes, Read, ReadsSound}
 use Rattle.stream_rules.proofs.Held.{contents_held, padded_length}
-use Rattle.stream_rules.proofs.Fitting.{Fitting, record_fits}
+use Rattle.stream_rules.proofs.Fitting.{record_fits}
+use Rattle.stream_rules.specs.Inner.{Fitting}
 use Rattle.stream_rules.proofs.Kept.{Good, links-fit, linked, neighbours, good_nothing, kept}
 
 mem_replicate : {A : Type 0} (n : ℕ) (a : A) {b : A} → Memᴰ b (replicate n a) → b ≡ a

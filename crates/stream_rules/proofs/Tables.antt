@@ -10,24 +10,17 @@ use native.Mathlib.Decide.{ℕ_discrete}
 use native.Mathlib.Omega.{arith}
 use borrow.Author.Tests.{eq-eqb, ne_eqb}
 use lib.Dec.{T, eqb}
-use lib.ListN.{length, get_or, set, replicate, length-set, length-replicate, get_or-replicate}
+use lib.ListN.{get_or, set, replicate, length-set, length-replicate, get_or-replicate}
 use lib.Seq.{get_or-set_same, get_or-set_other}
 use Rattle.network.specs.Lists.{any}
 use Rattle.network.proofs.Tests.{and, truth, as_true, as_false, eq_test}
 use Rattle.network.proofs.Lists.{any_some}
 use Rattle.topology_types.specs.declared.Half.{Half}
 use Rattle.stream_rules.specs.Halves.{same_half, leaves}
-use Rattle.stream_rules.proofs.Halves.{total, one, cost_like, total_part, none_total, nothing_kept, Adds}
+use Rattle.stream_rules.proofs.Halves.{total_part, none_total, nothing_kept, Adds}
+use Rattle.stream_rules.specs.Inner.{Tabled, Tallied, cost_like, one_if, total}
 use Rattle.stream_rules.proofs.Opposite.{same_places, same_tests, total_same}
 use Rattle.stream_rules.proofs.GoodHalves.{unsound, half_sound, leaves_it, leaves_other}
-
-pub record Tabled (costs : List ℕ) (hs : List Half) : Type 0 where
-  pub long : length costs ≡ 4096
-  pub at : (g : Half) → g.from.0 < 64 → g.to.0 < 64 → get_or costs (g.from.0 * 64 + g.to.0) 0 ≡ total (cost_like g) hs
-
-pub record Tallied (leaving : List ℕ) (hs : List Half) : Type 0 where
-  pub long : length leaving ≡ 64
-  pub at : (u : ℕ) → u < 64 → get_or leaving u 0 ≡ total (one (leaves u)) hs
 
 pub tabled_none : Tabled (replicate 4096 0) []
 unfolding total
@@ -53,12 +46,12 @@ pub same-half : (g h : Half) → g.from.0 ≡ h.from.0 → g.to.0 ≡ h.to.0 →
 unfolding same_half
 same-half g h e f = and (eqb g.from.0 h.from.0) _ (eq_test e) (eq_test f)
 
-none_cost : (h : Half) (hs : List Half) → total (one (same_half h)) hs ≡ 0 → total (cost_like h) hs ≡ 0
+none_cost : (h : Half) (hs : List Half) → total (one_if (same_half h)) hs ≡ 0 → total (cost_like h) hs ≡ 0
 unfolding cost_like
 none_cost h hs e = nothing_kept (same_half h) (λ k. k.cost) hs e
 
 module _ (hs more : List Half) (h : Half) (adds : Adds hs h more) {u v : ℕ} (from : u ≡ h.from.0) (to : v ≡ h.to.0) (u_in : u < 64) (v_in : v < 64) where
-  pub tabled_more : (costs : List ℕ) → Tabled costs hs → total (one (same_half h)) hs ≡ 0 → Tabled (set costs (u * 64 + v) h.cost) more
+  pub tabled_more : (costs : List ℕ) → Tabled costs hs → total (one_if (same_half h)) hs ≡ 0 → Tabled (set costs (u * 64 + v) h.cost) more
   tabled_more costs w none =
       record { long = length-set costs (u * 64 + v) h.cost ∙ w.long; at = λ g f s. step g f s (truth (same_half g h)) }
     where
@@ -78,13 +71,13 @@ module _ (hs more : List Half) (h : Half) (adds : Adds hs h more) {u v : ℕ} (f
   tallied_more leaving w =
       record { long = length-set leaving u (get_or leaving u 0 + 1) ∙ w.long; at = λ x x-in. step x x-in (ℕ_discrete x u) }
     where
-      step : (x : ℕ) → x < 64 → Dec (x ≡ u) → get_or (set leaving u (get_or leaving u 0 + 1)) x 0 ≡ total (one (leaves x)) more
+      step : (x : ℕ) → x < 64 → Dec (x ≡ u) → get_or (set leaving u (get_or leaving u 0 + 1)) x 0 ≡ total (one_if (leaves x)) more
       step x x-in (yes e) =
           rw (e, get_or-set_same leaving u (get_or leaving u 0 + 1) 0 (omega (arith, w.long)))
-          (rw from (omega (arith, w.at h.from.0 (omega arith), adds (one (leaves h.from.0)), leaves_it h)))
+          (rw from (omega (arith, w.at h.from.0 (omega arith), adds (one_if (leaves h.from.0)), leaves_it h)))
       step x x-in (no o) =
           get_or-set_other leaving u x (get_or leaving u 0 + 1) 0 o
-          ∙ omega (arith, w.at x x-in, adds (one (leaves x)), leaves_other x h (λ e. o (omega arith)))
+          ∙ omega (arith, w.at x x-in, adds (one_if (leaves x)), leaves_other x h (λ e. o (omega arith)))
 
 -- every half costs something, so a cost of 0 says that it is not there
 pub cost_tells : (n : ℕ) (hs : List Half) → total (unsound n) hs ≡ 0 → (h : Half) → not (eqb (total (cost_like h) hs) 0) ≡ any (same_half h) hs

@@ -10,7 +10,7 @@ use native.Mathlib.Omega.{arith}
 use lib.Dec.{T}
 use lib.ListN.{length, length-append}
 use Rattle.network.specs.Lists.{member}
-use Rattle.stream_rules.specs.declared.Record.{Record}
+use Rattle.stream_rules.specs.Record.{Record}
 use Rattle.stream_rules.specs.Halves.{StreamListing}
 use Rattle.stream_rules.specs.Reading.{fault}
 use Rattle.stream_rules.specs.Theorems.{two_bytes, BytesList, RecordBytes, CutShort, UnknownKind}

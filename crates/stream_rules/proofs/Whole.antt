@@ -8,12 +8,12 @@ use mathlib.Core.Path.{◌≡◌, refl, sym, ap, ◌∙◌}
 use native.Mathlib.Omega.{arith}
 use lib.Dec.{T}
 use lib.ListN.{length}
-use Rattle.network.specs.Lists.{any, every, member}
+use Rattle.network.specs.Lists.{member}
 use Rattle.network.proofs.Lists.{every_all, member_mem, mem_member}
-use Rattle.topology_types.specs.declared.Answer.{Answer}
+use Rattle.topology_types.specs.Outcome.{Answer}
 use Rattle.topology_types.specs.Outcome.{answer}
-use Rattle.stream_rules.specs.declared.Reading.{Reading}
-use Rattle.stream_rules.specs.declared.Record.{Record}
+use Rattle.stream_rules.specs.Reading.{Reading}
+use Rattle.stream_rules.specs.Record.{Record}
 use Rattle.stream_rules.specs.Halves.{StreamListing}
 use Rattle.stream_rules.specs.Reading.{fault, reading}
 use Rattle.stream_rules.specs.Theorems.{success, refused, listed_in, BytesList, RecordBytes, ReadAnswers, ReadNumbers}

@@ -1,3 +1,4 @@
+pub mod Record
 pub mod Halves
 pub mod Stream
 pub mod Reading

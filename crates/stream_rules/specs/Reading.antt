@@ -1,22 +1,34 @@
 -- Reading a topology stream: records in turn, the first fault ends it (01, Topology stream; Refusals and where they point).
 -- Assumes nothing.
 use Rattle.std.specs.Prelude.{ℕ, zero, suc, ◌+◌, Bool, true, false, cond, not, ◌&&◌, List, [], ◌∷◌, ◌++◌, eqb, ltb, leb, length}
+use Rattle.std.specs.Prelude.{Result, Ok, Err}
 use Rattle.network.specs.Lists.{any, keep, member}
 use Rattle.topology_types.specs.declared.Half.{Half}
 use Rattle.topology_types.specs.declared.Link.{Link}
 use Rattle.topology_types.specs.Limits.{most_routers, most_halves, most_neighbours, most_next_hops, default_next_hops}
-use Rattle.topology_types.specs.Outcome.{answer}
+use Rattle.topology_types.specs.declared.Refusal.{Refusal}
+use Rattle.topology_types.specs.declared.Topology.{Topology}
+use Rattle.topology_types.specs.Outcome.{Answer, answer, number_of}
 use Rattle.topology_types.specs.Topology.{Contents, held, zeros}
 use Rattle.topology_sound.specs.Sound.{within}
-use Rattle.stream_rules.specs.declared.Reading.{Reading}
-use Rattle.stream_rules.specs.declared.Record.{Record}
-use Rattle.stream_rules.specs.declared.Record.TheVariants as record_of
+use Rattle.stream_rules.specs.Record.{Record}
+use Rattle.stream_rules.specs.Record as record_of
 use Rattle.stream_rules.specs.Halves.{StreamListing, halves, same_half, leaves, opposite, link_of}
 use Rattle.stream_rules.specs.Stream.{records}
+
+-- What reading answers, and the topology that it returns.
+pub record Reading : Type 0 where
+  pub answer : Answer
+  pub topology : Topology
 
 -- 01, Refusals: a refused reading returns the topology of all zeros
 unfoldable pub refusal : ℕ → ℕ → Reading
 refusal number at = record { answer = answer number at; topology = zeros }
+
+-- 01, Refusals: the reading that a call's result stands for
+abbrev pub reading_of : Result Topology Refusal → Reading
+reading_of (Ok t) = record { answer = answer 0 0; topology = t }
+reading_of (Err r) = refusal (number_of r.fault) r.at
 
 -- 01, Refusals: a success has number 0 and, since no buffer is written, at 0
 unfoldable pub accepted_reading : Contents → Reading

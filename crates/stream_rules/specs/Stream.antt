@@ -2,8 +2,8 @@
 -- Assumes nothing.
 use Rattle.std.specs.Prelude.{ℕ, zero, suc, ◌+◌, ◌*◌, ◌/◌, ◌%◌, ◌^◌, cond, ◌||◌, List, [], ◌∷◌, eqb, ltb, length, get_or, take, drop}
 use Rattle.topology_types.specs.declared.Half.{Half}
-use Rattle.stream_rules.specs.declared.Record.{Record}
-use Rattle.stream_rules.specs.declared.Record.TheVariants as record_of
+use Rattle.stream_rules.specs.Record.{Record}
+use Rattle.stream_rules.specs.Record as record_of
 
 -- numbers are big-endian: n, and after it the digits
 unfoldable pub big_endian_on : ℕ → List ℕ → ℕ

@@ -1,17 +1,9 @@
 // The records of a topology stream, and what reading one returns (01, Topology stream). The definitions and theorems of these stand in specs/.
 #![tactic(auto)]
 
-use topology_types::{Answer, Half, Topology};
+use topology_types::Half;
 
-// What reading returns: a refused one has the topology of all zeros.
-#[derive(Clone, Copy)]
-pub struct Reading {
-    pub answer: Answer,
-    pub topology: Topology,
-}
-
-// One record of the stream, or the number of the refusal that stands in its place. A link's record, kind 2, counts as both its halves, the second the
-// opposite of the one it has here (02, #105).
+// One record of the stream. A link's record, kind 2, counts as both its halves, the second the opposite of the one it has here (02, #105).
 #[derive(Clone, Copy)]
 pub enum Record {
     Router(u32),
@@ -19,5 +11,4 @@ pub enum Record {
     Half(Half),
     Limit(u8),
     End,
-    Refused(u8),
 }

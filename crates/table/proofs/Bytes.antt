@@ -7,30 +7,26 @@ use mathlib.Core.Path.{◌≡◌, refl, sym, ap, ◌∙◌, subst}
 use native.Mathlib.Decide.{dec_lt}
 use native.Mathlib.Nat.{not-suc-le-zero, le_of_suc-le-suc, mul-suc, mul-zero}
 use native.Mathlib.Omega.{arith}
-use lib.ListN.{length, get_or, replicate, length-append, length-map, length-take, get_or-replicate, get_or-append}
+use lib.ListN.{length, get_or, replicate, length-map, get_or-replicate, get_or-append}
 use lib.Seq.{get_or-append-add, ext_get_or}
 use Rattle.network.specs.Lists.{below}
 use Rattle.network.specs.Network.{Arc, Network, size}
 use Rattle.network.specs.Distance.{distances}
-use Rattle.network.specs.Row.{full_row, row}
+use Rattle.network.specs.Row.{row}
 use Rattle.network.proofs.Below.{length_below}
 use Rattle.topology_types.specs.Topology.{padded}
 use Rattle.topology_sound.proofs.Stores.{get_d_number}
 use Rattle.topology.specs.Written.{joined_over}
+use Rattle.topology.proofs.Joined.{joined_length}
 use Rattle.table_rows.specs.Layout.{narrow, spread}
 use Rattle.table_rows.specs.Bytes.{rank_or_none, header_bytes, row_of, table_of, table_bytes}
 use Rattle.table_rows.proofs.Layouts.{bytewise, row_is}
-use Rattle.table_rows.proofs.Putting.{row_wide}
+use Rattle.table_rows.proofs.Putting.{row_few, row_wide}
 use Rattle.table.specs.Theorems.{RowAt, TableIs, BytesExact}
 use Rattle.table.proofs.Ordered.{as_byte}
 
--- pieces of width w, one after the other: how long they are, and what stands in the one at i
+-- pieces of width w, one after the other: what stands in the one at i
 module _ {A : Type 0} (f : A → List ℕ) (w : ℕ) (wide : (x : A) → length (f x) ≡ w) where
-  pub joined_long : (xs : List A) → length (joined_over f xs) ≡ w * length xs
-  unfolding joined_over
-  joined_long [] = sym (mul-zero w)
-  joined_long (x ∷ xs) = rw (length-append, joined_long xs, wide x, mul-suc) (omega arith)
-
   pub joined_at : (xs : List A) (i k : ℕ) (z : A) → i < length xs → k < w → get_or (joined_over f xs) (w * i + k) 0 ≡ get_or (f (get_or xs i z)) k 0
   unfolding joined_over
   joined_at [] i k z h l = absurd (not-suc-le-zero h)
@@ -55,9 +51,8 @@ module _ (n : Network) (d limit : ℕ) (few : limit ≤ 16) (order : List ℕ) w
   abbrev table : List ℕ
   table = table_bytes n d limit order
 
-  pub row_few : (u : ℕ) → length (row n (distances n d) limit order u) ≤ 16
-  unfolding row
-  row_few u = omega (arith, length-take limit (full_row n (distances n d) order u))
+  its_few : (u : ℕ) → length (entries u) ≤ 16
+  its_few = row_few n (distances n d) limit few order
 
   places_long : (u : ℕ) → length (places u) ≡ length (entries u)
   places_long u = length-map (entries u) (λ (a : Arc). a.to)
@@ -72,7 +67,7 @@ module _ (n : Network) (d limit : ℕ) (few : limit ≤ 16) (order : List ℕ) w
 
   table_long : length table ≡ 4 + 19 * size n
   unfolding table_bytes table_of header_bytes spread
-  table_long = omega (arith, joined_long bytes 19 (row_wide narrow (rank_or_none order) entries row_few) (below (size n)), length_below (size n))
+  table_long = omega (arith, joined_length bytes (row_wide narrow (rank_or_none order) entries its_few) (below (size n)), length_below (size n))
 
   -- byte k of the row of u
   row_at : (u k i : ℕ) → i ≡ 4 + (19 * u + k) → u < size n → k < 19 → get_or table i 0 ≡ get_or (plain u) k 0
@@ -80,7 +75,7 @@ module _ (n : Network) (d limit : ℕ) (few : limit ≤ 16) (order : List ℕ) w
   row_at u k i e h l =
       ap (λ (j : ℕ). get_or table j 0) e
       ∙ get_or-append-add (header_bytes narrow d (size n) limit) (joined_over bytes (below (size n))) (19 * u + k) 0
-      ∙ joined_at bytes 19 (row_wide narrow (rank_or_none order) entries row_few) (below (size n)) u k 0 (rw length_below h) l
+      ∙ joined_at bytes 19 (row_wide narrow (rank_or_none order) entries its_few) (below (size n)) u k 0 (rw length_below h) l
       ∙ ap (λ (v : ℕ). get_or (bytes v) k 0) (get_d_number (size n) u h)
       ∙ ap (λ (r : List ℕ). get_or r k 0) (row_plain u)
 
@@ -92,7 +87,7 @@ module _ (n : Network) (d limit : ℕ) (few : limit ≤ 16) (order : List ℕ) w
         rank_is = (as_byte order u _).1 (row_at u 1 _ (omega arith) h (omega arith));
         count = row_at u 2 _ (omega arith) h (omega arith) ∙ places_long u;
         entry = λ j l.
-            row_at u (suc (suc (suc j))) _ (omega arith) h (omega (arith, row_few u))
+            row_at u (suc (suc (suc j))) _ (omega arith) h (omega (arith, its_few u))
             ∙ get_or-append (places u) (replicate (16 - length (places u)) 255) 0 j (omega (arith, places_long u));
         padding = λ j l m.
             row_at u (suc (suc (suc j))) _ (omega arith) h (omega arith)

@@ -18,8 +18,9 @@ use Rattle.network.specs.Order.{shortest-path, free, build, accepted}
 use Rattle.network.specs.Theorems.Order.{Accepted}
 use Rattle.network.proofs.Tests.{both, and, truth, as_true, as_false}
 use Rattle.network.proofs.Order.{acceptance_exact, built_accepted, shortest_path_is_free}
-use Rattle.topology_types.specs.Outcome.{first_or, answer}
-use Rattle.topology_types.specs.declared.Answer.{Answer}
+use Rattle.std.proofs.Common.{Some, None}
+use Rattle.topology_types.specs.Outcome.{answer}
+use Rattle.topology_types.specs.Outcome.{Answer}
 use Rattle.topology_types.specs.declared.Topology.{Topology}
 use Rattle.topology_types.specs.Topology.{network_of}
 use Rattle.topology_sound.specs.Sound.{sound}
@@ -31,7 +32,7 @@ use Rattle.order_standings.specs.declared.Mode.TheVariants as mode
 use Rattle.order.specs.Calls.{mode_of, reached_count_lem, order_bytes, refused_at_first, judging, checking}
 use Rattle.distances.specs.Inner.{Settled}
 use Rattle.order.proofs.Answers.{is_0}
-use Rattle.order.proofs.Decided.{judged, first_there, none_there, ranks_below}
+use Rattle.order.proofs.Decided.{judged, first_found, none_found}
 use Rattle.order.proofs.Orders.{exact, checks}
 use Rattle.order.proofs.Reached.{accepted_long}
 use Rattle.table_rows.specs.Layout.{row_start_lem, table_length, number_at}
@@ -39,7 +40,7 @@ use Rattle.table_rows.specs.Bytes.{rank_or_none}
 use Rattle.table_rows.specs.Inner.{Fillable}
 use Rattle.table_rows.proofs.RankBytes.{accepted_ranked}
 use Rattle.table.specs.Listed.{layout_of, destination_in_lem, rank_in_lem, by_rank, order_in}
-use Rattle.table.specs.Calls.{sound_header, sound_ranks, differing, wrong_bytes, table_judging, right_bytes, right_ranks}
+use Rattle.table.specs.Calls.{sound_header, sound_ranks, wrong_bytes, table_judging, right_ranks}
 use Rattle.table.specs.Inner.{first_wrong_lem}
 use Rattle.table.specs.Theorems.{TableIs}
 use Rattle.table.proofs.Ordered.{long, as_byte}
@@ -141,47 +142,32 @@ module _ (t : Topology) (table : List ℕ) where
   unfolding table_judging
   wrong_length other = rw (ne_eqb (length table) (table_length (layout_of table) t.routers) other)
 
-  offsets_below : (x : ℕ) → Memᴰ x (wrong_bytes (network_of t) t.routers table) → x < length table
-  unfolding wrong_bytes right_bytes differing below
-  offsets_below x m = ranks_below _ 0 (length table) (length table) (omega arith) x m
-
   module _ (long : length table ≡ table_length (layout_of table) t.routers) where
     pub wrong_start : (T (starts? t table) → ⊥) → answer 21 0 ≡ table_judging t table
     unfolding table_judging
     wrong_start out = rw (eq-eqb (length table) (table_length (layout_of table) t.routers) long, as_false (starts? t table) out)
 
-    module _ (start : T (starts? t table)) (r : ℕ) (found : r ≡ first_or (length table) (wrong_bytes (network_of t) t.routers table)) where
-      pub wrong_byte : r < length table → answer 21 r ≡ table_judging t table
-      unfolding table_judging
-      wrong_byte h =
-          rw (eq-eqb (length table) (table_length (layout_of table) t.routers) long, as_true (starts? t table) start)
-          (first_there (wrong_bytes (network_of t) t.routers table) (length table) r 21 (answer 0 0) found h)
-
-      pub none_wrong : length table ≤ r → answer 0 0 ≡ table_judging t table
-      unfolding table_judging refused_at_first
-      none_wrong h =
-          rw (
-            eq-eqb (length table) (table_length (layout_of table) t.routers) long,
-            as_true (starts? t table) start,
-            none_there (wrong_bytes (network_of t) t.routers table) (length table) r offsets_below found h,
-          )
-
-    -- 0 where a rank differs, or the first wrong byte: it is what 21 points at, and where there is none the table is accepted
-    module _ (header : T (sound_header t.routers table)) (r : ℕ) (found : r ≡ first_wrong_lem (network_of t) t.routers table) where
+    -- what 21 points at, if the header is sound: the first wrong byte, or 0 where a rank differs; where there is neither, the table is accepted
+    module _ (header : T (sound_header t.routers table)) where
       abbrev ranks? : Bool
       ranks? = sound_ranks (network_of t) t.routers table
 
-      passes : T ranks? → T (starts? t table)
-      passes h = and (sound_header t.routers table) ranks? header h
+      right : T ranks? → table_judging t table ≡ refused_at_first 21 (wrong_bytes (network_of t) t.routers table) (answer 0 0)
+      unfolding table_judging
+      right h =
+          rw (eq-eqb (length table) (table_length (layout_of table) t.routers) long, as_true (starts? t table) (and (sound_header t.routers table) ranks? header h))
 
-      pub wrong_at : r < length table → answer 21 r ≡ table_judging t table
+      other : (T ranks? → ⊥) → answer 21 0 ≡ table_judging t table
+      other out = wrong_start (λ start. out (both (sound_header t.routers table) ranks? start).1)
+
+      pub wrong_at : (r : ℕ) → Some r ≡ first_wrong_lem (network_of t) t.routers table → answer 21 r ≡ table_judging t table
       unfolding first_wrong_lem
-      wrong_at h =
-          ⊎_elim (λ right. wrong_byte (passes right) r (rw (as_true ranks? right) at found) h)
-          (λ out. rw (rw (as_false ranks? out) at found) (wrong_start (λ start. out (both (sound_header t.routers table) ranks? start).1))) (truth ranks?)
+      wrong_at r e =
+          ⊎_elim (λ h. first_found _ r 21 (answer 0 0) (rw (as_true ranks? h) at e) ∙ sym (right h))
+          (λ out. let zero : Some r ≡ Some 0 = rw (as_false ranks? out) at e in let same : r ≡ 0 = cc in ap (answer 21) same ∙ other out) (truth ranks?)
 
-      pub none_at : length table ≤ r → answer 0 0 ≡ table_judging t table
-      unfolding first_wrong_lem row_start_lem
-      none_at h =
-          ⊎_elim (λ right. none_wrong (passes right) r (rw (as_true ranks? right) at found) h)
-          (λ out. let zero : r ≡ 0 = rw (as_false ranks? out) at found in absurd (omega arith)) (truth ranks?)
+      pub none_at : None ≡ first_wrong_lem (network_of t) t.routers table → answer 0 0 ≡ table_judging t table
+      unfolding first_wrong_lem refused_at_first
+      none_at e =
+          ⊎_elim (λ h. let none = none_found _ (rw (as_true ranks? h) at e) in sym (right h ∙ rw none))
+          (λ out. let no : None ≡ Some 0 = rw (as_false ranks? out) at e in absurd cc) (truth ranks?)

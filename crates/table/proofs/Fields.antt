@@ -78,14 +78,14 @@ pub row_within : (table : List ℕ) (n u : ℕ) → n ≤ 64 → u < n → table
 unfolding row_start_lem
 row_within table n u few inside long = record { place = omega arith; whole = omega arith }
 
--- so an accepted table, read by its layout, has its header, and the row of each router
-module _ {t : Topology} {table : List ℕ} (stands : TableStands t table) {l : Layout} (same : l ≡ layout_of table) where
-  pub headed : (l ≡ layout_of table) × (header_length l ≤ length table)
+-- so an accepted table has its header, and the row of each router
+module _ {t : Topology} {table : List ℕ} (stands : TableStands t table) where
+  pub headed : header_length (layout_of table) ≤ length table
   unfolding row_start_lem
-  headed = (same, rw same (omega (arith, stands.long)))
+  headed = omega (arith, stands.long)
 
-  pub rowed : (u : ℕ) → u < t.routers → (l ≡ layout_of table) × HasRow table u × (entry_count table u ≤ most_next_hops)
-  rowed u inside = (same, (stands.rows u inside).stands, (stands.rows u inside).few)
+  pub rowed : (u : ℕ) → u < t.routers → HasRow table u × (entry_count table u ≤ most_next_hops)
+  rowed u inside = ((stands.rows u inside).stands, (stands.rows u inside).few)
 
 pub length_right : LengthRight
 unfolding row_start_lem

@@ -9,3 +9,6 @@ pub mod Falls
 pub mod Stands
 pub mod Fills
 pub mod Calling
+pub mod Places
+pub mod Differing
+pub mod Filling

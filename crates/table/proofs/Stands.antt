@@ -10,6 +10,7 @@ use native.Mathlib.Omega.{arith}
 use lib.Dec.{T}
 use lib.ListN.{length, get_or, length-map, get_or-eq_default, drop_of_length-le}
 use Rattle.network.specs.Network.{Arc, Network, size}
+use Rattle.network.specs.Distance.{distances}
 use Rattle.network.proofs.Order.{order_fits}
 use Rattle.topology_types.specs.declared.Topology.{Topology}
 use Rattle.topology_types.specs.Outcome.{answer}
@@ -23,7 +24,7 @@ use Rattle.table.specs.Calls.{table_checking}
 use Rattle.table.specs.Inner.{RowOf, TableStands}
 use Rattle.table.specs.Theorems.{GivenBy, TableFalls}
 use Rattle.table.proofs.Fields.{fields_read, places_long, row_within, length_right}
-use Rattle.table.proofs.Bytes.{row_few}
+use Rattle.table_rows.proofs.Putting.{row_few}
 use Rattle.table.proofs.Verdicts.{accepted_given}
 use Rattle.table.proofs.Lists.{places_are, rows_by_path, accepted_list}
 use Rattle.table.proofs.Falls.{accepted_fall}
@@ -69,7 +70,7 @@ module _ (t : Topology) (good : T (sound t)) (table : List ℕ) (right : table_c
       let same = ap (λ (arcs : List Arc). length arcs) ((accepted_list t good table right).entries u) in
       record {
         stands = row_within table t.routers u few h (omega (arith, long, length_right t.routers));
-        few = omega (arith, many, same, places_long table u, row_few n (get_or table 1 0) (get_or table 3 0) given.limit_most order u);
+        few = omega (arith, many, same, places_long table u, row_few n (distances n (get_or table 1 0)) (get_or table 3 0) given.limit_most order u);
         places = λ v m.
             let (a, k, e) = Memᴰ.of_map (λ (b : Arc). b.to) (entries_in n table u) (subst (Memᴰ v) (places u) m) in
             omega (arith, e, few, routers_are, ((sound_networks t good).well_formed.sound u a (falls.falling.arcs u a k)).place);

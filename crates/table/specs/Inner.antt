@@ -1,6 +1,6 @@
 -- What the inner functions ask, and what they find; of the open contracts only those of `unchecked` name it, for what they ask of a row.
 -- Assumes nothing.
-use Rattle.std.specs.Prelude.{ℕ, ◌+◌, ◌≤◌, ◌<◌, cond, ◌≡◌, T, length, take}
+use Rattle.std.specs.Prelude.{ℕ, ◌+◌, ◌≤◌, ◌<◌, cond, ◌≡◌, T, Option, Some, length}
 use mathlib.Core.List.{List, map, Memᴰ}
 use Rattle.network.specs.Network.{Network}
 use Rattle.network.specs.Distance.{PathTo}
@@ -8,10 +8,9 @@ use Rattle.network.specs.Order.{free}
 use Rattle.network.specs.Theorems.Order.{Accepted}
 use Rattle.topology_types.specs.declared.Topology.{Topology}
 use Rattle.topology_types.specs.Limits.{most_routers, most_next_hops}
-use Rattle.topology_types.specs.Outcome.{first_or}
 use Rattle.topology_types.specs.Topology.{network_of}
 use Rattle.arcs.specs.declared.Arcs.{Arcs}
-use Rattle.order.specs.Calls.{order_bytes}
+use Rattle.order.specs.Calls.{order_bytes, first_of}
 use Rattle.order.specs.Inner.{Measured}
 use Rattle.table_rows.specs.Layout.{row_start_lem, row_length, table_length}
 use Rattle.table.specs.Listed.{layout_of, destination_in_lem, rank_in_lem, entry_count, places_in, entries_in, by_rank, order_in}
@@ -46,9 +45,9 @@ pub record Started (t : Topology) (a : Arcs) (ds table order : List ℕ) : Type 
   pub long : length table ≡ table_length (layout_of table) t.routers
   pub header : T (sound_header t.routers table)
   pub in_free : Accepted (network_of t) (destination_in_lem table) free (order_in t.routers table)
-  pub order_is : take t.routers order ≡ by_rank t.routers table
+  pub order_is : order ≡ by_rank t.routers table
   pub bytes_are : by_rank t.routers table ≡ order_bytes t.routers (order_in t.routers table)
 
--- the first wrong byte, the length where there is none, and 0 where the ranks are not those of the order that they form
-unfoldable pub first_wrong_lem : Network → ℕ → List ℕ → ℕ
-first_wrong_lem n count table = cond (sound_ranks n count table) (first_or (length table) (wrong_bytes n count table)) 0
+-- the first wrong byte, if there is one, and 0 where the ranks are not those of the order that they form
+unfoldable pub first_wrong_lem : Network → ℕ → List ℕ → Option ℕ
+first_wrong_lem n count table = cond (sound_ranks n count table) (first_of (wrong_bytes n count table)) (Some 0)

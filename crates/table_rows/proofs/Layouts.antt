@@ -9,7 +9,7 @@ use lib.ListN.{length}
 use Rattle.topology_types.specs.Topology.{padded}
 use Rattle.topology.specs.Written.{joined_over}
 use Rattle.table_rows.specs.declared.Layout.{Layout}
-use Rattle.table_rows.specs.Layout.{narrow, spread}
+use Rattle.table_rows.specs.Layout.{narrow, row_length, spread}
 use Rattle.table_rows.specs.Bytes.{header_bytes, row_bytes}
 use Rattle.table_rows.specs.Inner.{Readable, Bytewise}
 
@@ -32,6 +32,9 @@ module _ (l : Layout) (w : Bytewise l) where
   pub header_is : (d count limit : ℕ) → header_bytes l d count limit ≡ l.kind ∷ d ∷ count ∷ limit ∷ []
   unfolding header_bytes spread
   header_is d count limit = rw (w.place, w.rank)
+
+  pub row_wide : row_length l ≡ 19
+  row_wide = omega (arith, w.place, w.rank)
 
   pub row_is : (rank : ℕ) (places : List ℕ) → row_bytes l rank places ≡ l.rows ∷ rank ∷ length places ∷ padded 255 16 places
   unfolding row_bytes spread

@@ -1,6 +1,6 @@
 pub mod Layouts
 pub mod Carrying
-pub mod SlotKeys
+pub mod ArcKeys
 pub mod Padding
 pub mod Mapped
 pub mod RankBytes

@@ -1,46 +1,44 @@
--- The entries of a row, one by one: the places that the keys name, and 255 behind them.
+-- The entries of a row: the places that the first keys name, and 255 behind them. A store puts the next place.
 -- Assumes nothing.
-use Prim.Native.Nat.{ℕ, ◌+◌, ◌-◌, ◌%◌, ◌≤◌, ◌<◌}
-use mathlib.Core.List.{List, map}
-use mathlib.Core.Path.{◌≡◌, ap, ◌∙◌}
-use native.Mathlib.Numerals.{add-one}
-use native.Mathlib.Omega.{arith}
-use lib.ListN.{length, get_or, take, set, length-append, length-map, length-replicate, get_or-replicate, get_or-append, get_or-map}
-use lib.Seq.{length-take-le, get_or-append-add, get_or-take, take-suc}
-use Rattle.topology_types.specs.Topology.{padded}
-use Rattle.topology.specs.Inner.{over}
-use Rattle.topology.proofs.Over.{over_length, over_next}
+use Rattle.std.proofs.Common.{◌≡◌, ℕ, suc, ◌+◌, ◌-◌, ◌%◌, ◌≤◌, ◌<◌, List, [], ◌∷◌, ◌++◌, length, get_or, take, drop, map, set, replicate, arith, ap, sym, ◌∙◌, append_assoc}
+use Rattle.std.proofs.lemmas.List.{map_more, length-map, take_all, drop_all}
+use Rattle.std.proofs.Math.Seq.{length-take-le}
+use Rattle.std.proofs.Math.Seq.{set-append_seam}
 use Rattle.table_rows.specs.Inner.{place_in_key}
 
-module _ (keys : List ℕ) (count : ℕ) (few : count ≤ 16) (long : length keys ≡ 16) where
-  abbrev pub entries : List ℕ
-  entries = padded 255 16 (map place_in_key (take count keys))
+module _ (keys : List ℕ) (few : length keys ≤ 16) where
+  abbrev pub entries : ℕ → List ℕ
+  entries i = map place_in_key (take i keys) ++ replicate (16 - i) 255
 
-  pub named : length (map place_in_key (take count keys)) ≡ count
-  named = simp (length-map, length-take-le count keys (omega arith))
+  entries_next : (i : ℕ) → i < length keys → set (entries i) i (get_or keys i 0 % 256) ≡ entries (i + 1)
+  unfolding place_in_key
+  entries_next i h =
+      let named : List ℕ = map place_in_key (take i keys) in
+      let rest : List ℕ = replicate (16 - (i + 1)) 255 in
+      let long : length named ≡ i = simp (length-map, length-take-le i keys (omega arith)) in
+      let one : 16 - i ≡ suc (16 - (i + 1)) = omega arith in
+      rw (one, map_more place_in_key keys i 0 h)
+      (ap (λ (j : ℕ). set (named ++ 255 ∷ rest) j (get_or keys i 0 % 256)) (sym long) ∙ set-append_seam named 255 rest _
+      ∙ sym (append_assoc named _ rest))
 
-  pub entries_length : length entries ≡ 16
-  unfolding padded
-  entries_length = simp (length-append, length-replicate, named) (omega arith)
+  -- the same behind the front of a row
+  pub row_next : (kind rank i : ℕ) → i < length keys →
+      set (kind ∷ rank ∷ length keys ∷ entries i) (3 + i) (get_or keys i 0 % 256) ≡ kind ∷ rank ∷ length keys ∷ entries (i + 1)
+  row_next kind rank i h =
+      let third : 3 + i ≡ suc (suc (suc i)) = omega arith in
+      rw third (ap (λ (xs : List ℕ). kind ∷ rank ∷ length keys ∷ xs) (entries_next i h))
 
-  pub entry_used : (i : ℕ) → i < count → get_or entries i 0 ≡ get_or keys i 0 % 256
-  unfolding padded place_in_key
-  entry_used i h =
-      rw (get_or-append (map place_in_key (take count keys)) _ 0 i (rw named h))
-      (get_or-map place_in_key (take count keys) i 0 ∙ ap place_in_key (get_or-take count keys i 0 h))
-
-  pub entry_unused : (i : ℕ) → count ≤ i → i < 16 → get_or entries i 0 ≡ 255
-  unfolding padded
-  entry_unused i h k =
-      let behind : i ≡ length (map place_in_key (take count keys)) + (i - count) = rw named (omega arith) in
-      ap (λ (j : ℕ). get_or entries j 0) behind ∙ get_or-append-add (map place_in_key (take count keys)) _ (i - count) 0
-      ∙ get_or-replicate (16 - length (map place_in_key (take count keys))) (i - count) 255 0 (rw named (omega arith))
-
--- the first i of some bytes, put into a buffer from `at` on; a store puts the next one
-module _ (buffer : List ℕ) (at : ℕ) (xs : List ℕ) (fits : at + length xs ≤ length buffer) (i : ℕ) {out : List ℕ} (put : out ≡ over buffer at (take i xs)) where
-  pub begun_length : i ≤ length xs → length out ≡ length buffer
-  begun_length inside = rw put (over_length buffer at (take i xs) (rw (length-take-le i xs inside) (omega arith)))
-
-  pub begun_next : (x : ℕ) → i < length xs → x ≡ get_or xs i 0 → set out (at + i) x ≡ over buffer at (take (i + 1) xs)
-  begun_next x inside e =
-      rw (put, e, over_next buffer at (take i xs) (get_or xs i 0) (at + i) (rw (length-take-le i xs (omega arith))) (omega arith), add-one, take-suc xs i 0 inside)
+-- the front put, and 255 behind it
+pub row_begun : (row : List ℕ) → length row ≡ 19 → (kind rank count : ℕ) (ys : List ℕ) →
+    ys ≡ replicate (length (take (length (set (set (set row 0 kind) 1 rank) 2 count) - 3) (drop 3 (set (set (set row 0 kind) 1 rank) 2 count)))) 255 →
+    take 3 (set (set (set row 0 kind) 1 rank) 2 count) ++ (ys ++ drop (length (set (set (set row 0 kind) 1 rank) 2 count) - 3) (drop 3 (set (set (set row 0 kind) 1 rank) 2 count)))
+    ≡ kind ∷ rank ∷ count ∷ replicate 16 255
+row_begun [] e kind rank count ys f = absurd (omega arith)
+row_begun (x ∷ []) e kind rank count ys f = absurd (omega arith)
+row_begun (x ∷ y ∷ []) e kind rank count ys f = absurd (omega arith)
+row_begun (x ∷ y ∷ z ∷ rest) e kind rank count ys f =
+    let long : length rest ≡ 16 = omega (arith, e) in
+    let all : suc (suc (suc (length rest))) - 3 ≡ 16 = omega arith in
+    let short : length rest ≤ 16 = omega arith in
+    let entries : ys ≡ replicate 16 255 = f ∙ rw (all, take_all 16 rest short, long) in
+    rw (all, drop_all 16 rest short, entries)

@@ -10,7 +10,8 @@ mod writing;
 // A row has room for as many entries as K may be.
 pub const ENTRIES: usize = NEXT_HOPS as usize;
 
-// How a table is laid out: its kind and that of its rows, and how many bytes a place and a rank have (specs/Layout.antt).
+// How a table is laid out: its kind and that of its rows, and how many bytes a place and a rank have (specs/Layout.antt). The kinds are the bytes that stand
+// in a table, so that a further kind of table is one more value.
 #[derive(Clone, Copy)]
 pub struct Layout {
     pub kind: u8,

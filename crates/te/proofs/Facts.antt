@@ -1,7 +1,7 @@
 -- The prover computes every fact from the definitions.
 -- Assumes nothing.
 use lib.Ieee.{of_bits, to_bits}
-use Rattle.network.specs.Lists.{every, same_numbers}
+use Rattle.network.specs.Lists.{same_numbers}
 use Rattle.stream_rules.specs.Stream.{big_endian_on, big_endian, in_bytes}
 use Rattle.te.specs.SubTlvs.{type_of, length_of, span_of, cut_short, number_in, usable, case_of, judged, sub_in}
 use Rattle.te.specs.Cost.{nothing, gathered, held_to_range, bandwidth_cost, maximum_cost, record_cost, refused_cost, concluded, fault_of_lem, added_sub, taken_from, costing}

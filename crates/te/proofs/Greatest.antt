@@ -8,7 +8,7 @@ use native.Mathlib.Nat.{lt_of_lt_of_le, le-div_iff_mul-le, div-lt_iff_lt-mul}
 use native.Mathlib.Omega.{arith, by_contra}
 use lib.Dec.{T, ltb, leb→le}
 use lib.IntN.{ℤ}
-use lib.Ieee.{fin, up, down}
+use lib.Ieee.{Float, nan, inf, fin, up, down}
 use lib.Ieee.Fits.{down_pos}
 use borrow.Author.Tests.{ltb-true, ltb-false}
 use Rattle.te.specs.SubTlvs.{usable}
@@ -30,6 +30,13 @@ ranged q = go (ltb q 1) (ltb 65535 q) refl refl
     go true b h k = record { least = omega arith; most = omega arith; not_above = λ l. omega arith; greatest = λ l. omega (arith, ltb-true) }
     go false true h k = record { least = omega arith; most = omega arith; not_above = λ l. omega (arith, ltb-true); greatest = λ l. omega arith }
     go false false h k = record { least = omega (arith, ltb-false); most = omega (arith, ltb-false); not_above = λ l. omega arith; greatest = λ l. omega arith }
+
+-- a bandwidth that can be used costs at least 1
+pub costs_something : (x : Float) → T (usable x) → 1 ≤ bandwidth_cost x
+unfolding usable bandwidth_cost
+costs_something nan u = absurd u
+costs_something (inf s) u = absurd u
+costs_something (fin s m e) u = (ranged (12500000 * down e / (m * up e))).least
 
 not_below : {q x y : ℕ} → Ranged q x → Ranged q y → y ≤ x
 not_below {x} {y} r s = by_contra y x (λ l. omega (arith, r.greatest (omega arith), s.not_above (omega arith)))

@@ -7,7 +7,7 @@ use mathlib.Core.Path.{◌≡◌, refl}
 use borrow.Author.Tests.{eq-eqb, ne_eqb}
 use lib.Dec.{eqb}
 use lib.Ieee.{Float, binary32, of_bits}
-use Rattle.te.specs.declared.Found.TheVariants.{Refused, Is}
+use Rattle.te.specs.SubTlvs.{Refused, Is}
 use Rattle.te.specs.declared.SubTlv.TheVariants.{TeMetric, MaxBandwidth, Reservable}
 use Rattle.te.specs.SubTlvs.{usable, case_of, judged}
 

@@ -16,23 +16,20 @@ use Rattle.te.specs.SubTlvs.{usable}
 use Rattle.te.specs.Cost.{bandwidth_cost, maximum_cost, record_cost}
 use Rattle.te.specs.Theorems.{Kept, Greatest, OneUsable, RecordOf, CostOf}
 use Rattle.te.proofs.Patterns.{finite}
-use Rattle.te.proofs.Greatest.{bandwidth_costs, tested}
+use Rattle.te.proofs.Greatest.{bandwidth_costs, costs_something}
 use Rattle.te.proofs.Costs.{by_metric, too_low, too_high, by_maximum, by_none}
 use Rattle.te.proofs.Says.{split}
 use Rattle.te.proofs.Lasts.{one_metric, is_there}
 
 -- 5 or 6 can be used exactly where the record costs something
 module _ {subs : List SubTlv} {r : LinkRecord} (f : RecordOf subs r) (k : Kept r) where
-  priced : T (usable r.maximum) → 1 ≤ bandwidth_cost r.maximum
-  priced u = let (m, e, is) = finite r.maximum u in rw is (tested m e (subst (λ (x : Float). T (usable x)) is u)).least
-
   pub by_use : OneUsable subs → record_cost r ≢ 0
   by_use (inl (n, l, low, high)) z =
       let same : r.metric ≡ n = one_metric (f.metric.present (is_there TeMetric 0 f.metric l)) l in
       omega (arith, by_metric r (omega arith) (omega arith))
   by_use (inr (x, l)) z =
       let has : r.hasmaximum ≡ true = is_there MaxBandwidth _ f.maximum l in
-      let some = priced (k.maximum_present has) in
+      let some = costs_something r.maximum (k.maximum_present has) in
       elim (split r.metric 1) [
         | inl low ↦ omega (arith, too_low r low, by_maximum r has)
         | inr low ↦ elim (split 65535 r.metric) [

@@ -10,8 +10,7 @@ use lib.Dec.{eqb, eqb→eq}
 use lib.ListN.{length, drop, length-drop}
 use Rattle.network.proofs.Tests.{truth, eq_test}
 use Rattle.topology_types.specs.Outcome.{answer}
-use Rattle.te.specs.declared.Found.{Found}
-use Rattle.te.specs.declared.Found.TheVariants.{Refused, Skipped, Is}
+use Rattle.te.specs.SubTlvs.{Found, Refused, Skipped, Is}
 use Rattle.te.specs.declared.SubTlv.{SubTlv}
 use Rattle.te.specs.declared.LinkRecord.{LinkRecord}
 use Rattle.te.specs.SubTlvs.{span_of, sub_in}

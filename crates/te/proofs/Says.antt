@@ -11,8 +11,7 @@ use lib.Dec.{ltb, eqb, eqb→eq}
 use lib.ListN.{length}
 use Rattle.network.proofs.Tests.{truth, as_true, as_false, eq_test}
 use Rattle.stream_rules.proofs.Stream.{four-at}
-use Rattle.te.specs.declared.Found.{Found}
-use Rattle.te.specs.declared.Found.TheVariants.{Refused, Skipped}
+use Rattle.te.specs.SubTlvs.{Found, Refused, Skipped}
 use Rattle.te.specs.SubTlvs.{type_of, length_of, span_of, number_in, usable, case_of, judged, sub_in}
 use Rattle.te.specs.Theorems as says
 use Rattle.stream_rules.specs.Theorems.{two_at, four_at}
@@ -32,7 +31,7 @@ module _ {s : List ℕ} where
   pub spans : 4 ≤ length s → Span s (span_of s)
   unfolding span_of
   spans h =
-      let is = laws.length_at s 0 h in
+      let is = laws.length_at s h in
       record { header = h; multiple = omega arith; value = omega (arith, is); padding = omega (arith, is) }
 
   pub one_span : {n : ℕ} → Span s n → n ≡ span_of s
@@ -49,13 +48,13 @@ module _ {s : List ℕ} where
     fits = omega (arith, one_span w.span, w.fits)
 
     type_is : type_of s ≡ two_at s 0
-    type_is = laws.type_at s 0 header
+    type_is = laws.type_at s header
 
     length_is : length_of s ≡ two_at s 2
-    length_is = laws.length_at s 0 header
+    length_is = laws.length_at s header
 
     number_is : two_at s 2 ≡ 4 → number_in s ≡ four_at s 4
-    number_is e = laws.number-at s 0 ∙ four-at s 4 (omega (arith, w.span.value, w.fits))
+    number_is e = laws.number-at s ∙ four-at s 4 (omega (arith, w.span.value, w.fits))
 
     low : two_at s 0 < 5 → sub_in s ≡ Skipped
     low h = sym (laws.low s header fits (omega (arith, type_is)))

@@ -3,13 +3,12 @@
 use Prim.Native.Nat.{ℕ, ◌+◌, ◌*◌, ◌/◌, ◌≤◌, ◌<◌}
 use mathlib.Core.List.{List}
 use mathlib.Core.Logic.{◌≢◌}
-use mathlib.Core.Path.{◌≡◌, refl, ap, ◌∙◌}
+use mathlib.Core.Path.{◌≡◌, refl}
 use native.Mathlib.Omega.{arith}
 use borrow.Author.Tests.{eq-eqb, ne_eqb, le-leb, lt-leb, le-ltb, lt-ltb}
 use lib.ListN.{length, get_or, take, drop}
-use lib.Seq.{drop-drop}
 use Rattle.stream_rules.specs.Stream.{big_endian}
-use Rattle.te.specs.declared.Found.TheVariants.{Refused, Skipped}
+use Rattle.te.specs.SubTlvs.{Refused, Skipped}
 use Rattle.te.specs.SubTlvs.{type_of, length_of, span_of, cut_short, number_in, case_of, judged, sub_in}
 use Rattle.stream_rules.proofs.Stream.{two-at}
 
@@ -17,23 +16,23 @@ use Rattle.stream_rules.proofs.Stream.{two-at}
 abbrev pub two : List ℕ → ℕ → ℕ
 two s at = get_or s at 0 * 256 + get_or s (at + 1) 0
 
-module _ (s : List ℕ) (at : ℕ) where
-  module _ (h : at + 4 ≤ length s) where
-    pub type_at : type_of (drop at s) ≡ two s at
+module _ (s : List ℕ) where
+  module _ (h : 4 ≤ length s) where
+    pub type_at : type_of s ≡ two s 0
     unfolding type_of
-    type_at = two-at s at (omega arith)
+    type_at = two-at s 0 (omega arith)
 
-    pub length_at : length_of (drop at s) ≡ two s (at + 2)
+    pub length_at : length_of s ≡ two s 2
     unfolding length_of
-    length_at = ap (λ (l : List ℕ). big_endian (take 2 l)) (drop-drop 2 at s) ∙ two-at s (at + 2) (omega arith)
+    length_at = two-at s 2 h
 
-    pub span-at : span_of (drop at s) ≡ 4 + (two s (at + 2) + 3) / 4 * 4
+    pub span-at : span_of s ≡ 4 + (two s 2 + 3) / 4 * 4
     unfolding span_of
     span-at = rw length_at refl
 
-  pub number-at : number_in (drop at s) ≡ big_endian (take 4 (drop (at + 4) s))
+  pub number-at : number_in s ≡ big_endian (take 4 (drop 4 s))
   unfolding number_in
-  number-at = ap (λ (l : List ℕ). big_endian (take 4 l)) (drop-drop 4 at s)
+  number-at = refl
 
 module _ (s : List ℕ) where
   pub header_cut : length s < 4 → Refused 29 ≡ sub_in s
@@ -67,3 +66,8 @@ module _ (s : List ℕ) where
           right_length h =
               rw (le-ltb (length s) 4 header, le-ltb (length s) (span_of s) whole, le-leb 5 (type_of s) from, le-leb (type_of s) 7 to, eq-eqb (length_of s) 4 h)
               refl
+
+    -- a whole one of type 5, 6 or 7 and of length 4, by its type and its number
+    pub in_all : {kind number : ℕ} → type_of s ≡ kind → number_in s ≡ number → span_of s ≤ length s → 5 ≤ kind → kind ≤ 7 → length_of s ≡ 4 →
+        judged (case_of kind number) ≡ sub_in s
+    in_all k n whole from to l = rw (← k, ← n) (right_length whole (omega arith) (omega arith) l)

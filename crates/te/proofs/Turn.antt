@@ -13,8 +13,7 @@ use denote.Floats.{passes}
 use lib.Dec.{T, leb, eqb}
 use lib.ListN.{length, drop}
 use lib.Ieee.{Float}
-use Rattle.te.specs.declared.Found.{Found}
-use Rattle.te.specs.declared.Found.TheVariants.{Refused, Skipped, Is}
+use Rattle.te.specs.SubTlvs.{Found, Refused, Skipped, Is}
 use Rattle.te.specs.declared.SubTlv.{SubTlv}
 use Rattle.te.specs.declared.SubTlv.TheVariants.{TeMetric, MaxBandwidth, Reservable}
 use Rattle.te.specs.declared.LinkRecord.{LinkRecord}

@@ -6,11 +6,11 @@ use mathlib.Core.Logic.{◌↔◌, ◌⊎◌, inl, inr, ⊎_elim}
 use mathlib.Core.Path.{◌≡◌, refl, sym, ap, subst, ◌∙◌}
 use native.Mathlib.Omega.{arith}
 use lib.ListN.{length, drop}
-use Rattle.topology_types.specs.declared.Answer.{Answer}
+use Rattle.topology_types.specs.Outcome.{Answer}
 use Rattle.topology_types.specs.Outcome.{answer}
-use Rattle.te.specs.declared.Found.TheVariants.{Refused}
+use Rattle.te.specs.SubTlvs.{Refused}
 use Rattle.te.specs.declared.SubTlv.{SubTlv}
-use Rattle.te.specs.declared.LinkCost.{LinkCost}
+use Rattle.te.specs.Cost.{LinkCost}
 use Rattle.te.specs.SubTlvs.{sub_in}
 use Rattle.te.specs.Cost.{nothing, refused_cost, costing}
 use Rattle.te.specs.Theorems.{SubsBefore, OneUsable, CostSays, AnswersEach, CostsReturned, RefusedZero}

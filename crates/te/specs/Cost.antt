@@ -3,13 +3,14 @@
 use Rattle.std.specs.Prelude.{ℕ, zero, suc, ◌+◌, ◌-◌, ◌*◌, ◌/◌, true, false, cond, ◌&&◌, List, [], ◌∷◌, eqb, leb, ltb, pos, Float}
 use Rattle.std.specs.Float.{nan, inf, fin}
 use Rattle.std.specs.Float.Ieee.{up, down}
-use Rattle.topology_types.specs.Outcome.{answer}
-use Rattle.te.specs.declared.Found.{Found}
-use Rattle.te.specs.declared.Found.TheVariants.{Refused, Skipped, Is}
+use Rattle.std.specs.Prelude.{Option, Some, None, Result, Ok, Err}
+use Rattle.topology_types.specs.declared.Refusal.{Refusal}
+use Rattle.topology_types.specs.Outcome.{Answer, answer, number_of}
+use Rattle.te.specs.SubTlvs.{Found, Refused, Skipped, Is}
 use Rattle.te.specs.declared.SubTlv.{SubTlv}
 use Rattle.te.specs.declared.SubTlv.TheVariants.{TeMetric, MaxBandwidth, Reservable}
 use Rattle.te.specs.declared.LinkRecord.{LinkRecord}
-use Rattle.te.specs.declared.LinkCost.{LinkCost}
+use Rattle.te.specs.declared.LinkCost as code
 use Rattle.te.specs.SubTlvs.{span_of, sub_in}
 
 -- 02, #108: absent fields are 0
@@ -70,6 +71,17 @@ maximum_cost r = cond r.hasmaximum (bandwidth_cost r.maximum) 0
 unfoldable pub record_cost : LinkRecord → ℕ
 record_cost r = cond (leb 1 r.metric && leb r.metric 65535) r.metric (maximum_cost r)
 
+-- none where the cost is 0
+abbrev pub some_cost : ℕ → Option ℕ
+some_cost zero = None
+some_cost (suc c) = Some (suc c)
+
+-- What a value answers: a number and an "at", the cost and the record.
+pub record LinkCost : Type 0 where
+  pub answer : Answer
+  pub cost : ℕ
+  pub link : LinkRecord
+
 -- 02, #108: refused, cost and record are all 0
 unfoldable pub refused_cost : ℕ → ℕ → LinkCost
 refused_cost number at = record { answer = answer number at; cost = 0; link = nothing }
@@ -102,3 +114,8 @@ taken_from at (suc skipped) r (byte ∷ rest) = taken_from (at + 1) skipped r re
 -- 02, #108: what the value of a Link TLV answers
 unfoldable pub costing : List ℕ → LinkCost
 costing value = taken_from 0 0 nothing value
+
+-- 02, #108: the answer that the call's result stands for
+abbrev pub costing_of : Result code.LinkCost Refusal → LinkCost
+costing_of (Ok c) = record { answer = answer 0 0; cost = c.cost; link = c.link }
+costing_of (Err r) = refused_cost (number_of r.fault) r.at

@@ -7,7 +7,7 @@ use Rattle.std.specs.Float.Ieee.{up, down, of_bits, to_bits}
 use Rattle.network.specs.Lists.{every, same_numbers}
 use Rattle.stream_rules.specs.Stream.{in_bytes}
 use Rattle.te.specs.declared.LinkRecord.{LinkRecord}
-use Rattle.te.specs.declared.LinkCost.{LinkCost}
+use Rattle.te.specs.Cost.{LinkCost}
 use Rattle.te.specs.Cost.{costing}
 
 pub data Fact : Type 0 where

@@ -3,11 +3,28 @@
 use Rattle.std.specs.Prelude.{ℕ, ◌+◌, ◌*◌, ◌/◌, Bool, true, false, cond, ◌&&◌, ◌||◌, List, eqb, leb, ltb, length, take, drop, Float}
 use Rattle.std.specs.Float.{nan, inf, fin, binary32}
 use Rattle.std.specs.Float.Ieee.{up, down, of_bits}
+use Rattle.std.specs.Prelude.{Option, Some, None, Result, Ok, Err}
 use Rattle.stream_rules.specs.Stream.{big_endian}
-use Rattle.te.specs.declared.Found.{Found}
-use Rattle.te.specs.declared.Found.TheVariants.{Refused, Skipped, Is}
+use Rattle.topology_types.specs.declared.Fault.{Fault}
+use Rattle.topology_types.specs.Outcome.{number_of}
 use Rattle.te.specs.declared.SubTlv.{SubTlv}
 use Rattle.te.specs.declared.SubTlv.TheVariants.{TeMetric, MaxBandwidth, Reservable}
+
+-- what a sub-TLV is: refused by a number, of another type and skipped, or one of the three cases
+pub data Found : Type 0 where
+  Refused : ℕ → Found
+  Skipped : Found
+  Is : SubTlv → Found
+
+-- the same, by what the code makes of it
+abbrev pub found_as : Result (Option SubTlv) Fault → Found
+found_as (Ok (Some s)) = Is s
+found_as (Ok None) = Skipped
+found_as (Err f) = Refused (number_of f)
+
+abbrev pub judged_as : Result SubTlv Fault → Found
+judged_as (Ok s) = Is s
+judged_as (Err f) = Refused (number_of f)
 
 -- 2.3.2: type (2), length (2), then the value. Each definition takes the bytes from the sub-TLV's first byte on.
 

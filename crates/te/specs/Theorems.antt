@@ -1,7 +1,7 @@
 -- What is proved of the call, over all values (02, #108): which bandwidth can be used, what it costs over whole numbers, and that products are exact; what each
 -- sub-TLV says, with its numbers written out, which fault decides, what is kept, and what the link costs.
 -- Assumes nothing.
-use Rattle.std.specs.Prelude.{ℕ, ◌+◌, ◌*◌, ◌≤◌, ◌<◌, ◌%◌, true, false, Bool, ◌↔◌, ◌≢◌, ◌⊎◌, ◌≡◌, T, ℤ, pos, Float, length, get_or, drop}
+use Rattle.std.specs.Prelude.{ℕ, ◌+◌, ◌*◌, ◌≤◌, ◌<◌, ◌%◌, true, false, Bool, ◌↔◌, ◌≢◌, ◌⊎◌, ◌≡◌, T, ℤ, pos, Float, length, drop}
 use mathlib.Core.List.{List, [], ◌∷◌, ◌++◌, Memᴰ}
 use Rattle.std.specs.Float.{inf, fin, binary32, binary64}
 use Rattle.std.specs.Float.Ieee.{up, down, mul, lt, le, of_int, of_bits, fits}
@@ -10,11 +10,10 @@ use Rattle.te.specs.SubTlvs.{usable, sub_in}
 use Rattle.te.specs.declared.LinkRecord.{LinkRecord}
 use Rattle.te.specs.Cost.{bandwidth_cost, costing}
 use Rattle.topology_types.specs.Outcome.{answer}
-use Rattle.te.specs.declared.Found.{Found}
-use Rattle.te.specs.declared.Found.TheVariants.{Refused, Skipped, Is}
+use Rattle.te.specs.SubTlvs.{Found, Refused, Skipped, Is}
 use Rattle.te.specs.declared.SubTlv.{SubTlv}
 use Rattle.te.specs.declared.SubTlv.TheVariants.{TeMetric, MaxBandwidth, Reservable}
-use Rattle.te.specs.declared.LinkCost.{LinkCost}
+use Rattle.te.specs.Cost.{LinkCost}
 
 -- 02, #108, 28: a bandwidth can be used if and only if it is not below 1 and finite, by the comparisons of IEEE 754 with 1 and with the infinity
 abbrev pub UsableEach : Type 0

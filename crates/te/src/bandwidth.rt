@@ -4,7 +4,7 @@ ghost use Rattle.te.specs.SubTlvs.{usable};
 ghost use Rattle.te.specs.Cost.{bandwidth_cost};
 
 // The greatest whole number whose product with the bandwidth is not above 12,500,000, held to 1 to 65,535. A number of 16 bits times a significand of 24 fits
-// the 53 of an f64, so each product is exact.
+// the 53 of an f64, so each product is exact. A search by halves of the range: the library's are of slices.
 pub(crate) fn cost_by(bandwidth: f32) -> u16
     requires { T (usable bandwidth) }
     ensures { result ≡ bandwidth_cost bandwidth }

@@ -5,13 +5,13 @@ mod bandwidth;
 mod reading;
 
 ghost use Rattle.std.specs.Prelude.{◌≡◌};
-ghost use Rattle.te.specs.Cost.{fault_of_lem, maximum_cost, record_cost, costing};
+ghost use Rattle.te.specs.Cost.{record_cost, some_cost, costing, costing_of};
 ghost use Rattle.te.specs.Cost as said;
 ghost use Rattle.te.specs.Theorems.{Kept};
 
-use topology_types::Answer;
+use topology_types::{Fault, Refusal};
 
-// A sub-TLV, one of three cases: bandwidths are in bytes per second.
+// A sub-TLV, one of three cases: bandwidths are in bytes per second. Its cases and their fields are 01's (Forms by place).
 #[derive(Clone, Copy)]
 pub enum SubTlv {
     TeMetric(u32),
@@ -19,15 +19,7 @@ pub enum SubTlv {
     Reservable(f32),
 }
 
-// What a sub-TLV is: refused by a number, of another type and skipped, or one of the three.
-#[derive(Clone, Copy)]
-pub enum Found {
-    Refused(u8),
-    Skipped,
-    Is(SubTlv),
-}
-
-// A link's record. Absent fields are 0.
+// A link's record. Absent fields are 0. A metric, presence bools and two floats, and no Option: 01 gives it this form (Forms by place).
 #[derive(Clone, Copy)]
 pub struct LinkRecord {
     pub metric: u32,
@@ -38,138 +30,82 @@ pub struct LinkRecord {
     pub reservable: f32,
 }
 
-// Refused, cost and record are all 0.
+// What a link costs, and its record.
 #[derive(Clone, Copy)]
 pub struct LinkCost {
-    pub answer: Answer,
     pub cost: u16,
     pub link: LinkRecord,
 }
 
-// A record of nothing.
-fn nothing() -> LinkRecord
-    ensures { result ≡ said.nothing }
-{
-    LinkRecord {
-        metric: 0,
-        hasmetric: false,
-        hasmaximum: false,
-        hasreservable: false,
-        maximum: 0.0,
-        reservable: 0.0,
-    }
-}
-
-// The record with a sub-TLV more, which stands in the place of one of its type before.
-fn gathered(r: LinkRecord, s: SubTlv) -> LinkRecord
-    ensures { result ≡ said.gathered r s }
-{
-    let mut next = r;
-    match s {
-        SubTlv::TeMetric(n) => {
-            next.metric = n;
-            next.hasmetric = true;
-        }
-        SubTlv::MaxBandwidth(x) => {
-            next.maximum = x;
-            next.hasmaximum = true;
-        }
-        SubTlv::Reservable(x) => {
-            next.reservable = x;
-            next.hasreservable = true;
+impl LinkRecord {
+    // A record of nothing.
+    fn nothing() -> LinkRecord
+        ensures { result ≡ said.nothing }
+    {
+        LinkRecord {
+            metric: 0,
+            hasmetric: false,
+            hasmaximum: false,
+            hasreservable: false,
+            maximum: 0.0,
+            reservable: 0.0,
         }
     }
-    next
-}
 
-// What a refused value answers.
-fn refused(number: u8, at: usize) -> LinkCost
-    ensures { result ≡ said.refused_cost number at }
-{
-    LinkCost {
-        answer: Answer { number, at },
-        cost: 0,
-        link: nothing(),
+    // The record with a sub-TLV more, which stands in the place of one of its type before.
+    #[tactic(auto, unfolding(crate::specs::Cost::gathered))]
+    fn with(self, s: SubTlv) -> LinkRecord
+        ensures { result ≡ said.gathered self s }
+    {
+        match s {
+            SubTlv::TeMetric(metric) => LinkRecord {
+                metric,
+                hasmetric: true,
+                ..self
+            },
+            SubTlv::MaxBandwidth(maximum) => LinkRecord {
+                maximum,
+                hasmaximum: true,
+                ..self
+            },
+            SubTlv::Reservable(reservable) => LinkRecord {
+                reservable,
+                hasreservable: true,
+                ..self
+            },
+        }
     }
-}
 
-// The number of a refusal, 0 where nothing is refused.
-fn fault_of(found: Found) -> u8
-    ensures { result ≡ fault_of_lem found }
-{
-    match found {
-        Found::Refused(number) => number,
-        Found::Skipped => 0,
-        Found::Is(_) => 0,
-    }
-}
-
-// The record with what was found: only one of the three cases changes it.
-fn added(r: LinkRecord, found: Found) -> LinkRecord
-    ensures { result ≡ said.added_sub r found }
-{
-    match found {
-        Found::Refused(_) => r,
-        Found::Skipped => r,
-        Found::Is(s) => gathered(r, s),
-    }
-}
-
-// The cost by the maximum bandwidth, 0 where there is none.
-fn cost_by_maximum(r: LinkRecord) -> u16
-    requires { Kept r }
-    ensures { result ≡ maximum_cost r }
-{
-    if r.hasmaximum {
-        return bandwidth::cost_by(r.maximum);
-    }
-    0
-}
-
-// The cost by a record, 0 where nothing in it can be used.
-fn cost_of(r: LinkRecord) -> u16
-    requires { Kept r }
-    ensures { result ≡ record_cost r }
-{
-    if r.metric < 1 {
-        return cost_by_maximum(r);
-    }
-    if 65535 < r.metric {
-        return cost_by_maximum(r);
-    }
-    r.metric as u16
-}
-
-// What is answered at the end of the value, by its length and the record gathered.
-fn concluded(end: usize, r: LinkRecord) -> LinkCost
-    requires { Kept r }
-    ensures { result ≡ said.concluded end r }
-{
-    let cost = cost_of(r);
-    if cost == 0 {
-        return refused(29, end);
-    }
-    LinkCost {
-        answer: Answer { number: 0, at: 0 },
-        cost,
-        link: r,
+    // The cost by the record: the metric if it is in the range of costs, else by the maximum bandwidth; none where neither can be used.
+    fn cost(self) -> Option<u16>
+        requires { Kept self }
+        ensures { result ≡ some_cost (record_cost self) }
+    {
+        if (1..=65535).contains(&self.metric) {
+            Some(self.metric as u16)
+        } else if self.hasmaximum {
+            Some(bandwidth::cost_by(self.maximum))
+        } else {
+            None
+        }
     }
 }
 
-// The cost of a link by the sub-TLVs of its Link TLV's value: refusals 28 and 29.
-pub fn cost(value: &[u8]) -> LinkCost
-    ensures { result ≡ costing value.now }
+// The cost of a link by the sub-TLVs of its Link TLV's value: refusals 28 and 29. A sub-TLV says itself where the next one begins, so the offset is no
+// counter of a `for`.
+pub fn cost(value: &[u8]) -> Result<LinkCost, Refusal>
+    ensures { costing_of result ≡ costing value.now }
 {
-    let mut r = nothing();
+    let mut link = LinkRecord::nothing();
     let mut at: usize = 0;
     while at < value.len() {
-        let found = reading::sub_at(value, at);
-        let number = fault_of(found);
-        if number != 0 {
-            return refused(number, at);
+        let rest = &value[at..];
+        let found = reading::sub_in(rest).map_err(|fault| fault.at(at))?;
+        if let Some(s) = found {
+            link = link.with(s);
         }
-        r = added(r, found);
-        at += reading::span_at(value, at);
+        at += reading::span_of(rest);
     }
-    concluded(at, r)
+    let cost = link.cost().ok_or(Fault::UnusableSubTlvs.at(at))?;
+    Ok(LinkCost { cost, link })
 }

@@ -1,10 +1,18 @@
 // One sub-TLV of a Link TLV's value (RFC 3630, 2.3.2).
-ghost use Rattle.std.specs.Prelude.{◌≡◌, ◌+◌, ◌*◌, ◌/◌, ◌≤◌, length, drop};
-ghost use Rattle.te.specs.SubTlvs.{span_of, case_of, sub_in};
+ghost use Rattle.std.specs.Prelude.{◌≡◌, ◌+◌, ◌*◌, ◌/◌, ◌≤◌, length};
+ghost use Rattle.te.specs.SubTlvs.{case_of, found_as, judged_as};
 ghost use Rattle.te.specs.SubTlvs as said;
 
-use super::{Found, SubTlv};
+use super::SubTlv;
 use stream::unchecked::numbers;
+use topology_types::Fault;
+
+// The types of the sub-TLVs that are read (RFC 3630, 2.5.5 to 2.5.7).
+const TE_METRIC: u16 = 5;
+
+const MAX_BANDWIDTH: u16 = 6;
+
+const RESERVABLE: u16 = 7;
 
 // Every pattern of a 32-bit float from this one on is that of an infinity, of a NaN, or of a number with the sign bit set.
 const INFINITE: u32 = 0x7f80_0000;
@@ -13,61 +21,57 @@ const INFINITE: u32 = 0x7f80_0000;
 fn span(length: u16) -> usize
     ensures { result ≡ 4 + (length + 3) / 4 * 4 }
 {
-    4 + (length as usize + 3) / 4 * 4
+    4 + (length as usize).next_multiple_of(4)
 }
 
-// A sub-TLV of type 5, 6 or 7 with this number for its value.
-fn judged(kind: u16, number: u32) -> Found
-    ensures { result ≡ said.judged (case_of kind number) }
+// A sub-TLV of type 5, 6 or 7 with this number for its value: only a bandwidth is tested.
+fn judged(kind: u16, number: u32) -> Result<SubTlv, Fault>
+    ensures { judged_as result ≡ said.judged (case_of kind number) }
 {
-    if kind == 5 {
-        return Found::Is(SubTlv::TeMetric(number));
+    if kind == TE_METRIC {
+        return Ok(SubTlv::TeMetric(number));
     }
     if INFINITE <= number {
-        return Found::Refused(28);
+        return Err(Fault::UnusableBandwidth);
     }
     let bandwidth = f32::from_bits(number);
     if bandwidth < 1.0 {
-        return Found::Refused(28);
+        return Err(Fault::UnusableBandwidth);
     }
-    if kind == 6 {
-        return Found::Is(SubTlv::MaxBandwidth(bandwidth));
+    if kind == MAX_BANDWIDTH {
+        Ok(SubTlv::MaxBandwidth(bandwidth))
+    } else {
+        Ok(SubTlv::Reservable(bandwidth))
     }
-    Found::Is(SubTlv::Reservable(bandwidth))
 }
 
-// The sub-TLV that begins at the offset at.
-pub(crate) fn sub_at(value: &[u8], at: usize) -> Found
-    requires { at ≤ length value.now }
-    ensures { result ≡ sub_in (drop at value.now) }
+// The sub-TLV that the bytes begin with, none if it is of another type.
+pub(crate) fn sub_in(s: &[u8]) -> Result<Option<SubTlv>, Fault>
+    ensures { found_as result ≡ said.sub_in s.now }
 {
-    let left = value.len() - at;
-    if left < 4 {
-        return Found::Refused(29);
+    if s.len() < 4 {
+        return Err(Fault::UnusableSubTlvs);
     }
-    let kind = numbers::be16(value, at);
-    let length = numbers::be16(value, at + 2);
-    if left < span(length) {
-        return Found::Refused(29);
+    if s.len() < span_of(s) {
+        return Err(Fault::UnusableSubTlvs);
     }
-    if kind < 5 {
-        return Found::Skipped;
+    let kind = numbers::be16(s, 0);
+    if !(TE_METRIC..=RESERVABLE).contains(&kind) {
+        return Ok(None);
     }
-    if 7 < kind {
-        return Found::Skipped;
-    }
+    let length = numbers::be16(s, 2);
     if length != 4 {
-        return Found::Refused(29);
+        return Err(Fault::UnusableSubTlvs);
     }
-    let number = numbers::be32(value, at + 4);
-    judged(kind, number)
+    let number = numbers::be32(s, 4);
+    let sub = judged(kind, number)?;
+    Ok(Some(sub))
 }
 
 // How many bytes it has in all.
-pub(crate) fn span_at(value: &[u8], at: usize) -> usize
-    requires { at + 4 ≤ length value.now }
-    ensures { result ≡ span_of (drop at value.now) }
+pub(crate) fn span_of(s: &[u8]) -> usize
+    requires { 4 ≤ length s.now }
+    ensures { result ≡ said.span_of s.now }
 {
-    let length = numbers::be16(value, at + 2);
-    span(length)
+    span(numbers::be16(s, 2))
 }

@@ -7,11 +7,17 @@ use mathlib.Core.Logic.{◌≢◌}
 use mathlib.Core.Path.{◌≡◌, refl, ap, sym, subst}
 use native.Mathlib.Numerals.{add-one}
 use native.Mathlib.Omega.{arith}
+use borrow.Author.Tests.{ltb-false}
 use lib.Dec.{T, eqb}
+use lib.Pointwise.{pointwise}
 use lib.ListN.{length, get_or, drop, take, drop_of_length-le, length-drop}
 use lib.Seq.{drop-cons, take_all}
 use Rattle.network.specs.Lists.{every, same_numbers}
-use Rattle.text.specs.Fields.{space, before, after, field}
+use Rattle.std.proofs.Common.{Option, Some, None, Bor, nat_lt}
+use Rattle.std.specs.List.{count_by, position, position_or_len, slice_get, slice_split, onto_first}
+use Rattle.std.specs.Option.{unwrap_or, option_map, UnwrapsOrElse}
+use Rattle.std.proofs.lemmas.List.Recursion.{is_count_by, is_position_or_len}
+use Rattle.text.specs.Fields.{space, before, after, field, spaces}
 
 pub after_none : (s : List ℕ) → after 0 s ≡ s
 unfolding after
@@ -55,6 +61,14 @@ and_right false false e = e
 and_false : (b : Bool) → (b && false) ≡ false
 and_false true = refl
 and_false false = refl
+
+-- `==` of two texts
+pub equal_texts : (s t : List ℕ) → pointwise eqb s t ≡ same_numbers s t
+unfolding same_numbers
+equal_texts [] [] = refl
+equal_texts [] (d ∷ t) = refl
+equal_texts (c ∷ s) [] = refl
+equal_texts (c ∷ s) (d ∷ t) = rw (equal_texts s t)
 
 pub same_length : (s t : List ℕ) → length s ≢ length t → same_numbers s t ≡ false
 unfolding same_numbers
@@ -109,3 +123,68 @@ after_length (suc n) (c ∷ s) = first (eqb c space) (after_length n s) (after_l
 pub field_length : (n : ℕ) (s : List ℕ) → length (field n s) ≤ length s
 unfolding field
 field_length n s = omega (arith, before_length space (after n s), after_length n s)
+
+-- the spaces, as they are counted
+pub spaces_counted : (s : List ℕ) → spaces s ≡ count_by (λ c. eqb c space) s
+unfolding spaces
+spaces_counted s = is_count_by spaces (λ c. eqb c space) refl (λ c t. step (eqb c space) t) s
+  where
+    step : (b : Bool) (t : List ℕ) → cond b (suc (spaces t)) (spaces t) ≡ cond b (1 + spaces t) (spaces t)
+    step true t = omega arith
+    step false t = refl
+
+before_position : (stop : ℕ) (s : List ℕ) → length (before stop s) ≡ position_or_len (λ c. eqb c stop) s
+unfolding before
+before_position stop s = is_position_or_len (λ t. length (before stop t)) (λ c. eqb c stop) refl (λ c t. step (eqb c stop) c t) s
+  where
+    step : (b : Bool) (c : ℕ) (t : List ℕ) → length (cond b [] (c ∷ before stop t)) ≡ cond b 0 (1 + length (before stop t))
+    step true c t = refl
+    step false c t = omega arith
+
+-- what stands before the first such byte is as long as its index says
+pub before_first : (stop : ℕ) (s : List ℕ) → unwrap_or (position (λ c. eqb c stop) s) (length s) ≡ length (before stop s)
+before_first stop s = cases (nat_lt (position_or_len (λ c. eqb c stop) s) (length s)) refl
+  where
+    cases : (b : Bool) → nat_lt (position_or_len (λ c. eqb c stop) s) (length s) ≡ b →
+        unwrap_or (cond b (Some (position_or_len (λ c. eqb c stop) s)) None) (length s) ≡ length (before stop s)
+    cases true e = sym (before_position stop s)
+    cases false e =
+        omega (arith, ltb-false (position_or_len (λ c. eqb c stop) s) (length s) e, before_position stop s, before_length stop s)
+
+piece : ℕ → List (List ℕ) → List ℕ
+piece n parts = unwrap_or (slice_get parts n) []
+
+pieces : List ℕ → List (List ℕ)
+pieces = slice_split (λ c. eqb c space)
+
+first_piece : (s : List ℕ) → piece 0 (pieces s) ≡ before space s
+unfolding piece pieces before
+first_piece [] = refl
+first_piece (c ∷ s) = step (eqb c space) (pieces s) (first_piece s)
+  where
+    step : (b : Bool) (parts : List (List ℕ)) → piece 0 parts ≡ before space s → piece 0 (cond b ([] ∷ parts) (onto_first c parts)) ≡ cond b [] (c ∷ before space s)
+    step true parts e = refl
+    step false [] e = ap (λ (t : List ℕ). c ∷ t) e
+    step false (p ∷ parts) e = ap (λ (t : List ℕ). c ∷ t) e
+
+piece_after : (n : ℕ) (s : List ℕ) → piece n (pieces s) ≡ before space (after n s)
+unfolding piece pieces before after
+piece_after zero s = rw (after_none s) (first_piece s)
+piece_after (suc n) [] = refl
+piece_after (suc n) (c ∷ s) = step (eqb c space) (pieces s) (piece_after n s) (piece_after (suc n) s)
+  where
+    step : (b : Bool) (parts : List (List ℕ)) → piece n parts ≡ before space (after n s) → piece (suc n) parts ≡ before space (after (suc n) s) →
+        piece (suc n) (cond b ([] ∷ parts) (onto_first c parts)) ≡ before space (cond b (after n s) (after (suc n) s))
+    step true parts e f = e
+    step false [] e f = f
+    step false (p ∷ parts) e f = f
+
+-- a field is the piece with its number, nothing if there are fewer pieces
+pub field_piece : (n : ℕ) (line : List ℕ) → unwrap_or (slice_get (slice_split (λ c. eqb c space) line) n) [] ≡ field n line
+unfolding field piece pieces
+field_piece n line = piece_after n line
+
+-- the part of a text that an option holds, or no bytes
+pub held_or_none : (o : Option (Bor (List ℕ))) (P : Bor (List ℕ) → Type 0) (r : Bor (List ℕ)) → (P r → r.now ≡ []) → UnwrapsOrElse o P r → r.now ≡ unwrap_or (option_map (λ s. s.now) o) []
+held_or_none None P r f h = f h
+held_or_none (Some s) P r f h = ap (λ t. t.now) h

@@ -1,14 +1,18 @@
 -- A text put into a buffer byte by byte: each store leaves the rest of the text to put, and texts put one behind the other are one text.
 -- Assumes nothing.
-use Prim.Native.Nat.{ℕ, suc, ◌+◌, ◌≤◌}
+use Prim.Native.Nat.{ℕ, suc, ◌+◌, ◌-◌, ◌≤◌}
 use mathlib.Core.List.{List, [], ◌∷◌, ◌++◌}
-use mathlib.Core.Path.{◌≡◌, ◌∙◌}
+use mathlib.Core.Path.{◌≡◌, ◌∙◌, sym, ap, refl}
 use native.Mathlib.Nat.{add-zero, zero-add, add-suc, suc-add}
 use native.Mathlib.Numerals.{add-one}
 use native.Mathlib.Omega.{arith}
 use lib.ListN.{length, set, take, drop, length-append}
-use lib.Seq.{sets, sets-eq, take-append_seam}
+use lib.Seq.{sets, sets-eq, take-append_seam, length-sets}
+use Rattle.std.proofs.Common.{drop-drop, append_assoc}
+use Rattle.std.specs.Borrow.{MutBor}
 use Rattle.text.specs.Inner.{Put}
+use Rattle.text.specs.Page.{Puts}
+use Rattle.text.specs.declared.unchecked.lines.Page.{Page}
 
 -- one store, and what is left to put
 pub sets_next : (b : List ℕ) (i : ℕ) (x : ℕ) (xs text : List ℕ) → text ≡ x ∷ xs → sets b i text ≡ sets (set b i x) (i + 1) xs
@@ -39,3 +43,23 @@ pub put_start : {b s : List ℕ} {r : ℕ} {b' : List ℕ} → Put b 0 s r b' �
 put_start {b} {s} p h =
     let whole : 0 + length s ≤ length b = omega arith in
     p.stored ∙ sets-eq s b 0 whole ∙ rw zero-add
+
+-- a buffer with a part of it replaced by as long a text
+pub in_place : (b text part : List ℕ) (at : ℕ) → at + length text ≤ length b → part ≡ text →
+    take at b ++ (part ++ drop (at + length text - at) (drop at b)) ≡ sets b at text
+in_place b text part at h e =
+    let n : at + length text - at ≡ length text = omega arith in
+    rw (e, n, drop-drop, ← append_assoc) (sym (sets-eq text b at h))
+
+-- a text put behind another onto a page
+pub joined : {a b c : Page} {s t : List ℕ} → Puts a s b → Puts b t c → Puts a (s ++ t) c
+joined p q = record { same = q.same ∙ p.same; long = q.long ∙ p.long; put = behind p.put q.put }
+
+-- a text that is put where there is room for it
+pub placed : (page : Page) (text : List ℕ) (lent : MutBor (List ℕ)) → lent.ghost_name ≡ page.bytes.ghost_name → lent.now ≡ sets page.bytes.now page.filled text →
+    Puts page text (record { bytes = lent; filled = page.filled + length text })
+placed page text lent g e = record { same = g; long = ap length e ∙ length-sets page.bytes.now page.filled text; put = record { after = refl; stored = e } }
+
+-- nothing was put
+pub nothing : (page : Page) → Puts page [] page
+nothing page = record { same = refl; long = refl; put = record { after = sym (add-zero page.filled); stored = refl } }

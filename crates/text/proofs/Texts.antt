@@ -4,31 +4,18 @@ use Prim.Native.Nat.{ℕ, zero, suc, ◌+◌, ◌-◌, ◌*◌, ◌/◌, ◌%◌
 use mathlib.Core.Bool.{Bool, true, false, cond}
 use mathlib.Core.List.{List, [], ◌∷◌, ◌++◌}
 use mathlib.Core.Logic.{◌≢◌}
-use mathlib.Core.Path.{◌≡◌, refl}
+use mathlib.Core.Path.{◌≡◌, refl, sym}
 use native.Mathlib.Decide.{dec_lt}
 use native.Mathlib.Nat.{pow-suc, one-le-pow, pow-le-pow_right}
 use native.Mathlib.Omega.{arith}
-use borrow.Author.Tests.{lt-ltb, le-ltb, le-leb, lt-leb}
+use borrow.Author.Tests.{lt-ltb, le-ltb}
 use lib.Dec.{ltb}
-use lib.ListN.{length, length-append}
+use lib.ListN.{length, get_or, take, length-append}
+use Rattle.std.proofs.lemmas.List.{take_more}
 use Rattle.io.specs.Digits.{hex_digit_ascii, last_digits}
 use Rattle.text.specs.Numbers.{final_digits, number_text}
 use Rattle.text.specs.Hex.{none, digit, hex_of, bytes_text}
-use Rattle.text.specs.Inner.{Put, Gathered, fits, count_with, buffer_with}
 use Rattle.text.specs.Lines.{answer_text, answer_line, word_line, buffer_line, newline}
-
-module _ (buffer : List ℕ) (count : ℕ) (part : List ℕ) where
-  pub too-long : length buffer < count + length part → Gathered buffer count part (length buffer + 1) buffer
-  unfolding count_with buffer_with fits
-  too-long h =
-      let l = lt-leb (count + length part) (length buffer) h in
-      record { counted = rw (l); stored = rw (l) }
-
-  pub one_more : {r : ℕ} {exit : List ℕ} → count + length part ≤ length buffer → Put buffer count part r exit → Gathered buffer count part r exit
-  unfolding count_with buffer_with fits
-  one_more h p =
-      let l = le-leb (count + length part) (length buffer) h in
-      record { counted = rw (l) p.after; stored = rw (l) p.stored }
 
 module _ (n : ℕ) where
   pub digit_low : n < 10 → digit n ≡ 48 + n
@@ -43,6 +30,16 @@ pub hex_length : (s : List ℕ) → length (hex_of s) ≡ 2 * length s
 unfolding hex_of
 hex_length [] = refl
 hex_length (b ∷ s) = omega (arith, hex_length s)
+
+hex_joined : (s t : List ℕ) → hex_of (s ++ t) ≡ hex_of s ++ hex_of t
+unfolding hex_of
+hex_joined [] t = refl
+hex_joined (b ∷ s) t = rw (hex_joined s t)
+
+-- the digits of a byte more
+pub hex_more : (s : List ℕ) (i : ℕ) → i < length s → hex_of (take (i + 1) s) ≡ hex_of (take i s) ++ (digit (get_or s i 0 / 16) ∷ digit (get_or s i 0 % 16) ∷ [])
+unfolding hex_of
+hex_more s i h = rw (take_more s i 0 h) (hex_joined (take i s) (get_or s i 0 ∷ []))
 
 pub text_none : (s : List ℕ) → length s ≡ 0 → bytes_text s ≡ 45 ∷ []
 unfolding bytes_text none
@@ -134,6 +131,10 @@ pub number_digits : (k n : ℕ) → 1 ≤ k → n < 10 ^ k → (1 < k → 10 ^ (
 unfolding number_text
 number_digits k n l h g m = fewest k 20 n l h g m
 
+-- the digits of a number below 2 ^ 64, as many as it has
+pub digits_are : (k n : ℕ) → n < 2 ^ 64 → (1 ≤ k) × (n < 10 ^ k) × (1 < k → 10 ^ (k - 1) ≤ n) → last_digits 10 k n ≡ number_text n
+digits_are k n h d = sym (number_digits k n d.0 d.1 d.2 (few k n h d.2))
+
 pub answer_length : (number at : ℕ) → length (answer_text number at) ≤ 41
 unfolding answer_text
 answer_length number at = simp (length-append) (omega (arith, number_length number, number_length at))
@@ -156,3 +157,6 @@ unfolding buffer_line
 buffer_line_length number at buffer =
     let e = length-append (bytes_text buffer) (newline ∷ []) in
     simp (length-append) (omega (arith, e, answer_length number at, text_length buffer))
+
+-- how long the texts are at most
+pub ruleset lengths = (number_length, answer_length, answer_line_length, text_length, small_length)

@@ -1,9 +1,7 @@
 -- Bytes in lowercase hex, `-` for none.
 -- Assumes nothing.
-use Rattle.std.specs.Prelude.{ℕ, ◌+◌, ◌-◌, ◌*◌, ◌/◌, ◌%◌, Bool, cond, ◌&&◌, ◌||◌, List, [], ◌∷◌, eqb, ltb, leb, length}
+use Rattle.std.specs.Prelude.{ℕ, ◌+◌, ◌-◌, ◌*◌, ◌/◌, ◌%◌, Bool, cond, ◌&&◌, ◌||◌, Option, Some, None, List, [], ◌∷◌, eqb, ltb, leb, length}
 use Rattle.network.specs.Lists.{every, same_numbers}
-use Rattle.text.specs.declared.unchecked.fields.Value.{Value}
-use Rattle.text.specs.declared.unchecked.fields.Value.TheVariants.{Is, Wrong}
 use Rattle.text.specs.Numbers.{decimal}
 
 -- `-`, for no bytes
@@ -29,8 +27,8 @@ unfoldable pub in_hex : List ℕ → Bool
 in_hex s = leb 2 (length s) && eqb (length s % 2) 0 && every hexadecimal s
 
 -- how many bytes a field holds, unless it is neither hex nor `-`
-unfoldable pub byte_count : List ℕ → Value
-byte_count s = cond (same_numbers s none) (Is 0) (cond (in_hex s) (Is (length s / 2)) Wrong)
+unfoldable pub byte_count : List ℕ → Option ℕ
+byte_count s = cond (same_numbers s none) (Some 0) (cond (in_hex s) (Some (length s / 2)) None)
 
 -- the bytes that a field holds
 unfoldable pub bytes : List ℕ → List ℕ

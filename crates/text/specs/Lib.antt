@@ -3,3 +3,5 @@ pub mod Hex
 pub mod Lines
 pub mod Numbers
 pub mod Inner
+pub mod Page
+pub mod Room

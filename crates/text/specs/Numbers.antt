@@ -1,9 +1,7 @@
 -- Numbers in decimal.
 -- Assumes nothing.
-use Rattle.std.specs.Prelude.{ℕ, zero, suc, ◌+◌, ◌-◌, ◌*◌, ◌/◌, ◌%◌, Bool, true, false, cond, not, ◌&&◌, List, [], ◌∷◌, ◌++◌, eqb, ltb, leb}
+use Rattle.std.specs.Prelude.{ℕ, zero, suc, ◌+◌, ◌-◌, ◌*◌, ◌/◌, ◌%◌, Bool, true, false, cond, not, ◌&&◌, Option, Some, None, List, [], ◌∷◌, ◌++◌, eqb, ltb, leb}
 use Rattle.network.specs.Lists.{every}
-use Rattle.text.specs.declared.unchecked.fields.Value.{Value}
-use Rattle.text.specs.declared.unchecked.fields.Value.TheVariants.{Is, Wrong}
 
 -- `0` to `9`
 unfoldable pub decimal : ℕ → Bool
@@ -25,8 +23,8 @@ unfoldable pub numeral : List ℕ → Bool
 numeral s = plain_number s && every decimal s
 
 -- the number that a field holds, unless it is no number or too large
-unfoldable pub number : ℕ → List ℕ → Value
-number most s = cond (numeral s && leb (onto 0 s) most) (Is (onto 0 s)) Wrong
+unfoldable pub number : ℕ → List ℕ → Option ℕ
+number most s = cond (numeral s && leb (onto 0 s) most) (Some (onto 0 s)) None
 
 -- the digits of n, of which there are at most so many: those of its tenth part, if it has one, and the last
 unfoldable pub final_digits : ℕ → ℕ → List ℕ

@@ -1,6 +1,6 @@
 -- The prover computes every fact from the definitions.
 -- Assumes nothing.
-use Rattle.network.specs.Lists.{keep, every, any, member, same_numbers}
+use Rattle.network.specs.Lists.{member, same_numbers}
 use Rattle.topology_types.specs.Topology.{no_link, padded, contents, held, zeros}
 use Rattle.topology_sound.specs.Sound.{within}
 use Rattle.stream_rules.specs.Stream.{big_endian_on, big_endian, in_bytes, body_length, half_in, decoded, record_in, records}

@@ -6,12 +6,10 @@ use mathlib.Core.Path.{◌≡◌, refl, sym, ap, ap₂, ◌∙◌}
 use native.Mathlib.Nat.{mul-zero, mul-suc}
 use native.Mathlib.Omega.{arith}
 use lib.ListN.{length, take, drop, get_or, length-append, take-append-drop}
-use lib.Seq.{take-take}
+use lib.Seq.{take-take, take_all}
 use Rattle.topology_types.proofs.Prefix.{take_more}
 use Rattle.stream_rules.specs.Stream.{in_bytes}
 use Rattle.topology.specs.Written.{joined_over, router_bytes}
-use Rattle.topology.specs.Inner.{over}
-use Rattle.topology.proofs.Over.{over_none, over_length, over_over}
 
 pub router_five : (id : ℕ) → length (router_bytes id) ≡ 5
 unfolding router_bytes in_bytes
@@ -45,24 +43,6 @@ module _ {A : Type 0} (f : A → List ℕ) where
     pub joined_many : (xs : List A) {i : ℕ} → length xs ≡ i → length (joined_over f xs) ≡ width * i
     joined_many xs many = joined_length xs ∙ ap (λ (n : ℕ). width * n) many
 
-  -- a buffer into which the records of the elements of a list were put, up to the offset next
-  module _
-      (buffer : List ℕ)
-      (at : ℕ)
-      (xs : List A)
-      {next : ℕ}
-      (after : next ≡ at + length (joined_over f xs))
-      {out : List ℕ}
-      (put : out ≡ over buffer at (joined_over f xs))
-      (fits : next ≤ length buffer)
-    where
-      pub put_length : length out ≡ length buffer
-      put_length = rw put (over_length buffer at (joined_over f xs) (omega arith))
-
-      -- `more` has one element more
-      pub put_next : (x : A) {more : List A} → more ≡ xs ++ (x ∷ []) → over out next (f x) ≡ over buffer at (joined_over f more)
-      put_next x longer = rw (put, over_over buffer at (joined_over f xs) (f x) next after (omega arith)) (sym (rw (longer, joined_last)))
-
   -- how long the records of the first elements are: one element more adds its own, and those of more are no shorter
   module _ (xs : List A) where
     pub firsts_more : (i : ℕ) (z : A) → i < length xs →
@@ -74,40 +54,12 @@ module _ {A : Type 0} (f : A → List ℕ) where
         let apart : take n xs ≡ take i xs ++ drop i (take n xs) = sym (rw (take-take i n xs few) at (take-append-drop i (take n xs))) in
         rw (apart, joined_behind) (simp length-append (omega arith))
 
-  -- a buffer, with room for the records of the first n elements of a list, into which those of the first i were put, up to the offset next
-  pub record FirstPut (buffer : List ℕ) (at : ℕ) (xs : List A) (n : ℕ) (out : List ℕ) (i next : ℕ) : Type 0 where
-    pub inside : n ≤ length xs
-    pub room : at + length (joined_over f (take n xs)) ≤ length buffer
-    pub few : i ≤ n
-    pub after : next ≡ at + length (joined_over f (take i xs))
-    pub so_far : out ≡ over buffer at (joined_over f (take i xs))
+  -- a loop that goes through them: the records of one element more, and room for those of all
+  module _ (xs : List A) (i : ℕ) (z : A) (inside : i < length xs) where
+    pub joined_more : joined_over f (take (i + 1) xs) ≡ joined_over f (take i xs) ++ f (get_or xs i z)
+    joined_more = rw (take_more xs i z inside, joined_last)
 
-  module _ {buffer : List ℕ} {at : ℕ} {xs : List A} {n : ℕ} where
-    pub first_none : {start : ℕ} → start ≡ at → n ≤ length xs → at + length (joined_over f (take n xs)) ≤ length buffer →
-        FirstPut buffer at xs n buffer 0 start
-    unfolding joined_over
-    first_none here inside room = record { inside = inside; room = room; few = omega arith; after = omega arith; so_far = sym (over_none buffer at) }
-
-    module _ {out : List ℕ} {i next : ℕ} (p : FirstPut buffer at xs n out i next) where
-      within : next ≤ length buffer
-      within = omega (arith, firsts_grow xs i n p.few)
-
-      pub first_length : length out ≡ length buffer
-      first_length = put_length buffer at (take i xs) p.after p.so_far within
-
-      -- the next one fits
-      pub first_fits : (z : A) → i < n → next + length (f (get_or xs i z)) ≤ length out
-      first_fits z turn = omega (arith, first_length, firsts_more xs i z (omega arith), firsts_grow xs (i + 1) n (omega arith))
-
-      pub first_next : (z : A) {more : List ℕ} {then : ℕ} → i < n → then ≡ next + length (f (get_or xs i z)) → more ≡ over out next (f (get_or xs i z)) →
-          FirstPut buffer at xs n more (i + 1) then
-      first_next z turn ends e = record {
-        inside = p.inside;
-        room = p.room;
-        few = omega arith;
-        after = omega (arith, firsts_more xs i z (omega arith));
-        so_far = e ∙ put_next buffer at (take i xs) p.after p.so_far within (get_or xs i z) (take_more xs i z (omega arith));
-      }
-
-      pub first_all : n ≤ i → (next ≡ at + length (joined_over f (take n xs))) × (out ≡ over buffer at (joined_over f (take n xs)))
-      first_all all = let e : i ≡ n = omega arith in (rw e at p.after, rw e at p.so_far)
+    pub joined_fits : length (joined_over f (take i xs)) + length (f (get_or xs i z)) ≤ length (joined_over f xs)
+    joined_fits =
+        let all = ap (λ (ys : List A). length (joined_over f ys)) (take_all (length xs) xs (omega arith)) in
+        omega (arith, firsts_more xs i z inside, firsts_grow xs (i + 1) (length xs) (omega arith), all)

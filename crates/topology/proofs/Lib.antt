@@ -1,8 +1,6 @@
-pub mod Over
 pub mod Joined
 pub mod LinkBytes
 pub mod WrittenLength
-pub mod WrittenParts
 pub mod Rewritten
 pub mod LinkTaken
 pub mod TakenInTurn

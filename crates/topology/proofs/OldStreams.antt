@@ -1,7 +1,7 @@
 -- A record 8 in front moves the reading two bytes on and sets K. No test looks at K, so the records after it are taken alike: the two readings differ in
 -- where a refusal points, and in the K that is held where no record 8 follows.
 -- Assumes nothing.
-use Prim.Native.Nat.{ℕ, zero, suc, ◌+◌, ◌≤◌, ◌<◌}
+use Prim.Native.Nat.{ℕ, zero, suc, ◌+◌, ◌<◌}
 use mathlib.Core.Bool.{Bool, true, false, cond, true≢false}
 use mathlib.Core.List.Memᴰ
 use mathlib.Core.List.{List, [], ◌∷◌, Memᴰ}
@@ -14,12 +14,12 @@ use lib.ListN.{length, drop, drop_of_length-le}
 use lib.Seq.{take-append_seam}
 use Rattle.topology_types.specs.declared.Half.{Half}
 use Rattle.topology_types.specs.declared.Topology.{Topology}
-use Rattle.topology_types.specs.Outcome.{answer, turned_away, given}
+use Rattle.topology_types.specs.Outcome.{turned_away, given}
 use Rattle.topology_types.specs.Topology.{Contents, no_link, padded, held, zeros}
 use Rattle.topology_sound.specs.Sound.{within}
-use Rattle.stream_rules.specs.declared.Reading.{Reading}
-use Rattle.stream_rules.specs.declared.Record.{Record}
-use Rattle.stream_rules.specs.declared.Record.TheVariants as record_of
+use Rattle.stream_rules.specs.Reading.{Reading}
+use Rattle.stream_rules.specs.Record.{Record}
+use Rattle.stream_rules.specs.Record as record_of
 use Rattle.stream_rules.specs.Stream.{body_length, records}
 use Rattle.stream_rules.specs.Halves.{StreamListing, halves}
 use Rattle.stream_rules.specs.Reading.{refusal, accepted_reading, router_fault_lem, repeated, crowded, halves_fault_lem, fault, with_router, with_link, with_limit, arrived, added}
@@ -27,10 +27,8 @@ use Rattle.stream_rules.specs.Reading.{width, is_end, ended, unless, any_record?
 use Rattle.stream_rules.specs.Theorems.{success, refused}
 use Rattle.stream_rules.proofs.InTurn.{next_router, next_link, next_half, next_limit, next_unknown, next_end, next_cut, goes_on}
 use Rattle.stream_rules.proofs.Stream.{records_drop, no_bytes}
-use Rattle.topology.specs.Inner.{over}
 use Rattle.topology.specs.OldLimit.{with_old_limit_lem}
 use Rattle.topology.specs.Theorems.{HelpExact, Cut, sixteen, read_before, OldStreamsRead}
-use Rattle.topology.proofs.Over.{over_start, over_over}
 
 pub help_exact : HelpExact
 unfolding with_old_limit_lem given turned_away
@@ -42,14 +40,6 @@ help_exact stream buffer =
           rw (long, le-ltb (length buffer) (suc (suc (length stream))) (omega arith))
           (ap (λ (s : List ℕ). 8 ∷ 16 ∷ s) (take-append_seam stream (drop (suc (suc (length stream))) buffer)));
     }
-
--- the limit put, and the stream behind it
-pub put_both : (stream buffer : List ℕ) {one two : List ℕ} → length stream + 2 ≤ length buffer → one ≡ over buffer 0 (8 ∷ 16 ∷ []) → two ≡ over one 2 stream →
-    record { answer = answer 0 (length stream + 2); buffer = two } ≡ with_old_limit_lem stream buffer
-put_both stream buffer room e f =
-    let long : length stream + 2 ≡ suc (suc (length stream)) = omega arith in
-    sym ((help_exact stream buffer).success room
-    ∙ rw (f, e, over_over buffer 0 (8 ∷ 16 ∷ []) stream 2 refl (omega arith), over_start buffer (8 ∷ 16 ∷ stream), long))
 
 -- a body that is cut short is the last record
 cut-short : (kind : ℕ) (body : List ℕ) → length body < body_length kind → records 0 (kind ∷ body) ≡ record_of.Refused 1 ∷ []

@@ -13,8 +13,8 @@ use Rattle.topology_types.specs.declared.Half.{Half}
 use Rattle.topology_types.specs.declared.Link.{Link}
 use Rattle.topology_types.specs.declared.Topology.{Topology}
 use Rattle.topology_types.specs.Topology.{Contents, contents}
-use Rattle.stream_rules.specs.declared.Record.{Record}
-use Rattle.stream_rules.specs.declared.Record.TheVariants as record_of
+use Rattle.stream_rules.specs.Record.{Record}
+use Rattle.stream_rules.specs.Record as record_of
 use Rattle.stream_rules.specs.Stream.{body_length, decoded, half_in, records}
 use Rattle.stream_rules.specs.Halves.{first_half, second_half}
 use Rattle.stream_rules.proofs.Digits.{digits, length_bytes}

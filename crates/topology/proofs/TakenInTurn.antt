@@ -15,8 +15,8 @@ use Rattle.network.proofs.Lists.{member_mem, pairwise_split}
 use Rattle.topology_types.specs.declared.Link.{Link}
 use Rattle.topology_types.specs.Topology.{Contents}
 use Rattle.topology_sound.specs.Sound.{within}
-use Rattle.stream_rules.specs.declared.Record.{Record}
-use Rattle.stream_rules.specs.declared.Record.TheVariants as record_of
+use Rattle.stream_rules.specs.Record.{Record}
+use Rattle.stream_rules.specs.Record as record_of
 use Rattle.stream_rules.specs.Halves.{StreamListing}
 use Rattle.stream_rules.specs.Reading.{accepted_reading, fault, with_router, with_limit, added, width, is_end, ended, unless, any_record?, in_turn, nothing_listed}
 use Rattle.stream_rules.proofs.NoFault.{NewRouter, router_passes}

@@ -1,6 +1,6 @@
 -- How long the stream of a topology is: two bytes for K, five to a router and to a link, five more to a link whose costs differ, and the end.
 -- Assumes nothing.
-use Prim.Native.Nat.{◌+◌, ◌*◌, ◌≤◌}
+use Prim.Native.Nat.{ℕ, ◌+◌, ◌*◌, ◌≤◌}
 use mathlib.Core.Bool.{Bool, true, false, cond, not}
 use mathlib.Core.List.{List, [], ◌∷◌}
 use mathlib.Core.Path.{◌≡◌, refl}
@@ -13,13 +13,11 @@ use Rattle.topology_types.specs.declared.Link.{Link}
 use Rattle.topology_types.specs.declared.Topology.{Topology}
 use Rattle.topology_types.specs.Topology.{contents}
 use Rattle.topology.specs.Written.{joined_over, written, limit_bytes, router_bytes, link_bytes}
+use Rattle.topology.specs.Inner.{differing, stream_of}
 use Rattle.topology.proofs.Joined.{router_five, joined_length}
 use Rattle.topology.proofs.LinkBytes.{link_long}
 
-abbrev differing : Link → Bool
-differing l = not (eqb l.cost l.back)
-
-links_long : (ls : List Link) → length (joined_over link_bytes ls) ≡ 5 * length ls + 5 * length (keep differing ls)
+pub links_long : (ls : List Link) → length (joined_over link_bytes ls) ≡ 5 * length ls + 5 * length (keep differing ls)
 unfolding joined_over
 links_long [] = refl
 links_long (l ∷ ls) = simp (length-append, link_long, links_long ls) (either (eqb l.cost l.back))
@@ -37,6 +35,11 @@ links_most (l ∷ ls) = simp (length-append, link_long) (either (eqb l.cost l.ba
     either : (b : Bool) → length (joined_over link_bytes ls) ≤ 10 * length ls → cond b 5 10 + length (joined_over link_bytes ls) ≤ 10 * length (l ∷ ls)
     either true h = omega arith
     either false h = omega arith
+
+pub stream_length : (limit : ℕ) (ids : List ℕ) (links : List Link) →
+    length (stream_of limit ids links) ≡ 2 + 5 * length ids + length (joined_over link_bytes links) + 1
+unfolding limit_bytes
+stream_length limit ids links = simp (length-append, joined_length router_bytes router_five ids) (omega arith)
 
 module _ (t : Topology) (ids : t.routers ≤ length t.id) (links : t.links ≤ length t.link) where
   -- by the bytes of the links

@@ -1,136 +1,115 @@
-// Putting records into a lent buffer, from an offset on. `put_routers`, `put_link` and `put_links` answer the offset after what they put.
+// Putting records onto a page.
 ghost use Rattle.std.specs.Prelude.{◌∷◌, ◌≡◌, ◌+◌, ◌*◌, ◌≤◌, length};
-ghost use Rattle.topology_types.specs.Topology.{contents};
-ghost use Rattle.topology_types.specs.Inner.{CountsFit};
-ghost use Rattle.topology.specs.Written.{router_bytes, half_body, link_bytes, limit_bytes, joined_over, written};
-ghost use Rattle.topology.specs.Inner.{over};
+ghost use Rattle.topology_types.specs.Limits.{most_routers, most_links};
+ghost use Rattle.text.specs.Inner.{Put};
+ghost use Rattle.text.specs.Page.{Puts, Room};
+ghost use Rattle.network.specs.Lists.{keep};
+ghost use Rattle.topology.specs.Inner.{differing, stream_of};
+ghost use Rattle.topology.specs.Written.{half_body, link_bytes, joined_over};
+ghost use Rattle.topology.specs.Written as said;
 
-use topology_types::{Half, Link, Topology};
+use text::unchecked::lines::Page;
+use topology_types::{Half, Link};
 
-fn put_router(out: &mut [u8], at: usize, id: u32)
-    requires { at + 5 ≤ length out.old }
-    ensures { out.new ≡ over out.old at (router_bytes id) }
+fn router_bytes(id: u32) -> [u8; 5]
+    ensures { result ≡ said.router_bytes id }
 {
-    out[at] = 1;
-    out[at + 1] = (id / 16777216 % 256) as u8;
-    out[at + 2] = (id / 65536 % 256) as u8;
-    out[at + 3] = (id / 256 % 256) as u8;
-    out[at + 4] = (id % 256) as u8;
+    let [a, b, c, d] = id.to_be_bytes();
+    [1, a, b, c, d]
 }
 
 // A half's body behind a kind: record 4, or record 2, whose body is that of a link's first half.
-fn put_half(out: &mut [u8], at: usize, kind: u8, h: Half)
-    requires { at + 5 ≤ length out.old }
-    ensures { out.new ≡ over out.old at (kind ∷ half_body h) }
+fn half_bytes(kind: u8, h: Half) -> [u8; 5]
+    ensures { result ≡ kind ∷ half_body h }
 {
-    out[at] = kind;
-    out[at + 1] = h.from.0;
-    out[at + 2] = h.to.0;
-    out[at + 3] = (h.cost / 256 % 256) as u8;
-    out[at + 4] = (h.cost % 256) as u8;
+    let [high, low] = h.cost.to_be_bytes();
+    [kind, h.from.0, h.to.0, high, low]
 }
 
 // Record 2 where the costs agree, else both halves, the first place's first (02, #105).
-fn put_link(out: &mut [u8], at: usize, l: Link) -> usize
-    requires { at + length (link_bytes l) ≤ length out.old }
-    ensures { (result ≡ at + length (link_bytes l)) × (out.new ≡ over out.old at (link_bytes l)) }
+fn put_link(page: &mut Page<'_>, l: Link)
+    requires { Room page.old (length (link_bytes l)) }
+    ensures { Puts page.old (link_bytes l) page.new }
 {
-    let u = l.first;
-    let v = l.second;
     let first = Half {
-        from: u,
-        to: v,
+        from: l.first,
+        to: l.second,
         cost: l.cost,
     };
-    if l.cost == l.back {
-        put_half(out, at, 2, first);
-        return at + 5;
-    }
     let second = Half {
-        from: v,
-        to: u,
+        from: l.second,
+        to: l.first,
         cost: l.back,
     };
-    put_half(out, at, 4, first);
-    put_half(out, at + 5, 4, second);
-    at + 10
-}
-
-// Record 8, at the start.
-pub(crate) fn put_limit(out: &mut [u8], limit: u8)
-    requires { 2 ≤ length out.old }
-    ensures { out.new ≡ over out.old 0 (limit_bytes limit) }
-{
-    out[0] = 8;
-    out[1] = limit;
-}
-
-pub(crate) fn put_routers(t: Topology, out: &mut [u8], at: usize) -> usize
-    requires { CountsFit t × (at + 5 * t.routers ≤ length out.old) }
-    ensures { (result ≡ at + 5 * t.routers) × (out.new ≡ over out.old at (joined_over router_bytes (contents t).ids)) }
-{
-    let n = t.routers;
-    let mut i: usize = 0;
-    while i < n {
-        put_router(out, at + 5 * i, t.id[i]);
-        i += 1;
-    }
-    at + 5 * n
-}
-
-pub(crate) fn put_links(t: Topology, out: &mut [u8], at: usize) -> usize
-    requires { CountsFit t × (at + length (joined_over link_bytes (contents t).links) ≤ length out.old) }
-    ensures { (result ≡ at + length (joined_over link_bytes (contents t).links)) × (out.new ≡ over out.old at (joined_over link_bytes (contents t).links)) }
-{
-    let m = t.links;
-    let mut next = at;
-    let mut i: usize = 0;
-    while i < m {
-        next = put_link(out, next, t.link[i]);
-        i += 1;
-    }
-    next
-}
-
-// The bytes of another slice.
-pub(crate) fn put_bytes<'a, 'b>(out: &'a mut [u8], at: usize, bytes: &'b [u8])
-    requires { at + length bytes.now ≤ length out.old }
-    ensures { out.new ≡ over out.old at bytes.now }
-{
-    let mut i: usize = 0;
-    while i < bytes.len() {
-        out[at + i] = bytes[i];
-        i += 1;
+    if l.cost == l.back {
+        page.put(&half_bytes(2, first));
+    } else {
+        page.put(&half_bytes(4, first));
+        page.put(&half_bytes(4, second));
     }
 }
 
-fn link_length(l: Link) -> usize
-    ensures { result ≡ length (link_bytes l) }
+fn put_routers(page: &mut Page<'_>, ids: &[u32])
+    requires { Room page.old (5 * length ids.now) }
+    ensures { Puts page.old (joined_over said.router_bytes ids.now) page.new }
 {
-    if l.cost != l.back {
-        return 10;
+    for id in ids {
+        page.put(&router_bytes(*id));
     }
-    5
 }
 
-fn links_length(t: Topology) -> usize
-    requires { CountsFit t }
-    ensures { result ≡ length (joined_over link_bytes (contents t).links) }
+fn put_links(page: &mut Page<'_>, links: &[Link])
+    requires { Room page.old (length (joined_over link_bytes links.now)) }
+    ensures { Puts page.old (joined_over link_bytes links.now) page.new }
 {
-    let m = t.links;
-    let mut bytes: usize = 0;
-    let mut i: usize = 0;
-    while i < m {
-        bytes += link_length(t.link[i]);
-        i += 1;
+    for l in links {
+        put_link(page, *l);
     }
-    bytes
+}
+
+// How many links have two costs.
+fn count_differing(links: &[Link]) -> usize
+    ensures { result ≡ length (keep differing links.now) }
+{
+    links.iter().filter(|l| l.cost != l.back).count()
 }
 
 // How many bytes writing needs.
-pub(crate) fn length_of(t: Topology) -> usize
-    requires { CountsFit t }
-    ensures { result ≡ length (written t) }
+pub(crate) fn length_of(ids: &[u32], links: &[Link]) -> usize
+    requires { (length ids.now ≤ most_routers) × (length links.now ≤ most_links) }
+    ensures { result ≡ 2 + 5 * length ids.now + length (joined_over link_bytes links.now) + 1 }
 {
-    2 + 5 * t.routers + links_length(t) + 1
+    2 + 5 * ids.len() + 5 * (links.len() + count_differing(links)) + 1
+}
+
+// Record 8, the routers, the links and the end.
+fn put_records(page: &mut Page<'_>, limit: u8, ids: &[u32], links: &[Link])
+    requires { Room page.old (length (stream_of limit ids.now links.now)) }
+    ensures { Puts page.old (stream_of limit ids.now links.now) page.new }
+{
+    page.put(&[8, limit]);
+    put_routers(page, ids);
+    put_links(page, links);
+    page.put(&[3]);
+}
+
+// Puts a topology's stream at the start of a lent buffer, and answers how many bytes it has.
+pub(crate) fn put_stream(out: &mut [u8], limit: u8, ids: &[u32], links: &[Link]) -> usize
+    requires { length (stream_of limit ids.now links.now) ≤ length out.old }
+    ensures { Put out.old 0 (stream_of limit ids.now links.now) result out.new }
+{
+    let mut page = Page::new(out);
+    put_records(&mut page, limit, ids, links);
+    page.filled
+}
+
+// The same of a limit and a stream behind it.
+pub(crate) fn put_limit(out: &mut [u8], limit: u8, stream: &[u8]) -> usize
+    requires { length stream.now + 2 ≤ length out.old }
+    ensures { Put out.old 0 (8 ∷ limit ∷ stream.now) result out.new }
+{
+    let mut page = Page::new(out);
+    page.put(&[8, limit]);
+    page.put(stream);
+    page.filled
 }

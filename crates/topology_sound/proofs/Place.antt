@@ -2,14 +2,15 @@
 -- Assumes nothing.
 use Prim.Native.Nat.{ℕ, ◌≤◌, ◌<◌}
 use mathlib.Core.Bool.{Bool, true, false, cond}
-use mathlib.Core.Path.{◌≡◌, ap}
+use mathlib.Core.Path.{◌≡◌, refl, ap}
 use native.Mathlib.Omega.{arith}
 use borrow.Author.Tests.{lt-ltb, le-ltb}
 use lib.Dec.{T, ltb, ltb→lt}
 use Rattle.network.proofs.Tests.{as_true, as_false}
-use Rattle.topology_types.specs.declared.Answer.{Answer}
 use Rattle.topology_types.specs.declared.Topology.{Topology}
-use Rattle.topology_types.specs.Outcome.{answer}
+use Rattle.topology_types.specs.declared.Refusal.{Refusal}
+use Rattle.topology_types.specs.Outcome.{Answer, answer, number_of, refused}
+use Rattle.topology_types.proofs.Outcome.{numbered}
 use Rattle.topology_sound.specs.Sound.{sound}
 use Rattle.topology_sound.specs.Place.{on_place}
 use Rattle.topology_sound.specs.Theorems.{PlacesTested}
@@ -62,3 +63,12 @@ module _ (t : Topology) (u : ℕ) (r : Answer) (e : r ≡ on_place answer t u (a
   on_place_passed zero =
       let (good, place) = both_pass u r (sound t) (ltb u t.routers) e zero in
       (good, ltb→lt u t.routers place)
+
+-- the same of what `test_place` returns
+module _ (t : Topology) (u : ℕ) where
+  pub on_place_err : {A : Type 0} (refuse : ℕ → ℕ → A) (next : A) (r : Refusal) → refused r ≡ on_place answer t u (answer 0 0) →
+      refuse (number_of r.fault) r.at ≡ on_place refuse t u next
+  on_place_err refuse next r e = on_place_refused t u (refused r) e refuse next (λ z. omega (arith, numbered r.fault, z))
+
+  pub on_place_ok : answer 0 0 ≡ on_place answer t u (answer 0 0) → T (sound t) × (u < t.routers)
+  on_place_ok e = on_place_passed t u (answer 0 0) e refl

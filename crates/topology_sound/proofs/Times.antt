@@ -12,7 +12,6 @@ use lib.ListN.{length, get_or, take, drop}
 use lib.Seq.{take-add, drop-cons}
 use Rattle.network.specs.Lists.{keep, any, member, distinct}
 use Rattle.network.proofs.Tests.{truth, as_true, as_false}
-use Rattle.topology_types.proofs.Prefix.{take_more}
 
 module _ {A : Type 0} (f : A → Bool) where
   kept_append : (xs ys : List A) → length (keep f (xs ++ ys)) ≡ length (keep f xs) + length (keep f ys)
@@ -31,15 +30,6 @@ module _ {A : Type 0} (f : A → Bool) where
       step : (b : Bool) → any f xs ≡ ltb 0 (length (keep f xs)) → (b || any f xs) ≡ ltb 0 (length (cond b (x ∷ keep f xs) (keep f xs)))
       step true e = sym (lt-ltb 0 (suc (length (keep f xs))) (omega arith))
       step false e = e
-
-  -- one element more
-  pub kept_more : (xs : List A) (i : ℕ) (z : A) → i < length xs →
-      length (keep f (take (i + 1) xs)) ≡ length (keep f (take i xs)) + cond (f (get_or xs i z)) 1 0
-  kept_more xs i z h = rw (take_more xs i z h, kept_append) (ap (λ (k : ℕ). length (keep f (take i xs)) + k) (step (f (get_or xs i z))))
-    where
-      step : (b : Bool) → length (cond b (get_or xs i z ∷ []) []) ≡ cond b 1 0
-      step true = refl
-      step false = refl
 
 abbrev times : ℕ → List ℕ → ℕ
 times u us = length (keep (eqb u) us)

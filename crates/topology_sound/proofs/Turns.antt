@@ -2,14 +2,13 @@
 -- what it is of the list so far.
 -- Assumes nothing.
 use Prim.Native.Nat.{ℕ, ◌+◌, ◌-◌, ◌≤◌, ◌<◌}
-use mathlib.Core.Bool.{Bool, true, false, not, ◌&&◌, and_assoc, and-true, and-false}
+use mathlib.Core.Bool.{Bool, true, false, not, ◌&&◌, and-false}
 use mathlib.Core.List.{List, [], ◌∷◌, ◌++◌, append-nil}
-use mathlib.Core.Path.{◌≡◌, refl, sym, ◌∙◌}
-use native.Mathlib.Numerals.{add-one}
+use mathlib.Core.Path.{◌≡◌, refl, sym}
 use native.Mathlib.Omega.{arith}
-use lib.ListN.{length, take, drop, get_or, drop_of_length-le}
-use lib.Seq.{append_snoc, take-add, drop-cons}
-use Rattle.network.specs.Lists.{every, member, distinct}
+use lib.ListN.{length, take, drop, get_or}
+use lib.Seq.{append_snoc, take-add}
+use Rattle.network.specs.Lists.{member, distinct}
 use Rattle.topology_types.proofs.Prefix.{take_more, distinct_more}
 
 -- a test of a list that asks something of each element, given those before it
@@ -53,26 +52,6 @@ pub all_passed : {A : Type 0} {P : List A → Bool} {xs : List A} {n i : ℕ} �
 all_passed {n} {i} h k =
     let e : n ≡ i = omega (arith, h.within) in
     rw e (sym h.so_far)
-
--- A test of each element from some place on, in a list of n, that has come down to the elements from i on, and to whether all before them have passed.
-pub record Rest {A : Type 0} (f : A → Bool) (whole : Bool) (xs : List A) (n i : ℕ) (before : Bool) : Type 0 where
-  pub within : i ≤ n
-  pub long : length xs ≡ n
-  pub is : whole ≡ (before && every f (drop i xs))
-
-module _ {A : Type 0} {f : A → Bool} {whole : Bool} {xs : List A} {n i : ℕ} {before : Bool} (h : Rest f whole xs n i before) where
-  pub rest : i < n → (z : A) → {after : Bool} → after ≡ (before && f (get_or xs i z)) → Rest f whole xs n (i + 1) after
-  rest k z e = record {
-    within = omega arith;
-    long = h.long;
-    is = h.is ∙ rw (add-one, drop-cons xs i z (omega (arith, h.long)), e) (sym (and_assoc before (f (get_or xs i z)) _));
-  }
-
-  pub rest_fails : i < n → (z : A) → f (get_or xs i z) ≡ false → false ≡ whole
-  rest_fails k z e = sym (h.is ∙ rw (drop-cons xs i z (omega (arith, h.long)), e) (and-false before))
-
-  pub rest_none : n ≤ i → before ≡ whole
-  rest_none k = sym (h.is ∙ rw (drop_of_length-le xs {i = i} (omega (arith, h.long))) (and-true before))
 
 -- the test that IDs differ asks of each that it is not among those before it
 pub ids_grow : Growing distinct (λ us u. not (member u us))

@@ -1,22 +1,22 @@
-// A function that the crates above call too. It has a `requires`, which its callers prove and no code tests.
-ghost use Rattle.std.specs.Prelude.{◌≡◌, ◌≤◌, length, take};
+// Functions that the crates above call too.
+ghost use Rattle.std.specs.Prelude.{◌≡◌};
 ghost use Rattle.network.specs.Lists.{member};
-ghost use Rattle.topology_types.specs.Limits.{most_routers};
+ghost use Rattle.topology_types.specs.Limits.{most_next_hops};
+ghost use Rattle.topology_sound.specs.Sound.{within};
 
-use topology_types::ROUTERS;
+use topology_types::NEXT_HOPS;
 
-// Whether the ID is among the first of these. The loop goes to its end, so that many IDs are taken at a time.
-pub fn is_listed(ids: &[u32; ROUTERS], count: usize, id: u32) -> bool
-    requires { (count ≤ most_routers) × (length ids.now ≡ most_routers) }
-    ensures { result ≡ member id (take count ids.now) }
+// Whether the ID is among these.
+pub fn is_listed(ids: &[u32], id: u32) -> bool
+    ensures { result ≡ member id ids.now }
 {
-    let mut found = false;
-    let mut i: usize = 0;
-    while i < count {
-        if ids[i] == id {
-            found = true;
-        }
-        i += 1;
-    }
-    found
+    ids.contains(&id)
+}
+
+// Whether this may be a next-hop limit.
+#[tactic(auto, unfolding(crate::specs::Sound::within))]
+pub fn in_range(limit: u8) -> bool
+    ensures { result ≡ within most_next_hops limit }
+{
+    (1..=NEXT_HOPS).contains(&limit)
 }

@@ -55,7 +55,7 @@ same_test true false f g = absurd (f tt)
 same_test false true f g = absurd (g tt)
 same_test false false f g = refl
 
-eqb_sym : (m n : ℕ) → eqb m n ≡ eqb n m
+pub eqb_sym : (m n : ℕ) → eqb m n ≡ eqb n m
 eqb_sym m n = same_test (eqb m n) (eqb n m) (λ t. eq_test (sym (eqb→eq m n t))) (λ t. eq_test (sym (eqb→eq n m t)))
 
 -- No two are the same, with one more at the end: s is whether the first is the same as the last, a and b whether they are among those between, d

@@ -1,18 +1,18 @@
 // What the fields of a line hold, by their kinds.
-ghost use Rattle.std.specs.Prelude.{◌≡◌, ◌≤◌, length};
+ghost use Rattle.std.specs.Prelude.{◌≡◌, ◌≤◌, IfSome, length, position};
 ghost use Rattle.text.specs.Hex.{none};
 ghost use Rattle.text.specs.Numbers.{number};
 ghost use Rattle.console_held.specs.Questions.{most_line, most_table, mode_field, bytes_field, text_of_lem, zero_text, shortest_word, mode_named, question_of};
-ghost use Rattle.console_held.specs.Inner.{Decoded, Understood};
+ghost use Rattle.console_held.specs.Inner.{letter, letters, is_kind, Decoded, InLimits};
 
-use super::kind;
+use super::kind::Kind;
+use super::query::Query;
 use order::Mode;
-use text::unchecked::fields::Value;
 use text::unchecked::{fields, hex};
 use topology::Place;
 
 // The limits of specs/Questions.antt. Two digits of a line stand for a byte.
-pub const BYTE: usize = 255;
+const BYTE: usize = 255;
 
 pub const LINE: usize = 262144;
 
@@ -20,119 +20,75 @@ pub const BYTES: usize = LINE / 2;
 
 pub const ROOM: usize = 65536;
 
-// The mode that a word names; or that it names none.
-#[derive(Clone, Copy)]
-pub enum Chosen {
-    Is(Mode),
-    Wrong,
-}
-
-// What the fields hold, each by its kind, as if absent where there is none. The bytes stand at the start of a buffer: here is how many they are.
-#[derive(Clone, Copy)]
-pub struct Query {
-    pub place: Place,
-    pub hops: u8,
-    pub mode: Mode,
-    pub room: usize,
-    pub count: usize,
-}
-
-// What the fields hold; or that one is no such field.
-#[derive(Clone, Copy)]
-pub enum Queried {
-    Is(Query),
-    Wrong,
-}
-
-// Arrays come out of functions, so that a proof that lends one knows it by what the function ensures and not by all its elements.
-pub fn room_for_bytes() -> [u8; BYTES]
-    ensures { most_table ≡ length result }
+// The place of a kind among kinds.
+#[tactic(auto, unfolding(crate::specs::Inner::letter))]
+fn place_of(kinds: &[Kind], kind: Kind) -> Option<usize>
+    ensures { result ≡ position (is_kind kind) kinds.now }
 {
-    [0; BYTES]
-}
-
-pub fn room_for_line() -> [u8; LINE]
-    ensures { most_line ≡ length result }
-{
-    [0; LINE]
+    kinds.iter().position(|k| *k == kind)
 }
 
 // The field of this kind, where these are the kinds of the fields after the first word; what is absent if none is.
-fn text_of<'a>(line: &'a [u8], kinds: &[u8], sort: u8, absent: &'a [u8]) -> &'a [u8]
-    ensures { result.now ≡ text_of_lem sort kinds.now line.now absent.now }
+fn text_of<'a>(line: &'a [u8], kinds: &[Kind], kind: Kind, absent: &'a [u8]) -> &'a [u8]
+    ensures { result.now ≡ text_of_lem (letter kind) (letters kinds.now) line.now absent.now }
 {
-    let k = fields::width(kinds, sort);
-    if k < kinds.len() {
-        return fields::field(line, k + 1);
+    match place_of(kinds, kind) {
+        Some(at) => fields::field(line, at + 1),
+        None => absent,
     }
-    absent
 }
 
 // The number in the field of this kind, 0 if none is.
-fn number_in(line: &[u8], kinds: &[u8], sort: u8, most: usize) -> Value
+fn number_in(line: &[u8], kinds: &[Kind], kind: Kind, most: usize) -> Option<usize>
     requires { most ≤ most_line }
-    ensures { result ≡ number most (text_of_lem sort kinds.now line.now zero_text) }
+    ensures { result ≡ number most (text_of_lem (letter kind) (letters kinds.now) line.now zero_text) }
 {
-    let digits = text_of(line, kinds, sort, b"0");
-    fields::number(digits, most)
+    fields::number(text_of(line, kinds, kind, b"0"), most)
 }
 
-fn mode_of(word: &[u8]) -> Chosen
+fn mode_of(word: &[u8]) -> Option<Mode>
     ensures { result ≡ mode_named word.now }
 {
-    if fields::same(word, b"shortest") {
-        return Chosen::Is(Mode::ShortestPath);
+    if word == b"shortest".as_slice() {
+        Some(Mode::ShortestPath)
+    } else if word == b"free".as_slice() {
+        Some(Mode::Free)
+    } else {
+        None
     }
-    if fields::same(word, b"free") {
-        return Chosen::Is(Mode::Free);
-    }
-    Chosen::Wrong
 }
 
 // MODE, shortest-path mode if no field is one.
-fn mode_in(line: &[u8], kinds: &[u8]) -> Chosen
-    ensures { result ≡ mode_named (text_of_lem mode_field kinds.now line.now shortest_word) }
+fn mode_in(line: &[u8], kinds: &[Kind]) -> Option<Mode>
+    ensures { result ≡ mode_named (text_of_lem mode_field (letters kinds.now) line.now shortest_word) }
 {
-    let word = text_of(line, kinds, kind::MODE, b"shortest");
-    mode_of(word)
+    mode_of(text_of(line, kinds, Kind::Mode, b"shortest"))
 }
 
 // Puts the bytes of the field that holds some at the start of out, and answers how many they are: none if no field does.
-fn bytes_in(line: &[u8], kinds: &[u8], out: &mut [u8]) -> Value
+fn bytes_in(line: &[u8], kinds: &[Kind], out: &mut [u8]) -> Option<usize>
     requires { (length line.now ≤ most_line) × (most_table ≤ length out.old) }
-    ensures { Decoded (text_of_lem bytes_field kinds.now line.now none) result out.new }
+    ensures { Decoded (text_of_lem bytes_field (letters kinds.now) line.now none) result out.new }
 {
-    let digits = text_of(line, kinds, kind::BYTES, b"-");
-    hex::bytes(digits, out)
+    hex::bytes(text_of(line, kinds, Kind::Bytes, b"-"), out)
 }
 
 // What the fields hold, where these are their kinds; bytes are put at the start of a buffer.
-pub fn query_in(line: &[u8], kinds: &[u8], bytes: &mut [u8]) -> Queried
+pub fn query_in<'a>(line: &[u8], kinds: &[Kind], bytes: &'a mut [u8]) -> Option<Query<'a>>
     requires { (length line.now ≤ most_line) × (most_table ≤ length bytes.old) }
-    ensures { Understood (question_of kinds.now line.now) result bytes.new }
+    ensures says { result ≡ question_of (letters kinds.now) line.now }
+    ensures within { IfSome result InLimits }
 {
-    let Value::Is(u) = number_in(line, kinds, kind::PLACE, BYTE) else {
-        return Queried::Wrong;
-    };
-    let Value::Is(k) = number_in(line, kinds, kind::HOPS, BYTE) else {
-        return Queried::Wrong;
-    };
-    let Chosen::Is(mode) = mode_in(line, kinds) else {
-        return Queried::Wrong;
-    };
-    let Value::Is(room) = number_in(line, kinds, kind::ROOM, ROOM) else {
-        return Queried::Wrong;
-    };
-    let Value::Is(n) = bytes_in(line, kinds, bytes) else {
-        return Queried::Wrong;
-    };
-    let place = Place(u as u8);
-    let query = Query {
-        place: place,
-        hops: k as u8,
-        mode: mode,
-        room: room,
-        count: n,
-    };
-    Queried::Is(query)
+    let place = number_in(line, kinds, Kind::Place, BYTE)?;
+    let hops = number_in(line, kinds, Kind::Hops, BYTE)?;
+    let mode = mode_in(line, kinds)?;
+    let room = number_in(line, kinds, Kind::Room, ROOM)?;
+    let count = bytes_in(line, kinds, bytes)?;
+    Some(Query {
+        place: Place(place as u8),
+        hops: hops as u8,
+        mode,
+        room,
+        bytes: &bytes[..count],
+    })
 }

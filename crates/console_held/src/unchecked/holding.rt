@@ -1,102 +1,63 @@
-// What is held, what a request leaves, and the requests that read or import a topology or load a table.
-ghost use Rattle.std.specs.Prelude.{List, ℕ, ◌≤◌, length};
-ghost use Rattle.console_held.specs.Questions.{most_table};
-ghost use Rattle.console_held.specs.Requests.{taken_answer, read_by, import_by, load_by};
-ghost use Rattle.console_held.specs.Inner.{TableReady, StepServed, held_in, question_in};
-
-use super::asked::Query;
+// What is held.
+use super::asked::BYTES;
 use forwarding::Packet;
-use stream::Reading;
-use text::unchecked::lines;
-use topology::{Answer, Topology};
+use std::marker::Model;
+use topology::{Place, Topology};
 
-// What is held, but for the table's bytes, which stand at the start of a buffer: the topology, how many bytes the table has, and the packet.
-#[derive(Clone, Copy)]
+// A topology, the bytes of a table and a packet. The table is the start of a buffer.
+#[derive(Drop)]
 pub struct Holding {
     pub topology: Topology,
-    pub size: usize,
+    buffer: [u8; BYTES],
+    size: usize,
     pub packet: Packet,
 }
 
-// What became of a packet.
-#[derive(Clone, Copy)]
-pub enum Fate {
-    Set,
-    Delivered,
-    Moved,
-    Dropped,
+impl Model for Holding {
+    ghost use Rattle.std.specs.Prelude.{◌≤◌, take};
+    ghost use Rattle.forwarding_rules.specs.Calls.{packet_in};
+    ghost use Rattle.console_held.specs.Questions.{most_table};
+    ghost use Rattle.console_held.specs.Requests.{Held};
+
+    ghost Value = { Held };
+
+    ghost view = { λ h. record { topology = h.topology; table = take h.size h.buffer; packet = packet_in h.packet } };
+
+    ghost invariant = { λ h. h.size ≤ most_table };
 }
 
-// That the line is no request; a call's answer; that and as many bytes, from its start, of the buffer that was lent; a line of as many bytes, which
-// stand there, and its end; or what became of a packet, as it is now, or that the call refused.
-#[derive(Clone, Copy)]
-pub enum Reply {
-    Error,
-    Says(Answer),
-    Leaves(Answer, usize),
-    Line(usize),
-    Finds(Fate, Packet),
-    Refused(Answer),
-}
+impl Holding {
+    ghost use Rattle.std.specs.Prelude.{◌≡◌, ◌≤◌, [], length};
+    ghost use Rattle.topology_types.specs.Topology.{zeros};
+    ghost use Rattle.console_held.specs.Questions.{most_table};
 
-// What a request leaves: what is held from then on, and the reply.
-#[derive(Clone, Copy)]
-pub struct Step {
-    pub held: Holding,
-    pub reply: Reply,
-}
-
-// What a call returned is held beside the table and the packet.
-fn hold(h: Holding, reading: Reading) -> Step
-    ensures { (table buffer : List ℕ) → h.size ≤ length table → StepServed (taken_answer (held_in h table) reading) result table buffer }
-{
-    let answer = reading.answer;
-    let t = reading.topology;
-    let packet = h.packet;
-    let next = Holding {
-        topology: t,
-        size: h.size,
-        packet: packet,
-    };
-    Step {
-        held: next,
-        reply: Reply::Says(answer),
+    // What is held at first: a topology of all zeros, no bytes and the packet (0, 0).
+    pub fn new() -> Self
+        ensures { result ≡ record { topology = zeros; table = []; packet = record { station = 0; hops = 0 } } }
+    {
+        Holding {
+            topology: Topology::empty(0),
+            buffer: [0; BYTES],
+            size: 0,
+            packet: Packet {
+                station: Place(0),
+                hops: 0,
+            },
+        }
     }
-}
 
-// `topology STREAM`
-pub fn read(h: Holding, q: Query, bytes: &[u8], table: &mut [u8]) -> Step
-    requires { TableReady h table.old × (length bytes.now ≤ most_table) }
-    ensures { (buffer : List ℕ) → StepServed (read_by (held_in h table.old) (question_in q bytes.now)) result table.new buffer }
-{
-    let reading = topology::read(bytes);
-    hold(h, reading)
-}
-
-// `load-table TABLE`
-pub fn load_table(h: Holding, q: Query, bytes: &[u8], table: &mut [u8]) -> Step
-    requires { TableReady h table.old × (length bytes.now ≤ most_table) }
-    ensures { (buffer : List ℕ) → StepServed (load_by (held_in h table.old) (question_in q bytes.now)) result table.new buffer }
-{
-    let n = lines::put(table, 0, bytes);
-    let t = h.topology;
-    let packet = h.packet;
-    let next = Holding {
-        topology: t,
-        size: n,
-        packet: packet,
-    };
-    Step {
-        held: next,
-        reply: Reply::Says(Answer { number: 0, at: 0 }),
+    pub fn table(&self) -> &[u8]
+        ensures { result.now ≡ self.now.table }
+    {
+        &self.buffer[..self.size]
     }
-}
 
-// `import FILE`
-pub fn import(h: Holding, q: Query, bytes: &[u8], table: &mut [u8]) -> Step
-    requires { TableReady h table.old × (length bytes.now ≤ most_table) }
-    ensures { (buffer : List ℕ) → StepServed (import_by (held_in h table.old) (question_in q bytes.now)) result table.new buffer }
-{
-    let reading = ospf::import(bytes);
-    hold(h, reading)
+    pub fn load(&mut self, table: &[u8])
+        requires { length table.now ≤ most_table }
+        ensures { self.new ≡ record self.old { table = table.now } }
+    {
+        let n = table.len();
+        self.buffer[..n].copy_from_slice(table);
+        self.size = n;
+    }
 }

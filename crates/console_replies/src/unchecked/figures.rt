@@ -1,36 +1,62 @@
 // Requests that answer with numbers, put into the buffer as a line.
-ghost use Rattle.console_held.specs.Inner.{Replies, question_in};
-ghost use Rattle.console_replies.specs.Calls.{coverage_by, te_by};
-ghost use Rattle.console_replies.specs.Inner.{RoomLent};
+ghost use Rattle.std.specs.Prelude.{◌≡◌, ◌≤◌, ◌+◌, ◌++◌, length};
+ghost use Rattle.text.specs.Fields.{space};
+ghost use Rattle.text.specs.Inner.{Put};
+ghost use Rattle.text.specs.Page.{Puts, Room};
+ghost use Rattle.coverage_rules.specs.Coverage.{coverage, figures_of};
+ghost use Rattle.coverage_rules.specs.Inner.{most_text};
+ghost use Rattle.coverage_rules.specs.Printed.{fractions_text};
+ghost use Rattle.te.specs.Cost.{costing};
+ghost use Rattle.console_held.specs.Questions.{most_room};
+ghost use Rattle.console_held.specs.Inner.{Replies};
+ghost use Rattle.console_replies.specs.Calls.{lent, coverage_line, cost_line};
+ghost use Rattle.console_replies.specs.Inner.{zeros_text};
 
 use super::{costs, putting};
-use console_held::unchecked::asked::Query;
-use console_held::unchecked::holding::Reply;
-use text::unchecked::lines;
+use console_held::unchecked::reply::Reply;
+use coverage_rules::Coverage;
+use text::unchecked::lines::Page;
 use topology::Topology;
 
-// `coverage`: the figures are put with a space behind each number, and the last space is left out.
-pub fn cover(t: Topology, q: Query, bytes: &[u8], table: &[u8], buffer: &mut [u8]) -> Reply
-    requires { RoomLent q buffer.old }
-    ensures { Replies (coverage_by t table.now (question_in q bytes.now)) result buffer.new }
+// Puts `0 0` and the figures, with a space behind each number.
+fn put_figures(page: &mut Page<'_>, figures: &Coverage)
+    requires { Room page.old (4 + most_text) }
+    ensures { Puts page.old (zeros_text ++ fractions_text space (figures_of figures.now)) page.new }
 {
-    let figures = report::coverage(t);
-    let answer = figures.answer;
-    if answer.number != 0 {
-        return Reply::Says(answer);
+    page.put(b"0 0 ");
+    coverage_counts::unchecked::put_coverage(figures, page, b' ');
+}
+
+// The same at the start of out, and how many bytes that is.
+fn figures_in(out: &mut [u8], figures: &Coverage) -> usize
+    requires { most_room ≤ length out.old }
+    ensures { Put out.old 0 (zeros_text ++ fractions_text space (figures_of figures.now)) result out.new }
+{
+    let mut page = Page::new(out);
+    put_figures(&mut page, figures);
+    page.filled
+}
+
+// `coverage`: the last space is left out.
+pub(crate) fn cover<'a>(t: Topology, buffer: &'a mut [u8]) -> Reply<'a>
+    requires { buffer.old ≡ lent most_room }
+    ensures { Replies (coverage_line (coverage t)) result }
+{
+    match report::coverage(t) {
+        Ok(figures) => {
+            let end = figures_in(buffer, &figures);
+            Reply::Line(&buffer[..end - 1])
+        }
+        Err(refusal) => Reply::Says(Err(refusal)),
     }
-    let start = lines::put(buffer, 0, b"0 0 ");
-    let end = coverage_counts::unchecked::put_coverage(figures, buffer, start, b' ');
-    Reply::Line(end - 1)
 }
 
 // `te VALUE`
-pub fn link_cost(t: Topology, q: Query, bytes: &[u8], table: &[u8], buffer: &mut [u8]) -> Reply
-    requires { RoomLent q buffer.old }
-    ensures { Replies (te_by t table.now (question_in q bytes.now)) result buffer.new }
+pub(crate) fn link_cost<'a>(value: &[u8], buffer: &'a mut [u8]) -> Reply<'a>
+    requires { buffer.old ≡ lent most_room }
+    ensures { Replies (cost_line (costing value.now)) result }
 {
-    let c = te::cost(bytes);
-    let numbers = costs::numbers_of(c);
+    let numbers = costs::numbers_of(te::cost(value));
     let end = putting::put_numbers(buffer, &numbers);
-    Reply::Line(end)
+    Reply::Line(&buffer[..end])
 }

@@ -1,6 +1,7 @@
-// The line that a reply stands for, a line of numbers, and the buffers lent.
+// The line that a reply stands for, and a line of numbers.
 ghost use Rattle.std.specs.Prelude.{[], ◌∷◌, ◌++◌, map, ◌≡◌, ◌+◌, ◌*◌, ◌≤◌, length};
 ghost use Rattle.text.specs.Inner.{Put};
+ghost use Rattle.text.specs.Page.{Puts, Room};
 ghost use Rattle.text.specs.Lines.{newline};
 ghost use Rattle.text.specs.Numbers.{number_text};
 ghost use Rattle.listing_rules.specs.Listing.{spaced};
@@ -9,27 +10,25 @@ ghost use Rattle.console_held.specs.Questions.{most_room};
 ghost use Rattle.console_held.specs.Requests.{packet_line};
 ghost use Rattle.console_held.specs.Inner.{fate_word, reply_text, room_of};
 ghost use Rattle.console_replies.specs.Calls.{most_answer};
-ghost use Rattle.console_replies.specs.Calls as said;
 
 use console_held::unchecked::asked::ROOM;
-use console_held::unchecked::holding::{Fate, Reply};
+use console_held::unchecked::reply::{Fate, Reply};
 use forwarding::Packet;
-use text::unchecked::lines;
+use text::unchecked::lines::Page;
 
 // The limit of specs/Calls.antt.
 pub const ANSWER: usize = 2 * ROOM + 64;
 
-// Arrays come out of functions, so that a proof that lends one knows it by what the function ensures and not by all its elements.
-pub fn lent() -> [u8; ROOM]
-    ensures { result ≡ said.lent most_room }
+// Puts numbers, one space between.
+fn put_spaced(page: &mut Page<'_>, numbers: &[usize])
+    requires { (1 ≤ length numbers.now) × Room page.old (21 * length numbers.now) }
+    ensures { Puts page.old (spaced (map number_text numbers.now)) page.new }
 {
-    [170; ROOM]
-}
-
-pub fn room_for_answer() -> [u8; ANSWER]
-    ensures { most_answer ≡ length result }
-{
-    [0; ANSWER]
+    page.put_number(numbers[0]);
+    for number in &numbers[1..] {
+        page.put(b" ");
+        page.put_number(*number);
+    }
 }
 
 // Puts numbers, one space between, at the start of out, and answers how many bytes that is. There is room for 20 digits and a space each.
@@ -37,61 +36,68 @@ pub fn put_numbers(out: &mut [u8], numbers: &[usize]) -> usize
     requires { (1 ≤ length numbers.now) × (21 * length numbers.now ≤ length out.old) }
     ensures { Put out.old 0 (spaced (map number_text numbers.now)) result out.new }
 {
-    let mut end = lines::put_number(out, 0, numbers[0]);
-    let mut i: usize = 1;
-    while i < numbers.len() {
-        out[end] = b' ';
-        end = lines::put_number(out, end + 1, numbers[i]);
-        i += 1;
-    }
-    end
+    let mut page = Page::new(out);
+    put_spaced(&mut page, numbers);
+    page.filled
 }
 
 // Puts a word and a packet.
-fn put_packet(out: &mut [u8], word: &[u8], packet: Packet) -> usize
-    requires { length word.now + 43 ≤ length out.old }
-    ensures { Put out.old 0 (packet_line word.now (packet_in packet)) result out.new }
+fn put_packet(page: &mut Page<'_>, word: &[u8], packet: Packet)
+    requires { Room page.old (length word.now + 43) }
+    ensures { Puts page.old (packet_line word.now (packet_in packet)) page.new }
 {
-    let station = packet.station.0;
-    let hops = packet.hops as usize;
-    lines::put_word_line(out, word, station, hops)
+    page.put_word_line(word, packet.station.0, packet.hops.into());
 }
 
 // Puts what became of a packet, and the packet.
-fn put_found(out: &mut [u8], fate: Fate, packet: Packet) -> usize
-    requires { 52 ≤ length out.old }
-    ensures { Put out.old 0 (packet_line (fate_word fate) (packet_in packet)) result out.new }
+fn put_found(page: &mut Page<'_>, fate: Fate, packet: Packet)
+    requires { Room page.old 52 }
+    ensures { Puts page.old (packet_line (fate_word fate) (packet_in packet)) page.new }
 {
     match fate {
-        Fate::Set => put_packet(out, b"set", packet),
-        Fate::Delivered => put_packet(out, b"delivered", packet),
-        Fate::Moved => put_packet(out, b"moved", packet),
-        Fate::Dropped => put_packet(out, b"dropped", packet),
+        Fate::Set => put_packet(page, b"set", packet),
+        Fate::Delivered => put_packet(page, b"delivered", packet),
+        Fate::Moved => put_packet(page, b"moved", packet),
+        Fate::Dropped => put_packet(page, b"dropped", packet),
     }
 }
 
 // Puts a text and the line's end.
-fn put_line(out: &mut [u8], text: &[u8]) -> usize
-    requires { length text.now + 1 ≤ length out.old }
-    ensures { Put out.old 0 (text.now ++ (newline ∷ [])) result out.new }
+fn put_line(page: &mut Page<'_>, text: &[u8])
+    requires { Room page.old (length text.now + 1) }
+    ensures { Puts page.old (text.now ++ (newline ∷ [])) page.new }
 {
-    let end = lines::put(out, 0, text);
-    lines::put(out, end, b"\n")
+    page.put(text);
+    page.put(b"\n");
+}
+
+// Puts what a reply stands for.
+fn put_text(reply: Reply, page: &mut Page<'_>)
+    requires { (room_of reply ≤ most_room) × Room page.old most_answer }
+    ensures { (length (reply_text reply.entry) ≤ most_answer) × Puts page.old (reply_text reply.entry) page.new }
+{
+    match reply {
+        Reply::Error => page.put_error(),
+        Reply::Says(Ok(())) => page.put_answer_line(0, 0),
+        Reply::Says(Err(refusal)) => page.put_answer_line(refusal.fault.number(), refusal.at),
+        Reply::Leaves(Ok(written), buffer) => page.put_buffer_line(0, written, buffer),
+        Reply::Leaves(Err(refusal), buffer) => {
+            page.put_buffer_line(refusal.fault.number(), refusal.at, buffer)
+        }
+        Reply::Line(text) => put_line(page, text),
+        Reply::Finds(fate, packet) => put_found(page, fate, packet),
+        Reply::Refused(refusal) => {
+            page.put_word_line(b"refused", refusal.fault.number(), refusal.at)
+        }
+    }
 }
 
 // Puts the line at the start of out, and answers how many bytes it has.
-pub fn put_reply(reply: Reply, buffer: &[u8], out: &mut [u8]) -> usize
-    requires { (room_of reply ≤ length buffer.now) × (length buffer.now ≤ most_room) × (most_answer ≤ length out.old) }
-    ensures { (length (reply_text reply buffer.now) ≤ most_answer) × Put out.old 0 (reply_text reply buffer.now) result out.new }
+pub fn put_reply(reply: Reply, out: &mut [u8]) -> usize
+    requires { (room_of reply ≤ most_room) × (most_answer ≤ length out.old) }
+    ensures { (length (reply_text reply.entry) ≤ most_answer) × Put out.old 0 (reply_text reply.entry) result out.new }
 {
-    match reply {
-        Reply::Error => lines::put_error(out),
-        Reply::Says(answer) => lines::put_answer_line(out, answer.number, answer.at),
-        Reply::Leaves(answer, n) => {
-            lines::put_buffer_line(out, answer.number, answer.at, &buffer[..n])
-        }
-        Reply::Line(n) => put_line(out, &buffer[..n]),
-        Reply::Finds(fate, p) => put_found(out, fate, p),
-        Reply::Refused(answer) => lines::put_word_line(out, b"refused", answer.number, answer.at),
-    }
+    let mut page = Page::new(out);
+    put_text(reply, &mut page);
+    page.filled
 }

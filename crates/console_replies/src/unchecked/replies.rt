@@ -1,11 +1,17 @@
-// The requests that leave what is held: each has its function.
-ghost use Rattle.console_held.specs.Inner.{Replies, question_in};
-ghost use Rattle.console_replies.specs.Inner.{RoomLent, reply_to};
+// The requests that leave what is held as it is.
+ghost use Rattle.std.specs.Prelude.{◌≡◌, ◌≤◌, length};
+ghost use Rattle.std.specs.Fn.{FnOnceReturnsAtMut};
+ghost use Rattle.forwarding_rules.specs.Calls.{walk_says};
+ghost use Rattle.console_held.specs.Questions.{most_room};
+ghost use Rattle.console_held.specs.Inner.{Replies};
+ghost use Rattle.console_replies.specs.Calls.{walk_text, lent};
+ghost use Rattle.console_replies.specs.Inner.{reply_to};
 
-use super::{calls, figures};
-use console_held::unchecked::asked::Query;
-use console_held::unchecked::holding::Reply;
-use topology::Topology;
+use super::figures;
+use console_held::unchecked::query::Query;
+use console_held::unchecked::reply::{Fate, Reply};
+use forwarding::Walk;
+use topology::{Refusal, Topology};
 
 #[derive(Clone, Copy)]
 pub enum Call {
@@ -23,29 +29,64 @@ pub enum Call {
     Te,
 }
 
-pub fn reply_by(
-    call: Call,
-    t: Topology,
-    q: Query,
-    bytes: &[u8],
-    table: &[u8],
-    buffer: &mut [u8],
-) -> Reply
-    requires { RoomLent q buffer.old }
-    ensures { Replies (reply_to call t table.now (question_in q bytes.now)) result buffer.new }
+// Lends the first ROOM bytes of the buffer to a call: what it answers, and these bytes as it leaves them.
+fn leaves<'a, F: FnOnce(&mut [u8]) -> Result<usize, Refusal>>(
+    room: usize,
+    buffer: &'a mut [u8],
+    call: F,
+) -> Reply<'a>
+    requires room { room ≤ most_room }
+    requires filled { buffer.old ≡ lent most_room }
+    requires calls { F.IsAlwaysCallable call }
+    ensures { (answer : _) × (left : _) × (result ≡ Reply.Leaves answer left) × FnOnceReturnsAtMut F.FnOnce call (lent room) answer left.now × (length left.now ≡ room) }
 {
+    let out = &mut buffer[..room];
+    let answer = call(out);
+    Reply::Leaves(answer, out)
+}
+
+// What a walk says.
+fn walk_reply(walked: Result<Walk, Refusal>) -> Reply<'static>
+    ensures { Replies (walk_text (walk_says walked)) result }
+{
+    match walked {
+        Ok(Walk::Delivered(p)) => Reply::Finds(Fate::Delivered, p),
+        Ok(Walk::Dropped(p)) => Reply::Finds(Fate::Dropped, p),
+        Err(refusal) => Reply::Refused(refusal),
+    }
+}
+
+pub fn reply_by<'a>(
+    call: Call,
+    t: &Topology,
+    table: &[u8],
+    q: Query,
+    buffer: &'a mut [u8],
+) -> Reply<'a>
+    requires room { q.room ≤ most_room }
+    requires filled { buffer.old ≡ lent most_room }
+    ensures { Replies (reply_to call t.now table.now q.entry) result }
+{
+    let t = *t;
+    let Query {
+        place,
+        mode,
+        room,
+        bytes,
+        ..
+    } = q;
     match call {
-        Call::Write => calls::write(t, q, bytes, table, buffer),
-        Call::Order => calls::build_order(t, q, bytes, table, buffer),
-        Call::CheckOrder => calls::check_order(t, q, bytes, table, buffer),
-        Call::Fill => calls::fill(t, q, bytes, table, buffer),
-        Call::CheckTable => calls::check_table(t, q, bytes, table, buffer),
-        Call::Greatest => calls::count_hops(t, q, bytes, table, buffer),
-        Call::Walk => calls::walk(t, q, bytes, table, buffer),
-        Call::Listing => calls::list(t, q, bytes, table, buffer),
-        Call::OldStream => calls::prefix_limit(t, q, bytes, table, buffer),
-        Call::Paths => calls::write_paths(t, q, bytes, table, buffer),
-        Call::Coverage => figures::cover(t, q, bytes, table, buffer),
-        Call::Te => figures::link_cost(t, q, bytes, table, buffer),
+        Call::Write => leaves(room, buffer, |out| topology::write(t, out)),
+        Call::Order => leaves(room, buffer, |out| order::build(t, place, mode, out)),
+        Call::CheckOrder => Reply::Says(order::check(t, place, mode, bytes)),
+        Call::Fill => leaves(room, buffer, |out| table::fill(t, place, bytes, out)),
+        Call::CheckTable => Reply::Says(table::check(t, table)),
+        Call::Greatest => leaves(room, buffer, |out| forwarding::greatest_hops(t, table, out)),
+        Call::Walk => walk_reply(forwarding::walk(t, table, place, bytes)),
+        Call::Listing => leaves(room, buffer, |out| report::listing(t, place, out)),
+        Call::OldStream => leaves(room, buffer, |out| topology::with_old_limit(bytes, out)),
+        Call::Paths => leaves(room, buffer, |out| paths::write(t, table, place, out)),
+        Call::Coverage => figures::cover(t, buffer),
+        Call::Te => figures::link_cost(bytes, buffer),
     }
 }

@@ -7,7 +7,7 @@ pub fn be16(s: &[u8], at: usize) -> u16
     requires { at + 2 ≤ length s.now }
     ensures { result ≡ get_or s.now at 0 * 256 + get_or s.now (at + 1) 0 }
 {
-    s[at] as u16 * 256 + s[at + 1] as u16
+    u16::from_be_bytes([s[at], s[at + 1]])
 }
 
 // The same of four bytes.
@@ -15,5 +15,5 @@ pub fn be32(s: &[u8], at: usize) -> u32
     requires { at + 4 ≤ length s.now }
     ensures { result ≡ big_endian (take 4 (drop at s.now)) }
 {
-    be16(s, at) as u32 * 65536 + be16(s, at + 2) as u32
+    u32::from_be_bytes([s[at], s[at + 1], s[at + 2], s[at + 3]])
 }

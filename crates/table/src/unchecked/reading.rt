@@ -9,52 +9,67 @@ use table_rows::unchecked::layout;
 use table_rows::{Layout, NARROW};
 use topology_types::{Place, Rank};
 
-// The layout of a table, by its kind: there is one, and a table of any other kind is refused.
-pub fn layout_of(table: &[u8]) -> Layout
-    ensures { result ≡ layout_of table.now }
-{
-    NARROW
+// A lent table, and its layout. It is made of any bytes, before their number is tested, so that each reading asks for the bytes that it reads.
+#[derive(Clone, Copy)]
+pub struct Table<'a> {
+    pub layout: Layout,
+    pub bytes: &'a [u8],
+    pub ghost laid: { layout ≡ layout_of bytes.now },
 }
 
-// The destination.
-pub fn destination_in(l: Layout, table: &[u8]) -> Place
-    requires { (l ≡ layout_of table.now) × (header_length l ≤ length table.now) }
-    ensures { result.0 ≡ destination_in_lem table.now }
-{
-    Place(layout::number_at(table, 1, l.place) as u8)
-}
+impl<'a> Table<'a> {
+    // The layout goes by the kind: there is one, and a table of any other kind is refused.
+    pub fn of(bytes: &'a [u8]) -> Table<'a>
+        ensures { result.bytes.now ≡ bytes.now }
+    {
+        Table {
+            layout: NARROW,
+            bytes,
+        }
+    }
 
-// The router count.
-pub fn count_in(l: Layout, table: &[u8]) -> usize
-    requires { (l ≡ layout_of table.now) × (header_length l ≤ length table.now) }
-    ensures { result ≡ count_in_lem table.now }
-{
-    layout::number_at(table, 1 + l.place as usize, l.rank)
-}
+    // The destination.
+    pub fn destination(self) -> Place
+        requires { header_length (layout_of self.bytes.now) ≤ length self.bytes.now }
+        ensures { result.0 ≡ destination_in_lem self.entry.bytes.now }
+    {
+        Place(layout::number_at(self.bytes, 1, self.layout.place) as u8)
+    }
 
-// K.
-pub fn limit_in(l: Layout, table: &[u8]) -> u8
-    requires { (l ≡ layout_of table.now) × (header_length l ≤ length table.now) }
-    ensures { result ≡ limit_in_lem table.now }
-{
-    table[1 + l.place as usize + l.rank as usize]
-}
+    // The router count.
+    pub fn count(self) -> usize
+        requires { header_length (layout_of self.bytes.now) ≤ length self.bytes.now }
+        ensures { result ≡ count_in_lem self.entry.bytes.now }
+    {
+        let at = 1 + usize::from(self.layout.place);
+        layout::number_at(self.bytes, at, self.layout.rank)
+    }
 
-// The rank of the place u, 255 where it has none.
-pub fn rank_in(l: Layout, table: &[u8], u: usize) -> Rank
-    requires { (l ≡ layout_of table.now) × HasRow table.now u }
-    ensures { result.0 ≡ rank_in_lem table.now u }
-{
-    Rank(layout::number_at(table, layout::row_start(l, u) + 1, l.rank) as u8)
-}
+    // K.
+    pub fn limit(self) -> u8
+        requires { header_length (layout_of self.bytes.now) ≤ length self.bytes.now }
+        ensures { result ≡ limit_in_lem self.entry.bytes.now }
+    {
+        self.bytes[1 + usize::from(self.layout.place) + usize::from(self.layout.rank)]
+    }
 
-// The places that the row of u lists, a byte each, as a part of the table.
-pub fn row_in(l: Layout, table: &[u8], u: usize) -> &[u8]
-    requires { (l ≡ layout_of table.now) × HasRow table.now u × (entry_count table.now u ≤ most_next_hops) }
-    ensures { result.now ≡ places_in table.now u }
-{
-    let count = layout::row_start(l, u) + 1 + l.rank as usize;
-    let first = count + 1;
-    let last = first + table[count] as usize;
-    &table[first..last]
+    // The rank of the place u; where it has none, 255, the byte that stands there.
+    pub fn rank(self, u: usize) -> Rank
+        requires { HasRow self.bytes.now u }
+        ensures { result.0 ≡ rank_in_lem self.entry.bytes.now u }
+    {
+        let at = self.layout.row_start(u) + 1;
+        Rank(layout::number_at(self.bytes, at, self.layout.rank) as u8)
+    }
+
+    // The places that the row of u lists, a byte each, as a part of the table.
+    pub fn row(self, u: usize) -> &'a [u8]
+        requires { HasRow self.bytes.now u × (entry_count self.bytes.now u ≤ most_next_hops) }
+        ensures { result.now ≡ places_in self.entry.bytes.now u }
+    {
+        let count = self.layout.row_start(u) + 1 + usize::from(self.layout.rank);
+        let first = count + 1;
+        let last = first + usize::from(self.bytes[count]);
+        &self.bytes[first..last]
+    }
 }

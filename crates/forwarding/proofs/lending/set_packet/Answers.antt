@@ -1,10 +1,15 @@
--- A setting that sets nothing leaves the packet of before.
--- Assumes nothing.
-use Rattle.forwarding_rules.specs.Calls.{packet_in, setting_says}
-use Rattle.forwarding.proofs.Unchanged.{set_kept}
+-- A setting that is refused leaves the packet of before.
+use Rattle.std.proofs.Common.{◌≡◌, refl, Err, rules}
+use Rattle.forwarding_rules.specs.Calls.{says}
+use Rattle.forwarding_rules.specs.Lent.{packet_after_setting_lem, setting_packet}
 use Rattle.forwarding.proofs.lending.set_packet.Goals as goal
 
-pub returns-else-is_set : goal.returns-else-is_set
-returns-else-is_set c =
-    set_kept c.args.t c.args.start.0 (packet_in c.args.packet.now) (packet_in c.left_by_setting-left.result.packet)
-    (setting_says c.left_by_setting-left.result.answer) c.left_by_setting-left.ensures (rw (← c.is_set.ensures, c.if-is_set.false) tt)
+pub returns-in_err-set : goal.returns-in_err-set
+unfolding setting_packet packet_after_setting_lem says
+returns-in_err-set c =
+    let e : c.from_residual.result ≡ Err c.in_err-set.field-0.0 = search rules in
+    rw (e, ← c.in_err-set.ensures) refl
+
+pub returns : goal.returns
+unfolding setting_packet packet_after_setting_lem says
+returns c = rw (← c.in_ok-set.ensures) refl

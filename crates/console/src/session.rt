@@ -1,0 +1,106 @@
+// What the console holds, and the line that has not ended.
+ghost use Rattle.std.specs.Prelude.{◌≡◌, ◌≤◌, IfSome, length};
+ghost use Rattle.topology_types.specs.Topology.{zeros};
+ghost use Rattle.console_held.specs.Questions.{most_line};
+ghost use Rattle.console.specs.Inner.{line_gathered, line_given, InLine};
+
+use super::answers;
+use console_held::unchecked::asked::LINE;
+use console_held::unchecked::holding::Holding;
+use console_replies::unchecked::putting::ANSWER;
+use program_io::STDOUT;
+use std::marker::Model;
+
+// Of the line as many bytes have come, which are the start of the buffer; none where they are too many.
+#[derive(Drop)]
+pub struct Session {
+    held: Holding,
+    line: [u8; LINE],
+    count: Option<usize>,
+}
+
+impl Model for Session {
+    ghost use Rattle.std.specs.Prelude.{◌≡◌, length};
+    ghost use Rattle.console_held.specs.Questions.{most_line};
+    ghost use Rattle.console.specs.Session.{State};
+    ghost use Rattle.console.specs.Inner.{line_gathered, InLine};
+
+    ghost Value = { State };
+
+    ghost view = { λ s. record { held = s.held; line = line_gathered s.line s.count } };
+
+    ghost invariant = { λ s. (length s.line ≡ most_line) × InLine s.count };
+}
+
+// The line of which so many bytes have come, none where they are too many.
+fn gathered(line: &[u8], count: Option<usize>) -> Option<&[u8]>
+    requires { (length line.now ≡ most_line) × InLine count }
+    ensures { (line_given result ≡ line_gathered line.now count) × IfSome result (λ l. length l.now ≤ most_line) }
+{
+    Some(&line[..count?])
+}
+
+impl Session {
+    ghost use Rattle.std.specs.Prelude.{◌≡◌, []};
+    ghost use Rattle.console_held.specs.Questions.{most_line};
+    ghost use Rattle.console.specs.Session.{some, begun, line_ends, line_grows, session_after};
+
+    // A topology of all zeros, no table and the packet (0, 0), and no byte of a line.
+    pub fn new() -> Self
+        ensures { result ≡ record { held = record { topology = zeros; table = []; packet = record { station = 0; hops = 0 } }; line = some [] } }
+    {
+        Session {
+            held: Holding::new(),
+            line: text::filled(0),
+            count: Some(0),
+        }
+    }
+
+    // Whether the line has a byte, or is too long.
+    pub fn has_begun(&self) -> bool
+        ensures { result ≡ begun self.now.line }
+    {
+        match self.count {
+            Some(n) => n > 0,
+            None => true,
+        }
+    }
+
+    // A byte more of the line.
+    fn push(&mut self, byte: u8)
+        ensures { self.new ≡ line_grows most_line byte self.old }
+    {
+        self.count = match self.count {
+            Some(n) if n < LINE => {
+                self.line[n] = byte;
+                Some(n + 1)
+            }
+            _ => None,
+        };
+    }
+
+    // Answers the line, and says whether the answer was written.
+    pub fn answer(&mut self) -> bool
+        ensures { self.new ≡ line_ends self.old }
+    {
+        let mut out: [u8; ANSWER] = text::filled(0);
+        let n = answers::respond(&mut self.held, gathered(&self.line, self.count), &mut out);
+        self.count = Some(0);
+        io::write_all(STDOUT, &out[..n])
+    }
+
+    // Takes a text, and says whether the last answer was written.
+    pub fn take(&mut self, text: &[u8]) -> bool
+        ensures { self.new ≡ session_after most_line text.now self.old }
+    {
+        let mut is_written = true;
+        for byte in text {
+            if *byte == b'\n' {
+                is_written = self.answer();
+            } else {
+                self.push(*byte);
+            }
+        }
+        is_written
+    }
+}

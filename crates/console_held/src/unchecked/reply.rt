@@ -1,0 +1,24 @@
+// What a line answers, before it is text.
+use forwarding::Packet;
+use topology::Refusal;
+
+// What became of a packet.
+#[derive(Clone, Copy)]
+pub enum Fate {
+    Set,
+    Delivered,
+    Moved,
+    Dropped,
+}
+
+// That the line is no request; what a call answers that writes nothing; what one answers that is lent a buffer, and the buffer as it left it; a line but
+// for its end; what became of a packet, as it is now, or that the call refused.
+#[derive(Clone, Copy)]
+pub enum Reply<'a> {
+    Error,
+    Says(Result<(), Refusal>),
+    Leaves(Result<usize, Refusal>, &'a [u8]),
+    Line(&'a [u8]),
+    Finds(Fate, Packet),
+    Refused(Refusal),
+}
