@@ -1,9 +1,9 @@
 // The arcs of every router of a topology: each link seen from both its ends, in the order of link numbers.
 #![tactic(auto)]
 
-ghost use Rattle.std.specs.Prelude.{◌≡◌, ◌<◌, ◌≤◌, get_or};
+ghost use Rattle.std.specs.Prelude.{◌≡◌, ◌<◌, get_or};
 ghost use Rattle.topology_types.specs.Limits.{most_routers, most_neighbours};
-ghost use Rattle.arcs.specs.Inner.{arcs_at, with_arc};
+ghost use Rattle.arcs.specs.Inner.{with_arc};
 
 use topology_types::{NEIGHBOURS, Place, ROUTERS};
 
@@ -30,16 +30,6 @@ pub struct Arcs {
 }
 
 impl Arcs {
-    // The arcs of the router at u.
-    pub fn at(&self, u: usize) -> &[Arc]
-        requires { (u < most_routers) × (get_or self.now.count u 0 ≤ most_neighbours) }
-        ensures { result.now ≡ arcs_at self.now u }
-    {
-        let first = u * NEIGHBOURS;
-        let end = first + self.count[u] as usize;
-        &self.slot[first..end]
-    }
-
     // One arc more of the router at u, in its next slot.
     fn add(&mut self, u: Place, arc: Arc)
         requires { (u.0 < most_routers) × (get_or self.old.count u.0 0 < most_neighbours) }
