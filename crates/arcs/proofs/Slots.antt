@@ -10,7 +10,7 @@ use native.Mathlib.Nat.{add-zero}
 use native.Mathlib.Numerals.{add-one}
 use native.Mathlib.Omega.{arith}
 use lib.ListN.{length, get_or, set, take, drop, length-set, length-drop}
-use lib.Seq.{get_or-set_same, get_or-set_other}
+use lib.Seq.{get_or-set_same, get_or-set_other, length-take-le}
 use Rattle.std.proofs.lemmas.List.{take_more_set, take-set-le, drop-set-lt, drop-set-add}
 use Rattle.network.specs.Lists.{below, numbers_from}
 use Rattle.arcs.specs.declared.Arc.{Arc}
@@ -35,6 +35,12 @@ below_more n = rw add-one (from_more 0 n ∙ ap (λ (k : ℕ). numbers_from 0 n 
 pub record Slotted (a : Arcs) : Type 0 where
   pub counts : length a.count ≡ 64
   pub slots : length a.slot ≡ 1024
+
+-- a router has as many arcs as its count says
+pub length_arcs : (a : Arcs) → Slotted a → (u : ℕ) → u < 64 → get_or a.count u 0 ≤ 16 → length (arcs_at a u) ≡ get_or a.count u 0
+unfolding arcs_at
+length_arcs a s u inside few =
+    length-take-le (get_or a.count u 0) (drop (u * 16) a.slot) (omega (arith, length-drop (u * 16) a.slot, s.slots))
 
 -- a store before a part of a list, or past it, leaves the part
 part_before : {A : Type 0} (n from : ℕ) (xs : List A) (at : ℕ) (x : A) → at < from → take n (drop from (set xs at x)) ≡ take n (drop from xs)

@@ -6,9 +6,10 @@ use Rattle.text.specs.Fields.{asks}
 use Rattle.console.specs.declared.requests.Form.{Form}
 use Rattle.console.specs.declared.requests.Request.{Request}
 use Rattle.console.specs.declared.requests.Request.TheVariants.{Changes, Replies}
+use Rattle.console_held.specs.declared.unchecked.query.Query.{Query}
 use Rattle.console_held.specs.Questions.{most_line, Question}
 use Rattle.console_held.specs.Requests.{Held, Answered, no_request}
-use Rattle.console_held.specs.Inner.{letters, change_to}
+use Rattle.console_held.specs.Inner.{letters, question_in, change_to}
 use Rattle.console_replies.specs.Inner.{reply_to}
 use Rattle.console.specs.Answers as said
 use Rattle.console.specs.Answers.{no_form, leaving}
@@ -37,9 +38,9 @@ form_said None = no_form
 form_said (Some f) = form_in f.now
 
 -- what is asked answers so
-unfoldable pub asked_answer : Option (Request × Question) → Held → Answered
+unfoldable pub asked_answer : Option (Request × Query) → Held → Answered
 asked_answer None h = no_request h
-asked_answer (Some a) h = answer_to a.0 h a.1
+asked_answer (Some a) h = answer_to a.0 h (question_in a.1)
 
 -- A line was answered: what it leaves is held, and the line that answers stands at the start of a lent buffer.
 pub record Told (a : Answered) (h : Held) (n : ℕ) (buffer : List ℕ) : Type 0 where

@@ -37,6 +37,11 @@ line_ends s = record { held = held_after s.held s.line; line = some [] }
 unfoldable pub line_grows : ℕ → ℕ → State → State
 line_grows most c s = record { held = s.held; line = longer most c s.line }
 
+-- the line has a part more, byte by byte
+unfoldable pub part_grows : ℕ → List ℕ → State → State
+part_grows most [] s = s
+part_grows most (c ∷ part) s = part_grows most part (line_grows most c s)
+
 -- a text, byte by byte
 unfoldable pub session_after : ℕ → List ℕ → State → State
 session_after most [] s = s

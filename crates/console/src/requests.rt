@@ -2,7 +2,7 @@
 ghost use Rattle.std.specs.Prelude.{◌≡◌, ◌≤◌, IfSome, length};
 ghost use Rattle.console_held.specs.Questions.{most_line, most_table};
 ghost use Rattle.console_held.specs.Requests.{Held};
-ghost use Rattle.console_held.specs.Inner.{InLimits};
+ghost use Rattle.console_held.specs.Inner.{InLimits, question_in};
 ghost use Rattle.console.specs.Answers.{forms, no_form, form_for, response_to};
 ghost use Rattle.console.specs.Inner.{FirstFound, form_said, asked_answer};
 
@@ -159,7 +159,7 @@ fn form_of(line: &[u8]) -> Option<&'static Form>
 pub(crate) fn asked<'a>(line: &[u8], bytes: &'a mut [u8]) -> Option<(Request, Query<'a>)>
     requires { (length line.now ≤ most_line) × (most_table ≤ length bytes.old) }
     ensures says { (h : Held) → asked_answer result h ≡ response_to h line.now }
-    ensures within { IfSome result (λ a. InLimits a.1) }
+    ensures within { IfSome result (λ a. InLimits (question_in a.1)) }
 {
     let form = form_of(line)?;
     let query = asked::query_in(line, form.kinds, bytes)?;

@@ -1,14 +1,13 @@
 -- What a reply stands for that has no bytes of a buffer.
 -- Assumes nothing.
-use Rattle.std.proofs.Common.{◌≡◌, Result, refl, ap, arith}
-use Rattle.topology_types.specs.declared.Refusal.{Refusal}
-use Rattle.topology_types.specs.Outcome.{Answer, tested}
+use Rattle.std.proofs.Common.{◌≡◌, refl, ap, arith}
+use Rattle.topology_types.specs.declared.Answer.{Answer}
 use Rattle.console_held.specs.declared.unchecked.reply.Reply.{Reply}
 use Rattle.console_held.specs.declared.unchecked.reply.Reply.TheVariants.{Says}
 use Rattle.console_held.specs.Requests.{answer_of}
 use Rattle.console_held.specs.Inner.{Replies, reply_text, room_of}
 
-pub answer_reply : {r : Result Unit Refusal} {o : Answer} → tested r ≡ o → Replies (answer_of o) (Says r)
+pub answer_reply : {a o : Answer} → a ≡ o → Replies (answer_of o) (Says a)
 unfolding reply_text room_of
 answer_reply e = record { says = ap answer_of e; room = omega arith }
 

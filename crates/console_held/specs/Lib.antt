@@ -1,3 +1,4 @@
 pub mod Questions
+pub mod Kinds
 pub mod Requests
 pub mod Inner

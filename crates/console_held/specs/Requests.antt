@@ -2,11 +2,11 @@
 -- Assumes nothing.
 use Rattle.std.specs.Prelude.{ℕ, List, [], ◌∷◌}
 use Rattle.network.specs.Forwarding.{Packet, Hop, delivered, moved, dropped}
-use Rattle.stream_rules.specs.Reading.{Reading}
+use Rattle.stream_rules.specs.declared.Reading.{Reading}
 use Rattle.topology_types.specs.declared.Topology.{Topology}
 use Rattle.stream_rules.specs.Reading.{reading}
 use Rattle.ospf.specs.Import.{importing}
-use Rattle.topology_types.specs.Outcome.{Answer}
+use Rattle.topology_types.specs.declared.Answer.{Answer}
 use Rattle.forwarding_rules.specs.Calls as said
 use Rattle.forwarding_rules.specs.Calls.{Said}
 use Rattle.forwarding_rules.specs.Lent.{Left, setting_packet, hopping_packet}

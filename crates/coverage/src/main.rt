@@ -4,7 +4,7 @@
 // at.
 #![tactic(auto)]
 
-ghost use Rattle.std.specs.Prelude.{◌≤◌, length};
+ghost use Rattle.std.specs.Prelude.{◌≡◌, ◌≤◌, length};
 ghost use Rattle.text.specs.Inner.{Put};
 ghost use Rattle.text.specs.Page.{Puts, Room};
 ghost use Rattle.coverage.specs.Output.{coverage_output};
@@ -14,13 +14,19 @@ use text::unchecked::lines::Page;
 // Room for every output: 42 bytes for each of 65 lines.
 const OUTPUT: usize = 2730;
 
+fn room() -> [u8; OUTPUT]
+    ensures { 2730 ≡ length result }
+{
+    text::filled(0)
+}
+
 // The whole output for a stream.
 fn put_onto(page: &mut Page<'_>, stream: &[u8])
     requires { Room page.old 2730 }
     ensures { Puts page.old (coverage_output stream.now) page.new }
 {
     match topology::read(stream) {
-        Err(refusal) => program_io::unchecked::put_refused(page, refusal),
+        Err(refusal) => program_io::unchecked::put_refused(page, refusal.answer()),
         Ok(t) => {
             let figures = coverage_counts::unchecked::coverage(&t, &arcs::unchecked::of(t));
             coverage_counts::unchecked::put_coverage(&figures, page, b'\n');
@@ -40,6 +46,6 @@ fn put_output(stream: &[u8], out: &mut [u8]) -> usize
 
 // What is read and written no contract says; it goes as in the listing.
 fn main() {
-    let mut out: [u8; OUTPUT] = text::filled(0);
+    let mut out = room();
     program_io::unchecked::print_by(put_output, &mut out);
 }

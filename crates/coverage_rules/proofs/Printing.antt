@@ -7,7 +7,7 @@ use Rattle.text.specs.Lines.{answer_text}
 use Rattle.text.proofs.Texts.{answer_length}
 use Rattle.listing_rules.specs.Listing.{spaced}
 use Rattle.listing_rules.proofs.InTurn.{joined_most}
-use Rattle.coverage_rules.specs.Coverage.{Coverage}
+use Rattle.coverage_rules.specs.declared.CoverageAnswer.{CoverageAnswer}
 use Rattle.coverage_rules.specs.Printed.{Fraction, over_links, fractions, fraction_text, fractions_text}
 use Rattle.coverage_rules.specs.Inner.{most_fraction, most_text}
 
@@ -15,7 +15,7 @@ pub fraction_length : (end : ℕ) (f : Fraction) → length (fraction_text end f
 unfolding fraction_text spaced answer_text
 fraction_length end f = simp length-append (omega (arith, simp length-append at (answer_length f.part f.whole)))
 
-pub text_length : (end : ℕ) (c : Coverage) → c.destinations ≤ 64 → length (fractions_text end c) ≤ most_text
+pub text_length : (end : ℕ) (c : CoverageAnswer) → c.destinations ≤ 64 → length (fractions_text end c) ≤ most_text
 unfolding fractions_text fractions over_links
 text_length end c few =
     let many = length-map {B = Fraction} (take c.destinations c.listed) (λ (n : ℕ). record { part = n; whole = c.links }) in

@@ -10,11 +10,12 @@ use Rattle.network.specs.Row.{row}
 use Rattle.topology_types.specs.declared.Refusal.{Refusal}
 use Rattle.topology_types.specs.declared.Topology.{Topology}
 use Rattle.topology_types.specs.Limits.{most_routers}
-use Rattle.topology_types.specs.Outcome.{Answer, answer, refused}
+use Rattle.topology_types.specs.Outcome.{answer, refused}
 use Rattle.topology_types.specs.Topology.{padded, network_of}
 use Rattle.topology_sound.specs.Sound.{sound}
 use Rattle.topology.specs.Written.{joined_over}
 use Rattle.coverage_rules.specs.declared.Coverage as code
+use Rattle.coverage_rules.specs.declared.CoverageAnswer.{CoverageAnswer}
 
 -- 02, #102, the listing's tables: the row of router u for destination d, under the order that is built in shortest-path mode and with the topology's K
 unfoldable pub row_for : Topology → ℕ → ℕ → List Arc
@@ -46,16 +47,11 @@ listed_for t d = length (joined_over (row_for t d) (below t.routers))
 
 -- The answer of the call, and the figures: how many pairs are covered, and how many there are; how many destinations, and by place how many next hops the
 -- rows of each list; and the number of links.
-pub record Coverage : Type 0 where
-  pub answer : Answer
-  pub covered : ℕ
-  pub pairs : ℕ
-  pub destinations : ℕ
-  pub links : ℕ
-  pub listed : List ℕ
+abbrev pub Coverage : Type 0
+Coverage = CoverageAnswer
 
 -- 02, #102: the figures of a sound topology; a link counts once, where 001 doubles it
-unfoldable pub figures_counted : Topology → Coverage
+unfoldable pub figures_counted : Topology → CoverageAnswer
 figures_counted t =
     record {
       answer = answer 0 0;
@@ -67,21 +63,21 @@ figures_counted t =
     }
 
 -- the figures that the code hands over, a success
-abbrev pub figures_of : code.Coverage → Coverage
+abbrev pub figures_of : code.Coverage → CoverageAnswer
 figures_of c =
     record { answer = answer 0 0; covered = c.covered; pairs = c.pairs; destinations = c.destinations; links = c.links; listed = c.listed }
 
 -- what a call's result stands for; all numbers of a refusal are zero
-abbrev pub coverage_of : Result code.Coverage Refusal → Coverage
+abbrev pub coverage_of : Result code.Coverage Refusal → CoverageAnswer
 coverage_of (Ok c) = figures_of c
 coverage_of (Err r) =
     record { answer = refused r; covered = 0; pairs = 0; destinations = 0; links = 0; listed = padded 0 most_routers [] }
 
 -- 01, Refusals, 14: all numbers are zero
-unfoldable pub nothing_counted : Coverage
+unfoldable pub nothing_counted : CoverageAnswer
 nothing_counted =
     record { answer = answer 14 0; covered = 0; pairs = 0; destinations = 0; links = 0; listed = padded 0 most_routers [] }
 
 -- 02, #102, refused: 14 only
-unfoldable pub coverage : Topology → Coverage
+unfoldable pub coverage : Topology → CoverageAnswer
 coverage t = cond (sound t) (figures_counted t) nothing_counted

@@ -5,7 +5,7 @@ use Rattle.topology.specs.Written.{joined_over}
 use Rattle.text.specs.Lines.{newline}
 use Rattle.text.specs.Numbers.{number_text}
 use Rattle.listing_rules.specs.Listing.{spaced}
-use Rattle.coverage_rules.specs.Coverage.{Coverage}
+use Rattle.coverage_rules.specs.declared.CoverageAnswer.{CoverageAnswer}
 
 -- one number over another
 pub record Fraction : Type 0 where
@@ -17,11 +17,11 @@ unfoldable pub over_links : ℕ → List ℕ → List Fraction
 over_links links listed = map (λ n. record { part = n; whole = links }) listed
 
 -- the pairs with two or more next hops over all pairs; then for each destination its listed next hops over the links
-unfoldable pub fractions : Coverage → List Fraction
+unfoldable pub fractions : CoverageAnswer → List Fraction
 fractions c = record { part = c.covered; whole = c.pairs } ∷ over_links c.links (take c.destinations c.listed)
 
 -- all numbers, in the order in which they are printed
-unfoldable pub numbers : Coverage → List ℕ
+unfoldable pub numbers : CoverageAnswer → List ℕ
 numbers c = joined_over (λ f. f.part ∷ f.whole ∷ []) (fractions c)
 
 -- two numbers, one space between, and the byte that ends them
@@ -29,9 +29,9 @@ unfoldable pub fraction_text : ℕ → Fraction → List ℕ
 fraction_text end f = spaced (number_text f.part ∷ number_text f.whole ∷ []) ++ (end ∷ [])
 
 -- all of them, each ended so
-unfoldable pub fractions_text : ℕ → Coverage → List ℕ
+unfoldable pub fractions_text : ℕ → CoverageAnswer → List ℕ
 fractions_text end c = joined_over (fraction_text end) (fractions c)
 
 -- the lines: two numbers a line
-unfoldable pub coverage_text : Coverage → List ℕ
+unfoldable pub coverage_text : CoverageAnswer → List ℕ
 coverage_text c = fractions_text newline c

@@ -8,3 +8,5 @@ pub mod Ways
 pub mod Run
 pub mod Turn
 pub mod Ended
+pub mod Alike
+pub mod Laid

@@ -52,6 +52,10 @@ module _ (ds marks : List ℕ) where
     pub key_fits : (v : ℕ) → v < n → key ds marks v < 2147483648
     key_fits v h = ⊎_elim (λ e. omega (arith, near v h, most)) (λ e. omega (arith, near v h)) (searched.marked v h)
 
+    -- the least of some fits 31 bits
+    pub least_fits : {v best : ℕ} → 0 < v → v ≤ n → Least ds marks v best → best < 2147483648
+    least_fits some h least = omega (arith, least.low 0 some, key_fits 0 (omega arith))
+
     pub found : (best : ℕ) → Least ds marks n best → Nearest ds marks n (best % 64)
     found best least =
         let (v, h, free) = searched.some_open in

@@ -3,10 +3,10 @@
 -- Assumes nothing.
 use Prim.Native.Nat.{ℕ, ◌≤◌, ◌<◌}
 use mathlib.Core.List.{List, Memᴰ, map}
-use mathlib.Core.Path.{◌≡◌}
+use mathlib.Core.Path.{◌≡◌, sym, ap, ◌∙◌}
 use native.Mathlib.Omega.{arith}
 use lib.Dec.{T}
-use lib.ListN.{length, get_or}
+use lib.ListN.{length, get_or, length-map}
 use Rattle.network.specs.Network as network
 use Rattle.network.specs.Network.{Network, size, arcs_of, greatest_cost, SoundArc, WellFormed}
 use Rattle.topology_types.specs.declared.Topology.{Topology}
@@ -18,6 +18,7 @@ use Rattle.arcs.specs.declared.Arcs.{Arcs}
 use Rattle.arcs.specs.Inner.{arcs_at, ArcsHeld}
 use Rattle.arcs.specs.Back.{network_back}
 use Rattle.arcs.proofs.Back.{back_exact, few_back}
+use Rattle.arcs.proofs.Slots.{Slotted, length_arcs}
 use Rattle.distances.specs.Inner.{Passable}
 
 -- the network has `count` routers and is within the limits
@@ -63,3 +64,10 @@ module _ {n : Network} {count : ℕ} (within : Within n count) (u : ℕ) (u_in :
 
     pub arcs_are : (arcs : List Arc) → arcs ≡ arcs_at a u → map seen arcs ≡ arcs_of n u
     arcs_are arcs e = let sized = within.sized in rw e (held.arcs u (omega arith))
+
+    -- the network's are as many as the count says
+    pub count_is : Slotted a → length (arcs_of n u) ≡ get_or a.count u 0
+    count_is s =
+        let sized = within.sized in
+        let (inside, few) = at_fits in
+        ap length (sym (held.arcs u (omega arith))) ∙ length-map (arcs_at a u) seen ∙ length_arcs a s u inside few

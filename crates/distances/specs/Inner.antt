@@ -1,10 +1,16 @@
 -- What the functions ask of arcs, distances and marks, and what they promise.
 -- Assumes nothing.
-use Rattle.std.specs.Prelude.{ℕ, ◌+◌, ◌*◌, ◌≤◌, ◌<◌, List, ◌≡◌, length, get_or, take, ◌⊎◌}
+use Rattle.std.specs.Prelude.{ℕ, ◌+◌, ◌*◌, ◌≤◌, ◌<◌, List, map, ◌≡◌, length, get_or, take, T, ◌⊎◌}
 use mathlib.Core.List.{Memᴰ}
 use Rattle.topology_types.specs.Limits.{most_routers, most_neighbours}
 use Rattle.network.specs.Network.{Arc, Network, size}
 use Rattle.network.specs.Distance.{distances}
+use Rattle.topology_types.specs.declared.Topology.{Topology}
+use Rattle.topology_sound.specs.Sound.{sound}
+use Rattle.arcs.specs.declared.Arc as own
+use Rattle.arcs.specs.declared.Arcs.{Arcs}
+use Rattle.arcs.specs.Inner.{ArcsHeld, returning}
+use Rattle.arcs.specs.Back.{network_back}
 
 -- the most that an absent distance can be: for each router one more than the greatest cost
 abbrev pub farthest : ℕ
@@ -16,6 +22,23 @@ pub record Passable (arcs : List Arc) (ds : List ℕ) : Type 0 where
   pub leads : (b : Arc) → Memᴰ b arcs → b.to < most_routers
   pub cheap : (b : Arc) → Memᴰ b arcs → b.cost ≤ 65535
   pub near : (v : ℕ) → v < most_routers → get_or ds v 0 ≤ farthest
+
+-- an arc but for its link's number, which neither distances nor orders go by
+abbrev pub unnumbered : own.Arc → own.Arc
+unnumbered arc = record { to = arc.to; link = 0; cost = arc.cost; back = arc.back }
+
+-- arcs that differ in the numbers of their links at most
+pub record Alike (a b : Arcs) : Type 0 where
+  pub counts : a.count ≡ b.count
+  pub slots : map unnumbered a.slot ≡ map unnumbered b.slot
+
+-- a sound topology of n routers whose arcs these are, whatever the numbers of their links, each with what going the other way costs
+pub record LaidIn (t : Topology) (a : Arcs) (n : ℕ) : Type 0 where
+  pub is-sound : T (sound t)
+  pub numbered : Arcs
+  pub alike : Alike numbered a
+  pub holds : ArcsHeld returning (network_back t) numbered
+  pub routers : t.routers ≡ n
 
 -- the distances to d in the first slots, and in no slot more than absent can be
 pub record Settled (n : Network) (d : ℕ) (ds : List ℕ) : Type 0 where

@@ -1,28 +1,25 @@
 // For callers that have tested the topology and the destination, and laid out the arcs.
-ghost use Rattle.std.specs.Prelude.{◌≡◌, ◌<◌, ◌≤◌, T, ltb, length};
+ghost use Rattle.std.specs.Prelude.{◌≡◌, ◌<◌, ◌≤◌, ltb, length};
 ghost use Rattle.network.specs.Lists.{keep};
 ghost use Rattle.topology_types.specs.Limits.{most_routers};
+ghost use Rattle.topology_types.specs.declared.Topology.{Topology};
 ghost use Rattle.topology_types.specs.Topology.{network_of};
-ghost use Rattle.topology_sound.specs.Sound.{sound};
-ghost use Rattle.arcs.specs.Back.{network_back};
-ghost use Rattle.arcs.specs.Inner.{ArcsHeld, returning};
-ghost use Rattle.distances.specs.Inner.{Settled};
+ghost use Rattle.distances.specs.Inner.{LaidIn, Settled};
 
 use super::settling;
 use arcs::Arcs;
-use topology_types::{Place, ROUTERS, Topology};
+use topology_types::{Place, ROUTERS};
 
 // One more than the greatest cost: n times this is more than any path costs that visits no router of n twice, and stands for an absent distance.
 // It is a number and no Option, as in the definitions: then the least of sums needs no test for it.
 pub const STEP: u32 = 65536;
 
 // The distances to the destination, by place; absent where there is no path (02, #107). Routers are settled from the destination on, against the direction of
-// travel, so what is read is what the way back over each arc costs.
-pub fn to(t: &Topology, a: &Arcs, destination: Place) -> [u32; ROUTERS]
-    requires { T (sound t.now) × ArcsHeld returning (network_back t.now) a.now × (destination.0 < t.now.routers) }
-    ensures { Settled (network_of t.now) destination.0 result }
+// travel, so what is read is what the way back over each arc costs. They are those of every topology of n routers that has these arcs.
+pub fn to(a: &Arcs, n: usize, destination: Place) -> [u32; ROUTERS]
+    requires { ((t : Topology) × LaidIn t a.now n) × (destination.0 < n) }
+    ensures { (t : Topology) → LaidIn t a.now n → Settled (network_of t) destination.0 result }
 {
-    let n = t.routers;
     let mut ds = settling::first(n, destination.index());
     let mut marks = settling::places();
     for _ in 0..n {

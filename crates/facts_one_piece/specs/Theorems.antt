@@ -10,7 +10,7 @@ use Rattle.network.specs.Order.{shortest-path, free}
 use Rattle.network.specs.Row.{rank}
 use Rattle.network.specs.Forwarding.{Packet}
 use Rattle.network.specs.Theorems.Order.{Accepted, ByRule}
-use Rattle.topology_types.specs.Outcome.{Answer}
+use Rattle.topology_types.specs.declared.Answer.{Answer}
 use Rattle.topology_types.specs.declared.Topology.{Topology}
 use Rattle.topology_types.specs.Outcome.{answer, given}
 use Rattle.topology_types.specs.Topology.{network_of}

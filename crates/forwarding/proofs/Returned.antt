@@ -1,7 +1,7 @@
 -- What the calls return at each of their tests: a table that was judged is checked, once 14 passed, and a test over all bytes points at the first that
 -- was found.
 -- Assumes nothing.
-use Rattle.std.proofs.Common.{◌≡◌, ℕ, List, [], ◌∷◌, Some, None, T, refl, sym, ◌∙◌, arith}
+use Rattle.std.proofs.Common.{◌≡◌, ℕ, List, [], ◌∷◌, Some, None, T, refl, sym, ap, ◌∙◌, arith}
 use borrow.Author.Tests.{ne_eqb}
 use Rattle.network.proofs.Tests.{as_true}
 use Rattle.topology_types.specs.Outcome as outcome
@@ -12,11 +12,19 @@ use Rattle.topology_types.proofs.Outcome.{numbered}
 use Rattle.topology_sound.specs.Sound.{sound}
 use Rattle.order.specs.Calls.{first_of}
 use Rattle.table.specs.Calls.{table_judging, table_checking}
+use Rattle.table.proofs.Verdicts.{tables_each}
 use Rattle.forwarding_rules.specs.Calls.{Said, refused, tested, tested_by, tested_over}
 
 pub judged_checked : (t : Topology) (table : List ℕ) → T (sound t) → table_judging t table ≡ table_checking t table
 unfolding table_checking
 judged_checked t table good = rw (as_true (sound t) good)
+
+-- number 0 is the answer that accepts
+pub passed_table : (t : Topology) (table : List ℕ) → (table_checking t table).number ≡ 0 → table_checking t table ≡ answer 0 0
+passed_table t table e =
+    let at = (table_checking t table).at in
+    let this : table_checking t table ≡ answer 0 at = ap (λ (k : ℕ). answer k at) e in
+    this ∙ ap (answer 0) ((tables_each t table at).says_0.0 this).0
 
 module _ (t : Topology) (table : List ℕ) (good : T (sound t)) where
   -- a table that is judged and refused

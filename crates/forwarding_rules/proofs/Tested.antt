@@ -12,7 +12,7 @@ use borrow.Author.Tests.{ltb-false}
 use lib.Dec.{T, eqb, ltb, ltb→lt, lt→ltb}
 use lib.ListN.{length}
 use Rattle.network.proofs.Tests.{truth, as_true, as_false, passes, fails}
-use Rattle.topology_types.specs.Outcome.{Answer}
+use Rattle.topology_types.specs.declared.Answer.{Answer}
 use Rattle.topology_types.specs.declared.Topology.{Topology}
 use Rattle.topology_types.specs.Topology.{network_of}
 use Rattle.topology_types.specs.Outcome.{answer}

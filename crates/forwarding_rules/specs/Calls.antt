@@ -6,7 +6,8 @@ use Rattle.network.specs.Forwarding as network
 use Rattle.network.specs.Forwarding.{Forwarding, start, hop, walk, longest}
 use Rattle.topology_types.specs.declared.Refusal.{Refusal}
 use Rattle.topology_types.specs.declared.Topology.{Topology}
-use Rattle.topology_types.specs.Outcome.{Answer, answer, number_of, Outcome, given}
+use Rattle.topology_types.specs.declared.Answer.{Answer}
+use Rattle.topology_types.specs.Outcome.{answer, number_of, Outcome, given}
 use Rattle.topology_types.specs.Topology.{network_of}
 use Rattle.topology_sound.specs.Place.{on_place}
 use Rattle.table.specs.Listed.{rank_in_lem, listed, forwarding_by}

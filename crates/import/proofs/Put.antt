@@ -9,11 +9,13 @@ use borrow.Author.Tests.{eq-eqb, ne_eqb, le-leb, lt-leb, le-ltb}
 use lib.Dec.{T}
 use lib.ListN.{length, take, drop, length-append}
 use lib.Seq.{take-append_seam, length-sets}
-use Rattle.topology_types.specs.Outcome.{Answer, Outcome, answer, answer_of, refused, number_of, given}
+use Rattle.topology_types.specs.declared.Answer.{Answer}
+use Rattle.topology_types.specs.Outcome.{Outcome, answer, answer_of, refused, number_of, given}
 use Rattle.topology_types.specs.declared.Refusal.{Refusal}
 use Rattle.topology_types.specs.declared.Topology.{Topology}
 use Rattle.topology_types.proofs.Outcome.{numbered}
-use Rattle.stream_rules.specs.Reading.{Reading, reading_of, refusal}
+use Rattle.stream_rules.specs.declared.Reading.{Reading}
+use Rattle.stream_rules.specs.Reading.{reading_of, refusal}
 use Rattle.stream_rules.specs.Theorems.{Bytes}
 use Rattle.ospf.proofs.Verdict.{import_sound}
 use Rattle.topology_sound.specs.Sound.{sound}

@@ -9,7 +9,7 @@ use lib.Dec.{leb, leb→le}
 use lib.ListN.{length, take}
 use lib.Seq.{take_all, length-take-le}
 use Rattle.network.proofs.Tests.{truth, as_false}
-use Rattle.stream_rules.specs.Reading.{Reading}
+use Rattle.stream_rules.specs.declared.Reading.{Reading}
 use Rattle.stream_rules.specs.Theorems.{success}
 use Rattle.topology.proofs.RoundTrip.{written_read, written_long}
 use Rattle.text.specs.Lines.{refused_word, answer_text, answer_line, word_line}

@@ -1,7 +1,7 @@
 -- What the import program writes for a file of router-LSAs (02, #106).
 -- Assumes nothing.
 use Rattle.std.specs.Prelude.{ℕ, ◌≤◌, cond, Result, Ok, Err, List, [], ◌∷◌, ◌≡◌, eqb, leb, length, take}
-use Rattle.stream_rules.specs.Reading.{Reading}
+use Rattle.stream_rules.specs.declared.Reading.{Reading}
 use Rattle.topology.specs.Written.{written}
 use Rattle.text.specs.Lines.{newline}
 use Rattle.program_io.specs.Output.{refused_line}

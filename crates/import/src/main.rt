@@ -22,6 +22,13 @@ const STREAM: usize = 2883;
 
 const LINE: usize = 50;
 
+// Room for what is read.
+fn room_for_file() -> [u8; INPUT]
+    ensures { 262145 ≡ length result }
+{
+    text::filled(0)
+}
+
 // The stream of the topology that is imported, at the start of the slice; answers how many bytes it has.
 fn put_stream(file: &[u8], stream: &mut [u8]) -> Result<usize, Refusal>
     requires { length stream.old ≡ 2883 }
@@ -43,7 +50,7 @@ fn put_output(file: &[u8], stream: &mut [u8], line: &mut [u8]) -> Result<usize, 
     match put_stream(file, stream) {
         Ok(end) => Ok(end),
         Err(refusal) => {
-            program_io::unchecked::put_refused(&mut page, refusal);
+            program_io::unchecked::put_refused(&mut page, refusal.answer());
             Err(page.filled)
         }
     }
@@ -52,7 +59,7 @@ fn put_output(file: &[u8], stream: &mut [u8], line: &mut [u8]) -> Result<usize, 
 // What is read and written no contract says. That the bytes are the first 262,145 of standard input, and that each text goes to its own output once, is
 // read here and in `program_io`, and tried by examples/edges.
 fn main() {
-    let mut input: [u8; INPUT] = text::filled(0);
+    let mut input = room_for_file();
     let n = program_io::read_input(&mut input);
     let mut stream: [u8; STREAM] = text::filled(0);
     let mut line: [u8; LINE] = text::filled(0);

@@ -4,7 +4,7 @@
 // input is not read.
 #![tactic(auto)]
 
-ghost use Rattle.std.specs.Prelude.{◌≤◌, length};
+ghost use Rattle.std.specs.Prelude.{◌≡◌, ◌≤◌, length};
 ghost use Rattle.text.specs.Inner.{Put};
 ghost use Rattle.text.specs.Page.{Puts, Room};
 ghost use Rattle.listing.specs.Output.{listing_output};
@@ -14,13 +14,19 @@ use text::unchecked::lines::Page;
 // Room for every output: 3,968 bytes for each of 64 destinations.
 const OUTPUT: usize = 253952;
 
+fn room() -> [u8; OUTPUT]
+    ensures { 253952 ≡ length result }
+{
+    text::filled(0)
+}
+
 // The whole output for a stream.
 fn put_onto(page: &mut Page<'_>, stream: &[u8])
     requires { Room page.old 253952 }
     ensures { Puts page.old (listing_output stream.now) page.new }
 {
     match topology::read(stream) {
-        Err(refusal) => program_io::unchecked::put_refused(page, refusal),
+        Err(refusal) => program_io::unchecked::put_refused(page, refusal.answer()),
         Ok(t) => report::unchecked::put_all(&t, &arcs::unchecked::of(t), page),
     }
 }
@@ -38,6 +44,6 @@ fn put_output(stream: &[u8], out: &mut [u8]) -> usize
 // What is read and written no contract says. That the bytes are the first 65,536 of standard input, and that their output goes to standard output once, is
 // read in `program_io`, and tried by examples/edges.
 fn main() {
-    let mut out: [u8; OUTPUT] = text::filled(0);
+    let mut out = room();
     program_io::unchecked::print_by(put_output, &mut out);
 }

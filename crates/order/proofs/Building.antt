@@ -37,7 +37,7 @@ use Rattle.order.proofs.Turn.{facts, within, candidate_waits, none_left, some_le
 
 -- the IDs by place are those of the slice
 module _ {t : Topology} {a : Arcs} {d : ℕ} {m : own.Mode} {ds : List ℕ} (g : LaidOut t a d m ds) where
-  ids_long : t.routers ≤ length t.id
+  pub ids_long : t.routers ≤ length t.id
   ids_long = omega (arith, ((sound_exact t).0 g.is-sound).id_slots, (within g).most)
 
   pub ids_few : length (take t.routers t.id) ≤ 64

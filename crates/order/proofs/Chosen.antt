@@ -76,6 +76,11 @@ module _ {n : Network} (formed : WellFormed n) {d : ℕ} (d_in : d < size n) {m 
       placed_or u placed (λ l. absurd (omega (arith, k.low u h l, near_few u h)))
       (λ out. (out, omega (arith, k.unplaced u h out, near_few u h, small u h)))
 
+  -- no standing is as high as 2^15
+  pub keys_low : (u : ℕ) → u < size n → get_or keys u 0 < 32768
+  keys_low u h =
+      placed_or u placed (λ l. omega (arith, k.low u h l, near_few u h)) (λ out. omega (arith, k.unplaced u h out, near_few u h, small u h))
+
   -- a candidate stands as many above it as it has placed neighbours, and lower IDs
   height : (u : ℕ) → u < size n → (Memᴰ u placed → ⊥) → waits_for m (waiting n ds placed u) ≡ 0 →
       get_or keys u 0 ≡ 17408 + placed_neighbours n placed u * 64 + get_or lower u 0

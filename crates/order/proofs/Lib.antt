@@ -16,3 +16,4 @@ pub mod Verdicts
 pub mod Facts
 pub mod Ranking
 pub mod Judged
+pub mod Lending

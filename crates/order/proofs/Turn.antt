@@ -36,7 +36,7 @@ use Rattle.order_standings.proofs.Setting.{Setting, GoneBy, settled_agrees, topo
 use Rattle.order_standings.proofs.Stepping.{waits_most}
 use Rattle.order_standings.proofs.Kept.{Kept, kept_start, kept_room, kept_step}
 use Rattle.order_standings.proofs.Ties.{lower_less}
-use Rattle.order.proofs.Chosen.{to_ready, candidate_stands, none_selected, some_selected, highest_selected}
+use Rattle.order.proofs.Chosen.{to_ready, candidate_stands, keys_low, none_selected, some_selected, highest_selected}
 
 -- distances that are settled serve in either mode, and in free mode zeros do
 pub settled_serve : {n : Network} {d : ℕ} {ds : List ℕ} (m : Mode) → Settled n d ds → DistancesFor n d m ds
@@ -140,6 +140,9 @@ module _ {t : Topology} {a : Arcs} {d : ℕ} {m : Mode} {ds : List ℕ} (g : Lai
     pub candidate_waits : (u : ℕ) → T (candidate (network_of t) (distances (network_of t) d) (mode_of m) placed u) →
         waits_for m (waiting (network_of t) (distances (network_of t) d) placed u) ≡ 0
     candidate_waits u c = (to_ready facts.well_formed (inside g.place) setting.here.few small_in kept u c).waits
+
+    pub standings_low : (u : ℕ) → u < t.routers → get_or keys u 0 < 32768
+    standings_low u h = keys_low facts.well_formed (inside g.place) setting.here.few small_in kept u (inside h)
 
     -- d is placed, and only routers that have a path are
     module _ (first : Memᴰ d placed) (paths : (u : ℕ) → Memᴰ u placed → PathTo (network_of t) d u) where

@@ -10,7 +10,7 @@ use lib.Dec.{ltb}
 use lib.ListN.{length, get_or, take}
 use lib.Seq.{length-take-le, get_or-take, take-take}
 use Rattle.network.proofs.Tests.{as_false}
-use Rattle.topology_types.specs.Outcome.{Answer}
+use Rattle.topology_types.specs.declared.Answer.{Answer}
 use Rattle.topology_types.specs.declared.Topology.{Topology}
 use Rattle.topology_types.specs.Topology.{network_of}
 use Rattle.topology_types.specs.Outcome.{answer}

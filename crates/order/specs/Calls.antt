@@ -6,7 +6,7 @@ use Rattle.network.specs.Network.{Network, size}
 use Rattle.network.specs.Distance.{distances}
 use Rattle.network.specs.Order.{reached, candidate, build}
 use Rattle.network.specs.Order as network
-use Rattle.topology_types.specs.Outcome.{Answer}
+use Rattle.topology_types.specs.declared.Answer.{Answer}
 use Rattle.topology_types.specs.declared.Topology.{Topology}
 use Rattle.topology_types.specs.Topology.{padded, network_of}
 use Rattle.topology_sound.specs.Place.{on_place}

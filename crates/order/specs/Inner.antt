@@ -12,7 +12,7 @@ use Rattle.topology_types.specs.declared.Topology.{Topology}
 use Rattle.topology_sound.specs.Sound.{sound}
 use Rattle.arcs.specs.declared.Arcs.{Arcs}
 use Rattle.arcs.specs.Inner.{Laid}
-use Rattle.distances.specs.Inner.{farthest, Settled}
+use Rattle.distances.specs.Inner.{farthest, Settled, Alike}
 use Rattle.order_standings.specs.declared.Mode.{Mode}
 use Rattle.order_standings.specs.declared.Mode.TheVariants as mode
 use Rattle.order.specs.declared.unchecked.Ranks.{Ranks}
@@ -31,6 +31,13 @@ pub record LaidOut (t : Topology) (a : Arcs) (d : ℕ) (m : Mode) (ds : List ℕ
   pub holds : Laid t a
   pub place : d < t.routers
   pub for_mode : DistancesFor (network_of t) d m ds
+
+-- the same where all that is read of the topology and its arcs is lent: the arcs, whatever the numbers of their links, and the IDs of its routers
+pub record Lent (t : Topology) (a : Arcs) (ids : List ℕ) (d : ℕ) (m : Mode) (ds : List ℕ) : Type 0 where
+  pub numbered : Arcs
+  pub alike : Alike numbered a
+  pub laid : LaidOut t numbered d m ds
+  pub ids_are : take t.routers t.id ≡ ids
 
 -- a sound topology with its arcs laid out, a place of it as destination, and the distances to it
 pub record Measured (t : Topology) (a : Arcs) (d : ℕ) (ds : List ℕ) : Type 0 where

@@ -21,8 +21,8 @@ pub fn build(t: Topology, destination: Place, mode: Mode, out: &mut [u8]) -> Res
         return Err(Fault::BufferTooShort.at(n));
     }
     let a = arcs::unchecked::of(t);
-    let ds = unchecked::distances_for(&t, &a, destination, mode);
-    unchecked::build(&t, &a, &ds, destination, mode, out);
+    let ds = unchecked::distances_for(&a, n, destination, mode);
+    unchecked::build(&a, &ds, &t.id[..n], destination, mode, out);
     Ok(n)
 }
 
@@ -32,6 +32,6 @@ pub fn check(t: Topology, destination: Place, mode: Mode, order: &[u8]) -> Resul
 {
     topology_sound::test_place(t, destination)?;
     let a = arcs::unchecked::of(t);
-    let ds = distances::unchecked::to(&t, &a, destination);
+    let ds = distances::unchecked::to(&a, t.routers, destination);
     unchecked::judge(&t, &a, &ds, destination, mode, order)
 }

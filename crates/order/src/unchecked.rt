@@ -1,16 +1,15 @@
 // For callers that have tested the topology and the destination, and for ranks the order. Arcs and distances are lent, so that a program that goes
 // through all destinations lays out the arcs once, and computes the distances to each once.
-ghost use Rattle.std.specs.Prelude.{◌++◌, ◌≡◌, ◌*◌, ◌<◌, ◌≤◌, T, ltb, length, get_or, drop, replicate};
+ghost use Rattle.std.specs.Prelude.{◌++◌, ◌≡◌, ◌*◌, ◌<◌, ◌≤◌, ltb, length, get_or, drop, replicate};
 ghost use Rattle.network.specs.Lists.{below, keep};
 ghost use Rattle.network.specs.Order as «said-order»;
 ghost use Rattle.topology_types.specs.Limits.{most_routers};
 ghost use Rattle.topology_types.specs.Outcome.{tested};
+ghost use Rattle.topology_types.specs.declared.Topology.{Topology};
 ghost use Rattle.topology_types.specs.Topology.{network_of};
-ghost use Rattle.topology_sound.specs.Sound.{sound};
-ghost use Rattle.arcs.specs.Back.{network_back};
-ghost use Rattle.arcs.specs.Inner.{ArcsHeld, returning};
+ghost use Rattle.distances.specs.Inner.{LaidIn};
 ghost use Rattle.order.specs.Calls.{mode_of, order_bytes, judging};
-ghost use Rattle.order.specs.Inner.{DistancesFor, LaidOut, Measured, Ranked, RanksOf};
+ghost use Rattle.order.specs.Inner.{DistancesFor, Lent, Measured, Ranked, RanksOf};
 
 use super::{Mode, proposal};
 use arcs::Arcs;
@@ -18,12 +17,12 @@ use topology_types::{Fault, Place, ROUTERS, Rank, Refusal, Topology};
 
 // What the mode needs of distances to build an order: in shortest-path mode the distances, in free mode none, so zeros. Judging one needs the distances in
 // both modes, for how many ranks are reached.
-pub fn distances_for(t: &Topology, a: &Arcs, destination: Place, mode: Mode) -> [u32; ROUTERS]
-    requires { T (sound t.now) × ArcsHeld returning (network_back t.now) a.now × (destination.0 < t.now.routers) }
-    ensures { DistancesFor (network_of t.now) destination.0 mode result }
+pub fn distances_for(a: &Arcs, n: usize, destination: Place, mode: Mode) -> [u32; ROUTERS]
+    requires { ((t : Topology) × LaidIn t a.now n) × (destination.0 < n) }
+    ensures { (t : Topology) → LaidIn t a.now n → DistancesFor (network_of t) destination.0 mode result }
 {
     match mode {
-        Mode::ShortestPath => distances::unchecked::to(t, a, destination),
+        Mode::ShortestPath => distances::unchecked::to(a, n, destination),
         Mode::Free => [0; ROUTERS],
     }
 }
@@ -35,21 +34,22 @@ fn clear(out: &mut [u8])
     out.fill(255);
 }
 
-// The order for the destination, into the first bytes of the slice: the routers that have a path to it, then 255.
+// The order for the destination, into the first bytes of the slice: the routers that have a path to it, then 255. It is that of every topology that has
+// these arcs and, for as many routers, these IDs.
 pub fn build(
-    t: &Topology,
     a: &Arcs,
     ds: &[u32; ROUTERS],
+    ids: &[u32],
     destination: Place,
     mode: Mode,
     out: &mut [u8],
 )
-    requires { LaidOut t.now a.now destination.0 mode ds.now × (t.now.routers ≤ length out.old) }
-    ensures { out.new ≡ order_bytes t.now.routers («said-order».build (network_of t.now) destination.0 (mode_of mode)) ++ drop t.now.routers out.old }
+    requires { ((t : Topology) × Lent t a.now ids.now destination.0 mode ds.now) × (length ids.now ≤ length out.old) }
+    ensures { (t : Topology) → Lent t a.now ids.now destination.0 mode ds.now → out.new ≡ order_bytes (length ids.now) («said-order».build (network_of t) destination.0 (mode_of mode)) ++ drop (length ids.now) out.old }
 {
-    let n = t.routers;
+    let n = ids.len();
     let d = destination.index();
-    let lower = order_standings::unchecked::lower_ids(&t.id[..n]);
+    let lower = order_standings::unchecked::lower_ids(ids);
     let places = order_standings::unchecked::places_of(&lower[..n]);
     let mut keys = order_standings::unchecked::standings(a, ds, &lower, n, mode);
     order_standings::unchecked::count_in(&mut keys, mode, a.at(d), ds, d);

@@ -7,3 +7,4 @@ pub mod Stepping
 pub mod Heights
 pub mod Ties
 pub mod Parts
+pub mod Alike

@@ -17,7 +17,7 @@ use Rattle.network.specs.Lists.{any, keep, member, Pairwise}
 use Rattle.network.proofs.Lists.{member_mem, mem_keep}
 use Rattle.network.proofs.Tests.{truth, as_true, as_false}
 use Rattle.topology_types.specs.declared.Half.{Half}
-use Rattle.stream_rules.specs.Reading.{Reading}
+use Rattle.stream_rules.specs.declared.Reading.{Reading}
 use Rattle.stream_rules.specs.Record as record_of
 use Rattle.stream_rules.specs.Halves.{StreamListing, link_halves, halves, same_half, opposite}
 use Rattle.stream_rules.specs.Reading.{refusal, accepted_reading, router_fault_lem, repeated, crowded, halves_fault_lem, fault, with_router, added, ended, unless, nothing_listed}

@@ -1,15 +1,16 @@
 -- Routers and halves taken in turn: all of them are taken, or there is a first fault, which refuses.
 -- Assumes nothing.
-use Prim.Native.Nat.{ℕ, zero, suc}
+use Prim.Native.Nat.{ℕ, zero, suc, ◌≤◌}
 use mathlib.Core.List.{List, [], ◌∷◌, ◌++◌, append-nil}
 use mathlib.Core.Path.{◌≡◌, refl, sym, ap, subst, ◌∙◌}
 use native.Mathlib.Omega.{arith}
 use lib.Seq.{append_snoc}
-use Rattle.stream_rules.specs.Reading.{Reading}
+use Rattle.stream_rules.specs.declared.Reading.{Reading}
 use Rattle.stream_rules.specs.Halves.{StreamListing}
-use Rattle.stream_rules.specs.Reading.{refusal, fault, added, unless, nothing_listed}
+use Rattle.stream_rules.specs.Reading.{refusal, accepted_reading, fault, added, unless, nothing_listed}
 use Rattle.stream_rules.proofs.Faults.{unless_fault}
 use Rattle.ospf.specs.Import.{Placed, taken_to}
+use Rattle.ospf.specs.Inner.{as_listed}
 use Rattle.ospf.specs.Theorems.{Taken, nothing, one_more, FaultAt}
 
 module _ (last : StreamListing → Reading) where
@@ -40,6 +41,19 @@ module _ (last : StreamListing → Reading) where
       ∙ after_taken f.taken (f.r ∷ f.after)
       ∙ taken_off f.listing f.r f.after (λ e. omega (arith, f.fails))
       ∙ rw (f.fails, f.there)
+
+-- a refusal stands, whatever is taken behind
+pub refused_before : (last : StreamListing → Reading) (number at : ℕ) → 1 ≤ number → (p : StreamListing) (rs rest : List Placed) →
+    taken_to as_listed p rs ≡ refusal number at → taken_to last p (rs ++ rest) ≡ refusal number at
+unfolding taken_to as_listed accepted_reading refusal unless
+refused_before last number at some p [] rest e = absurd (omega (arith, some, ap (λ (r : Reading). r.answer.number) e))
+refused_before last number at some p (r ∷ rs) rest e = go (refused_before last number at some (added p r.found) rs rest) (fault p r.found) e
+  where
+    go : (taken_to as_listed (added p r.found) rs ≡ refusal number at → taken_to last (added p r.found) (rs ++ rest) ≡ refusal number at) → (k : ℕ) →
+        unless k r.at (taken_to as_listed (added p r.found) rs) ≡ refusal number at →
+        unless k r.at (taken_to last (added p r.found) (rs ++ rest)) ≡ refusal number at
+    go more zero e = more e
+    go more (suc k) e = e
 
 pub data Outcome (rs : List Placed) : Type 0 where
   done : (p : StreamListing) → Taken rs p → Outcome rs

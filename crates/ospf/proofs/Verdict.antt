@@ -10,9 +10,9 @@ use native.Mathlib.Decide.{dec_lt}
 use native.Mathlib.Omega.{arith}
 use lib.Dec.{eqb}
 use lib.ListN.{length, length-map}
-use Rattle.topology_types.specs.Outcome.{Answer}
+use Rattle.topology_types.specs.declared.Answer.{Answer}
 use Rattle.topology_types.specs.Outcome.{answer}
-use Rattle.stream_rules.specs.Reading.{Reading}
+use Rattle.stream_rules.specs.declared.Reading.{Reading}
 use Rattle.stream_rules.specs.Halves.{StreamListing}
 use Rattle.stream_rules.specs.Reading.{refusal, accepted_reading, ended, nothing_listed}
 use Rattle.stream_rules.specs.Theorems.{Bytes, Read, EndFaults}

@@ -1,6 +1,8 @@
 // The topology from router-LSAs (RFC 2328, A.4.2), one after another in a file (02, #106).
 #![tactic(auto)]
 
+pub mod unchecked;
+
 ghost use Rattle.std.specs.Prelude.{◌≡◌};
 ghost use Rattle.stream_rules.specs.Reading.{reading_of};
 ghost use Rattle.ospf_lsas.specs.Opened.{lsas_left};
@@ -8,26 +10,15 @@ ghost use Rattle.ospf.specs.Import.{importing};
 ghost use Rattle.ospf.specs.Inner.{taken_in_turn};
 
 use ospf_lsas::Lsas;
-use stream::unchecked::Listing;
-use topology_types::{Fault, Place, Refusal, Topology};
+use stream_rules::Reading;
+use topology_types::{Fault, Refusal, Topology};
 
 // The routers, LSA by LSA, and then the halves, LSA by LSA: refusals 3, 4, 6, 7, 9, 10 and 12.
 fn taken(lsas: Lsas) -> Result<Topology, Refusal>
     ensures { reading_of result ≡ taken_in_turn (lsas_left lsas.entry) }
 {
-    let mut listing = Listing::new();
-    for lsa in lsas {
-        listing
-            .take_router(lsa.advertising_router())
-            .map_err(|fault| fault.at(lsa.at))?;
-    }
-    for (place, lsa) in lsas.enumerate() {
-        let given = ospf_halves::unchecked::given(lsa, Place(place as u8), listing.ids());
-        for half in given.as_slice() {
-            listing.take_half(*half).map_err(|fault| fault.at(lsa.at))?;
-        }
-    }
-    listing.ended(0, 1)
+    let listing = unchecked::routers_of(lsas)?;
+    unchecked::with_halves(listing, lsas)
 }
 
 // Imports a file of router-LSAs: refusals 26, 27, 3, 4, 6, 7, 9, 10 and 12.
@@ -39,4 +30,11 @@ pub fn import(file: &[u8]) -> Result<Topology, Refusal>
         Some(at) => Err(Fault::WrongChecksum.at(at)),
         None => taken(lsas),
     }
+}
+
+// The same as one value: refused, the topology is all zeros.
+pub fn import_or_zeros(file: &[u8]) -> Reading
+    ensures { result ≡ importing file.now }
+{
+    Reading::of(import(file))
 }

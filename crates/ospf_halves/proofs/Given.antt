@@ -51,7 +51,7 @@ unfolding lowest_to_lem point_to_point least_by
 of_none id = refl
 
 -- the place of an ID, if it has one
-place_found : (id : ℕ) (ids : List ℕ) → position_or_len (λ i. eqb i id) ids ≡ place_of id ids
+pub place_found : (id : ℕ) (ids : List ℕ) → position_or_len (λ i. eqb i id) ids ≡ place_of id ids
 unfolding place_of
 place_found id [] = refl
 place_found id (i ∷ ids) = go (place_found id ids) (eqb id i) refl
@@ -70,7 +70,7 @@ placed id ids h = go (member id ids) refl
 
 -- where a half leads to that place
 module _ (ids : List ℕ) (place : ℕ) (all : List RouterLink) where
-  led_to : (id : ℕ) → Memᴰ id ids → (us : List ℕ) → ((u : ℕ) → Memᴰ u us → Memᴰ u ids) →
+  pub led_to : (id : ℕ) → Memᴰ id ids → (us : List ℕ) → ((u : ℕ) → Memᴰ u us → Memᴰ u ids) →
       any (λ (h : Half). eqb h.to.0 (place_of id ids)) (map (half_to ids place all) us) ≡ member id us
   unfolding half_to member
   led_to id m [] inside = refl
@@ -91,7 +91,7 @@ module _ (ids : List ℕ) (place : ℕ) (all : List RouterLink) where
 abbrev kept : List ℕ → List RouterLink → List ℕ
 kept ids ls = keep (λ id. member id ids) (neighbours_of ls)
 
-few : (ids : List ℕ) (ls : List RouterLink) → length (kept ids ls) ≤ length ids
+pub few : (ids : List ℕ) (ls : List RouterLink) → length (kept ids ls) ≤ length ids
 unfolding neighbours_of
 few ids ls =
     no_longer ids (pairwise_keep (λ id. member id ids) (once_distinct (map (λ (l : RouterLink). l.id) (point_to_point ls))))
@@ -167,6 +167,10 @@ module _ (ids : List ℕ) (place : ℕ) (all : List RouterLink) where
   pub at_first : Stored ids place all [] all
   unfolding neighbours_of point_to_point once
   at_first = record { before = []; turn = refl; so = refl }
+
+  -- no more than there are IDs
+  pub at_most : {halves : List Half} {left : List RouterLink} → Stored ids place all halves left → length halves ≤ length ids
+  at_most g = omega (arith, ap length g.so, length-map (kept ids g.before) (half_to ids place all), few ids g.before)
 
   pub ended : {halves : List Half} → Stored ids place all halves [] → halves ≡ halves_of ids place all
   unfolding halves_of

@@ -55,7 +55,7 @@ before_place id (i ∷ ids) (suc p) h e = step (eqb id i) h (λ k. before_place 
     step false h rest = rest (omega arith)
 
 -- the first place at which it stands is its place
-first_place : (id : ℕ) (ids : List ℕ) (place : ℕ) → place < length ids → get_or ids place 0 ≡ id → ((p : ℕ) → p < place → get_or ids p 0 ≢ id) →
+pub first_place : (id : ℕ) (ids : List ℕ) (place : ℕ) → place < length ids → get_or ids place 0 ≡ id → ((p : ℕ) → p < place → get_or ids p 0 ≢ id) →
     place_of id ids ≡ place
 unfolding place_of
 first_place id [] place h e none = absurd (omega arith)
@@ -89,7 +89,7 @@ places_each id ids =
         (ap (λ (p : ℕ). get_or ids p 0) (sym e) ∙ place_is id ids (listed (omega arith)), λ p k. before_place id ids p (omega arith))
 
 -- where IDs differ, the place of what stands at a place is that place
-place_at : (ids : List ℕ) (place : ℕ) → Distinct ids → place < length ids → place_of (get_or ids place 0) ids ≡ place
+pub place_at : (ids : List ℕ) (place : ℕ) → Distinct ids → place < length ids → place_of (get_or ids place 0) ids ≡ place
 unfolding place_of
 place_at [] place d h = absurd (omega arith)
 place_at (i ∷ ids) zero d h = rw (eq-eqb i i refl)

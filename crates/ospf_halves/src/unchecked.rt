@@ -1,8 +1,7 @@
 // The neighbours of a router by the links of its LSA (02, #106; RFC 2328, A.4.2): places, the lowest metrics, and the halves given.
-ghost use Rattle.std.specs.Prelude.{◌≡◌, ◌==◌, position, [], ◌∷◌, ◌++◌, ◌<◌, ◌≤◌, min, List, length, take};
+ghost use Rattle.std.specs.Prelude.{◌≡◌, ◌==◌, position, [], ◌∷◌, ◌++◌, ◌<◌, ◌≤◌, min, length, take};
 ghost use Rattle.network.specs.Lists.{any};
 ghost use Rattle.std.specs.Option.{option_map};
-ghost use Rattle.topology_types.specs.declared.Half as record_of;
 ghost use Rattle.topology_types.specs.Limits.{most_routers};
 ghost use Rattle.ospf_lsas.specs.Lsa.{all_of, links};
 ghost use Rattle.ospf_lsas.specs.Opened.{link_seen, links_left};
@@ -10,27 +9,20 @@ ghost use Rattle.ospf_halves.specs.Neighbours.{point_to_point, lowest_to_lem, ha
 ghost use Rattle.ospf_halves.specs.Inner.{new_place_lem};
 
 use ospf_lsas::{Lsa, RouterLink, RouterLinks};
-use std::marker::Model;
 use topology_types::{Half, Place, ROUTERS};
 
 // The halves that an LSA gives, in turn, at most one to each router: so many, at the start of the array, since there is no heap.
-#[derive(Drop)]
+#[derive(Clone, Copy)]
 pub struct Halves {
-    count: usize,
-    half: [Half; ROUTERS],
-}
-
-impl Model for Halves {
-    ghost Value = { List record_of.Half };
-
-    ghost view = { λ h. take h.count h.half };
-
-    ghost invariant = { λ h. h.count ≤ most_routers };
+    pub count: usize,
+    pub half: [Half; ROUTERS],
+    pub ghost few: { count ≤ most_routers },
+    pub ghost slots: { length half ≡ most_routers },
 }
 
 impl Halves {
     fn none() -> Halves
-        ensures { result ≡ [] }
+        ensures { result.count ≡ 0 }
     {
         let unset = Half {
             from: Place(0),
@@ -44,8 +36,8 @@ impl Halves {
     }
 
     fn push(&mut self, half: Half)
-        requires { length self.old < most_routers }
-        ensures { self.new ≡ self.old ++ half ∷ [] }
+        requires { self.old.count < most_routers }
+        ensures { take self.new.count self.new.half ≡ take self.old.count self.old.half ++ half ∷ [] }
     {
         self.half[self.count] = half;
         self.count += 1;
@@ -53,7 +45,7 @@ impl Halves {
 
     // All of them.
     pub fn as_slice(&self) -> &[Half]
-        ensures { result.now ≡ self.now }
+        ensures { result.now ≡ take self.now.count self.now.half }
     {
         &self.half[..self.count]
     }
@@ -105,7 +97,8 @@ fn lowest_to(links: RouterLinks, link: RouterLink) -> u16
 // What the LSA at a place gives, by IDs: one half to each neighbour that has an LSA, in the order first listed.
 pub fn given(lsa: Lsa, place: Place, ids: &[u32]) -> Halves
     requires { length ids.now ≤ most_routers }
-    ensures { result ≡ halves_of ids.now place.0 (all_of (links lsa.entry.bytes.now)) }
+    ensures few { result.count ≤ length ids.now }
+    ensures halves { take result.count result.half ≡ halves_of ids.now place.0 (all_of (links lsa.entry.bytes.now)) }
 {
     let links = lsa.links();
     let mut halves = Halves::none();

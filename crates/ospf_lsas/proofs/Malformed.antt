@@ -141,7 +141,7 @@ enough s e = let c = cut s e in omega (arith, c.begun, c.fits)
 pub refuses : (s : List ℕ) → malformed s ≡ true → None ≡ cond (malformed s) None (Some (length_field s))
 refuses s e = rw e
 
-drop_take : (m n : ℕ) (l : List ℕ) → drop m (take n l) ≡ take (n - m) (drop m l)
+pub drop_take : (m n : ℕ) (l : List ℕ) → drop m (take n l) ≡ take (n - m) (drop m l)
 drop_take zero n l = rw (sub-zero n)
 drop_take (suc m) zero l = rw (zero-sub (suc m))
 drop_take (suc m) (suc n) [] = sym (take-nil (suc n - suc m))

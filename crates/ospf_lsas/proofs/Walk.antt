@@ -41,7 +41,7 @@ module _ {file : List ℕ} {at : ℕ} (a : Ahead file at) where
     unfolding first_at
     here m = rw (last at (drop at file) (omega (arith, length-drop at file)) m, m) at a.rest
 
-    on : malformed (drop at file) ≡ false → Ahead file (at + length_field (drop at file))
+    pub on : malformed (drop at file) ≡ false → Ahead file (at + length_field (drop at file))
     on m =
         let s = drop at file in
         let c = cut s m in

@@ -25,7 +25,7 @@ pub fn write(t: Topology, table: &[u8], start: Place, out: &mut [u8]) -> Result<
     topology_sound::test_place(t, start)?;
     let a = arcs::unchecked::of(t);
     table::unchecked::check(&t, &a, table)?;
-    let mut paths: [u8; BYTES] = text::filled(0);
+    let mut paths = unchecked::room_for_paths();
     let Some(count) = unchecked::gather(&t, table, start, &mut paths) else {
         return Err(Fault::TooManyPaths.at(start.index()));
     };

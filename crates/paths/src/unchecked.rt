@@ -1,10 +1,17 @@
 // For callers that have tested the topology, the start and the table, and lent the room.
-ghost use Rattle.std.specs.Prelude.{◌≤◌, length};
+ghost use Rattle.std.specs.Prelude.{◌≡◌, ◌≤◌, length};
 ghost use Rattle.paths_rules.specs.Theorems.{Passed};
 ghost use Rattle.paths.specs.Inner.{most_bytes, PathsFound};
 
-use super::{PATH, gathering};
+use super::{BYTES, PATH, gathering};
 use topology_types::{Place, Topology};
+
+// Room for as many paths as there may be.
+pub fn room_for_paths() -> [u8; BYTES]
+    ensures { most_bytes ≡ length result }
+{
+    text::filled(0)
+}
 
 // Every path from a start to the table's destination, into the first bytes of the slice; answers how many there are, none beyond 512, where what is left
 // in the slice is free.

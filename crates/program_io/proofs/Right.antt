@@ -11,12 +11,14 @@ use borrow.Author.Tests.{eq-eqb, ne_eqb, eqb-true}
 use lib.Dec.{T, eqb}
 use Rattle.std.proofs.Common.{Ok, Err, Fits, w8}
 use lib.ListN.{length, get_or}
-use Rattle.topology_types.specs.Outcome.{Answer, number_of, refused}
+use Rattle.topology_types.specs.declared.Answer.{Answer}
+use Rattle.topology_types.specs.Outcome.{number_of, refused}
 use Rattle.topology_types.specs.declared.Refusal.{Refusal}
 use Rattle.topology_types.specs.declared.Topology.{Topology}
 use Rattle.topology_types.proofs.Outcome.{numbered}
 use Rattle.topology_sound.specs.Sound.{sound}
-use Rattle.stream_rules.specs.Reading.{Reading, reading, reading_of, refusal}
+use Rattle.stream_rules.specs.declared.Reading.{Reading}
+use Rattle.stream_rules.specs.Reading.{reading, reading_of, refusal}
 use Rattle.stream_rules.specs.Theorems.{Bytes}
 use Rattle.stream_rules.proofs.Returned.{reads_sound}
 use Rattle.text.specs.Lines.{refused_word, answer_text, answer_line, word_line}

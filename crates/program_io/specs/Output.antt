@@ -1,9 +1,9 @@
 -- What a program that reads a topology stream prints for what it has read (01, Two networks by hand; 02, #102, reading and refusing as the listing does).
 -- Assumes nothing.
 use Rattle.std.specs.Prelude.{ℕ, cond, List, eqb}
-use Rattle.topology_types.specs.Outcome.{Answer}
+use Rattle.topology_types.specs.declared.Answer.{Answer}
 use Rattle.topology_types.specs.declared.Topology.{Topology}
-use Rattle.stream_rules.specs.Reading.{Reading}
+use Rattle.stream_rules.specs.declared.Reading.{Reading}
 use Rattle.stream_rules.specs.Reading.{reading}
 use Rattle.text.specs.Lines.{word_line, refused_word}
 

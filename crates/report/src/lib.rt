@@ -13,14 +13,14 @@ ghost use Rattle.coverage_rules.specs.Coverage.{coverage_of};
 ghost use Rattle.coverage_rules.specs.Coverage as «said-coverage»;
 ghost use Rattle.listing_rules.specs.Listing as said;
 
-pub use coverage_rules::Coverage;
+pub use coverage_rules::{Coverage, CoverageAnswer};
 
 // The lines of a destination, in shortest-path mode: refusals 14, 15 and 24.
 pub fn listing(t: Topology, destination: Place, out: &mut [u8]) -> Result<usize, Refusal>
     ensures { record { answer = answer_of result; buffer = out.new } ≡ said.listing t destination.0 out.old }
 {
     topology_sound::test_place(t, destination)?;
-    let mut lines: [u8; printing::LINES] = text::filled(0);
+    let mut lines = printing::room_for_lines();
     let mut page = Page::new(&mut lines);
     unchecked::put_lines(&t, &arcs::unchecked::of(t), destination, &mut page);
     let needed = page.filled;
@@ -39,4 +39,11 @@ pub fn coverage(t: Topology) -> Result<Coverage, Refusal>
         return Err(Fault::UnsoundTopology.at(0));
     }
     Ok(coverage_counts::unchecked::coverage(&t, &arcs::unchecked::of(t)))
+}
+
+// The same as one value.
+pub fn coverage_or_zeros(t: Topology) -> CoverageAnswer
+    ensures { result ≡ «said-coverage».coverage t }
+{
+    CoverageAnswer::of(coverage(t))
 }

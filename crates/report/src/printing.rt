@@ -3,7 +3,7 @@ ghost use Rattle.std.specs.Prelude.{◌≡◌, ◌*◌, length};
 ghost use Rattle.table.specs.Listed.{rank_in_lem};
 ghost use Rattle.table.specs.Inner.{HasRow};
 ghost use Rattle.text.specs.Page.{Puts, Room};
-ghost use Rattle.listing_rules.specs.Inner.{most_listing_line, row_text, front_of_lem, front_text, front_line, RowFits, Small, Listable, table_text};
+ghost use Rattle.listing_rules.specs.Inner.{most_listing_line, most_listing_lines, row_text, front_of_lem, front_text, front_line, RowFits, Small, Listable, table_text};
 
 use super::unchecked::fields::{put_fields, put_place, put_rank};
 use listing_rules::Front;
@@ -16,6 +16,12 @@ use topology_types::{Place, ROUTERS, Rank};
 const LINE: usize = 14 + 3 * ENTRIES;
 
 pub(crate) const LINES: usize = LINE * ROUTERS;
+
+pub(crate) fn room_for_lines() -> [u8; LINES]
+    ensures { most_listing_lines ≡ length result }
+{
+    text::filled(0)
+}
 
 // The row, a space before each field.
 fn put_row(page: &mut Page<'_>, row: &[u8])

@@ -10,8 +10,7 @@ ghost use Rattle.paths_lines.specs.Inner.{most_path_lines, Toward};
 
 use arcs::Arcs;
 use order::Mode;
-use paths_lines::unchecked::LINES;
-use program_io::{INPUT, STDOUT};
+use program_io::STDOUT;
 use text::unchecked::lines::Page;
 use topology::{Place, Topology};
 
@@ -57,7 +56,7 @@ fn write_for(stream: &[u8], out: &mut [u8])
     match topology::read(stream) {
         Err(refusal) => {
             let mut page = Page::new(out);
-            program_io::unchecked::put_refused(&mut page, refusal);
+            program_io::unchecked::put_refused(&mut page, refusal.answer());
             let end = page.filled;
             io::write_all(STDOUT, &out[..end]);
         }
@@ -69,8 +68,8 @@ fn write_for(stream: &[u8], out: &mut [u8])
 // which `put_lines` makes, go to standard output once, by place, until that fails, and that of a refused stream only its line does, is read here, in
 // `write_for` and in the two loops, and tried by examples/edges.
 fn main() {
-    let mut input: [u8; INPUT] = text::filled(0);
+    let mut input = program_io::room_for_input();
     let n = program_io::read_input(&mut input);
-    let mut out: [u8; LINES] = text::filled(0);
+    let mut out = paths_lines::unchecked::room_for_lines();
     write_for(&input[..n], &mut out);
 }

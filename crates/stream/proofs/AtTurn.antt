@@ -15,7 +15,7 @@ use lib.ListN.{length, get_or, drop, length-drop, drop_of_length-le}
 use lib.Seq.{drop-drop}
 use Rattle.stream_rules.specs.Record.{Record}
 use Rattle.stream_rules.specs.Record as record_of
-use Rattle.stream_rules.specs.Reading.{Reading}
+use Rattle.stream_rules.specs.declared.Reading.{Reading}
 use Rattle.stream_rules.specs.Halves.{StreamListing}
 use Rattle.stream_rules.specs.Stream.{record_in, records}
 use Rattle.stream_rules.specs.Reading.{refusal, fault, added, width, is_end, ended, unless, in_turn, nothing_listed, reading}
@@ -44,7 +44,7 @@ first-is [] h = absurd (omega arith)
 first-is (kind ∷ rest) h = (_, refl)
 
 module _ (s : List ℕ) (p : StreamListing) (at : ℕ) (turn : Turn s p at) where
-  turn_past : length s ≤ at → reading s ≡ refusal 1 at
+  pub turn_past : length s ≤ at → reading s ≡ refusal 1 at
   unfolding records in_turn
   turn_past h = turn.goes_on ∙ rw (drop_of_length-le s h)
 

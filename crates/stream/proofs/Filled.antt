@@ -1,13 +1,14 @@
 -- What is held, and the tables that halves are looked up in, say what is listed, lone halves too: a router, halves or a limit that no test refuses keep
 -- them so. Nothing here speaks of a stream.
 -- Assumes nothing.
-use Prim.Native.Nat.{ℕ, ◌+◌, ◌≤◌, ◌<◌, ◌^◌}
+use Prim.Native.Nat.{ℕ, ◌+◌, ◌*◌, ◌≤◌, ◌<◌, ◌^◌}
 use mathlib.Core.Bool.{false, not}
 use mathlib.Core.List.Memᴰ
 use mathlib.Core.List.{List, [], ◌∷◌, ◌++◌}
 use mathlib.Core.Logic.{◌≢◌}
 use mathlib.Core.Path.{◌≡◌, refl, sym, ap, ◌∙◌}
 use native.Mathlib.Omega.{arith}
+use borrow.Author.Tests.{eq-eqb, ne_eqb}
 use lib.Dec.{eqb, leb}
 use lib.ListN.{length, get_or, set, take, replicate}
 use lib.Seq.{get_or-set_other}
@@ -19,7 +20,7 @@ use Rattle.topology_types.specs.Topology.{contents, held}
 use Rattle.stream_rules.specs.Record as record_of
 use Rattle.stream_rules.specs.Halves.{StreamListing, link_halves, halves, same_half, opposite, link_of}
 use Rattle.stream_rules.specs.Reading.{repeated, crowded, fault, with_router, with_link, with_limit, arrived, added, nothing_listed}
-use Rattle.stream_rules.specs.Inner.{WhileRead, Arisen, nothing, one_more, Stands, one_if}
+use Rattle.stream_rules.specs.Inner.{WhileRead, Indexed, Arisen, nothing, one_more, Stands, one_if}
 use Rattle.stream_rules.proofs.Held.{contents_held, padded_length, with-router, with-link, with-limit, router_added, link_added, limit_added}
 use Rattle.stream_rules.proofs.NoFault.{NewHalves, router_passes, halves_pass, one_fails, both_fail}
 use Rattle.stream_rules.proofs.Halves.{length_total, length_keep, total_split, halves_total, adds_last, adds_link}
@@ -27,7 +28,7 @@ use Rattle.stream_rules.proofs.Opposite.{opposites, opposite-cost, Partner, none
 use Rattle.stream_rules.proofs.GoodHalves.{half_sound, links_many, same_none}
 use Rattle.stream_rules.proofs.Kept.{Good, good_nothing, good_listed, kept, fresh_none, few_leave}
 use Rattle.stream_rules.proofs.Tables.{tabled_none, tallied_none, cost_tells, tabled_more, tallied_more}
-use Rattle.stream.specs.Inner.{Placed, Roomy, cell, cost_in}
+use Rattle.stream.specs.Inner.{Placed, Roomy, cell, cost_in, opposite_cost, paired}
 
 pub arisen_good : {p : StreamListing} → Arisen p → Good p
 arisen_good nothing = good_nothing
@@ -74,6 +75,15 @@ module _ {p : StreamListing} {t : Topology} {costs leaving : List ℕ} {m : ℕ}
   pub crowded_by : (u : ℕ) → u < 64 → crowded p u ≡ leb 16 (get_or leaving u 0)
   unfolding crowded
   crowded_by u h = rw (w.tallied.at u h ∙ sym (length_keep _ (halves p)))
+
+  pub indexed : Indexed p t.routers m costs leaving
+  indexed =
+      record {
+        routers = routers_are;
+        many = w.many;
+        listed = λ h f g. sym (repeated_by h f g);
+        out = λ u h. w.tallied.at u h ∙ sym (length_keep _ (halves p));
+      }
 
   -- a router
   module _ (id : ℕ) (passes : fault p (record_of.Router id) ≡ 0) where
@@ -206,10 +216,7 @@ module _ {p : StreamListing} {t : Topology} {costs leaving : List ℕ} {m : ℕ}
     opposite_placed = record { from_inside = to_in; to_inside = from_in }
 
     -- what the table has of its opposite
-    abbrev cost : ℕ
-    cost = cost_in costs (opposite h)
-
-    cost_is : cost ≡ opposite-cost p good.good_halves.once h unlisted
+    cost_is : opposite_cost costs h ≡ opposite-cost p good.good_halves.once h unlisted
     unfolding opposite
     cost_is = w.tabled.at (opposite h) to_in from_in
 
@@ -223,7 +230,7 @@ module _ {p : StreamListing} {t : Topology} {costs leaving : List ℕ} {m : ℕ}
     other = partner p good.good_halves.once h unlisted
 
     -- the opposite is lone, so there is room for the link
-    pub room_half : cost ≢ 0 → t.links < 256
+    pub room_half : opposite_cost costs h ≢ 0 → t.links < 256
     room_half some-cost = go other refl
       where
         go : {ks : List Half} → Other ks → others ≡ ks → t.links < 256
@@ -234,48 +241,34 @@ module _ {p : StreamListing} {t : Topology} {costs leaving : List ℕ} {m : ℕ}
             let one_kept = length_total others in
             omega (arith, new_half.room, links_are, length_total (halves p), links_many p.contents.links, ap length is)
 
-    -- what is held then: the same, or with a link more
-    held_same : cost ≡ 0 → t ≡ held (added p (record_of.Half h)).contents
-    unfolding added arrived halves
-    held_same z = go other
+    -- what is held then: with a link more, or the same
+    held_then : paired t h (opposite_cost costs h) ≡ held (added p (record_of.Half h)).contents
+    unfolding added arrived link_of halves paired
+    held_then = go other
       where
-        go : {ks : List Half} → Other ks → t ≡ held (arrived p h ks).contents
-        go (none y) = w.whole
+        go : {ks : List Half} → Other ks → paired t h (opposite_cost costs h) ≡ held (arrived p h ks).contents
+        go (none z) = rw (eq-eqb (opposite_cost costs h) 0 (cost_is ∙ z)) w.whole
         go (some k stands to from e) =
             let among = Memᴰ.append_right (link_halves p.contents.links) stands in
             let sound = half_sound (length p.contents.ids) (halves p) good.good_halves.each k among in
-            absurd (omega (arith, z, cost_is, e, sound.cost_least))
-
-    abbrev pub pair : Link
-    pair = record { first = h.to; second = h.from; cost = cost; back = h.cost }
-
-    held_pair : cost ≢ 0 → with-link pair t ≡ held (added p (record_of.Half h)).contents
-    unfolding added arrived link_of halves
-    held_pair some-cost = go other
-      where
-        go : {ks : List Half} → Other ks → with-link pair t ≡ held (arrived p h ks).contents
-        go (none z) = absurd (some-cost (cost_is ∙ z))
-        go (some k stands to from e) =
-            let same : pair ≡ link_of k h =
+            let costs-some : opposite_cost costs h ≢ 0 = λ z. omega (arith, cost_is, e, z, sound.cost_least) in
+            let made : Link = record { first = h.to; second = h.from; cost = opposite_cost costs h; back = h.cost } in
+            let same : made ≡ link_of k h =
             λ i. record { first = record { 0 = sym to i }; second = record { 0 = sym from i }; cost = (cost_is ∙ e) i; back = h.cost } in
-            link_added t listed pair (room_half some-cost) ∙ (λ i. held (with_link (contents_are i) (same i)))
+            rw (ne_eqb (opposite_cost costs h) 0 costs-some)
+            (link_added t listed made (room_half costs-some) ∙ (λ i. held (with_link (contents_are i) (same i))))
 
-    past_half : h.cost < 2 ^ 16 → {r : Topology} → r ≡ held (added p (record_of.Half h)).contents →
-        Stands (added p (record_of.Half h)) r (set costs (cell h) h.cost) (set leaving h.from.0 (get_or leaving h.from.0 0 + 1)) (m + 1)
-    past_half fits is =
+    pub past_half : h.cost < 2 ^ 16 → {r : Topology} {costs₁ leaving₁ : List ℕ} →
+        (r ≡ paired t h (opposite_cost costs h))
+        × (costs₁ ≡ set costs (h.from.0 * 64 + h.to.0) h.cost)
+        × (leaving₁ ≡ set leaving h.from.0 (get_or leaving h.from.0 0 + 1)) →
+        Stands (added p (record_of.Half h)) r costs₁ leaving₁ (m + 1)
+    past_half fits (is, c₁, l₁) =
         let adds = adds_half p good.good_halves.once h unlisted in
         record {
           arisen = one_more w.arisen (record_of.Half h) passes fits;
-          whole = is;
+          whole = is ∙ held_then;
           many = omega (arith, w.many, length_total (halves p), length_total (halves (added p (record_of.Half h))), adds (λ k. 1));
-          tabled = tabled_more (halves p) _ h adds refl refl from_in to_in costs w.tabled (fresh_none p h fresh);
-          tallied = tallied_more (halves p) _ h adds refl refl from_in to_in leaving w.tallied;
+          tabled = rw c₁ (tabled_more (halves p) _ h adds refl refl from_in to_in costs w.tabled (fresh_none p h fresh));
+          tallied = rw l₁ (tallied_more (halves p) _ h adds refl refl from_in to_in leaving w.tallied);
         }
-
-    pub past_lone : h.cost < 2 ^ 16 → cost ≡ 0 →
-        Stands (added p (record_of.Half h)) t (set costs (cell h) h.cost) (set leaving h.from.0 (get_or leaving h.from.0 0 + 1)) (m + 1)
-    past_lone fits z = past_half fits (held_same z)
-
-    pub past_pair : h.cost < 2 ^ 16 → cost ≢ 0 →
-        Stands (added p (record_of.Half h)) (with-link pair t) (set costs (cell h) h.cost) (set leaving h.from.0 (get_or leaving h.from.0 0 + 1)) (m + 1)
-    past_pair fits some-cost = past_half fits (held_pair some-cost)

@@ -61,10 +61,10 @@ module _ {s : List ℕ} {l : Listing} (r r' : Reader) (same : r.stream.now ≡ s
 
   -- a record
   module _ (q : read.Record) (was : given ≡ Ok q) where
-    record_is : record_seen (Ok q) ≡ record_in (drop r.at s)
+    pub record_is : record_seen (Ok q) ≡ record_in (drop r.at s)
     record_is = ap record_seen (sym was) ∙ found
 
-    reached : r'.at ≡ r.at + width (record_seen (Ok q))
+    pub reached : r'.at ≡ r.at + width (record_seen (Ok q))
     unfolding next taken
     reached = ap (λ (n : Next). n.reader.at) e ∙ ap (λ (x : Record). r.at + width x) (ap (λ (s : List ℕ). record_in (drop r.at s)) same ∙ sym record_is)
 
@@ -83,7 +83,7 @@ module _ {s : List ℕ} {l : Listing} (r r' : Reader) (same : r.stream.now ≡ s
           ∙ turn_refused s w.listing r.at w.turn (record_seen (Ok q)) record_is (λ z. omega (arith, numbered f, number))
 
       module _ (passed : answer ≡ Ok tt) (more : q ≡ read_as.End → ⊥) where
-        none : fault w.listing (record_seen (Ok q)) ≡ 0
+        pub none : fault w.listing (record_seen (Ok q)) ≡ 0
         none = sym (takes.number w.listing w.lists) ∙ ap failed passed
 
         turn : Turn s (added w.listing (record_seen (Ok q))) (r.at + width (record_seen (Ok q))) × (1 ≤ width (record_seen (Ok q)))

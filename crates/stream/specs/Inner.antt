@@ -2,6 +2,7 @@
 -- Assumes nothing.
 use Rattle.std.specs.Prelude.{ℕ, ◌+◌, ◌*◌, ◌<◌, cond, not, ◌&&◌, List, eqb, ltb, leb, get_or, set}
 use Rattle.topology_types.specs.declared.Half.{Half}
+use Rattle.topology_types.specs.declared.Topology.{Topology}
 use Rattle.stream.specs.declared.tables.Tables.{Tables}
 use Rattle.topology_types.specs.Limits.{most_routers, most_neighbours}
 
@@ -33,6 +34,22 @@ listed_fault costs h = cond (eqb (cost_in costs h) 0) 0 8
 
 abbrev pub crowd_fault : List ℕ → ℕ → ℕ
 crowd_fault leaving place = cond (leb most_neighbours (get_or leaving place 0)) 10 0
+
+-- what the table has at the half opposite to h: its cost, 0 if it is not listed
+abbrev pub opposite_cost : List ℕ → Half → ℕ
+opposite_cost costs h = get_or costs (h.to.0 * most_routers + h.from.0) 0
+
+-- what is held with the half h, by what its opposite costs: the same if that is not listed, else with the link that both make in the first unused slot
+unfoldable pub paired : Topology → Half → ℕ → Topology
+paired t h cost =
+    cond (eqb cost 0) t
+    (record {
+      routers = t.routers;
+      links = t.links + 1;
+      limit = t.limit;
+      id = t.id;
+      link = set t.link t.links (record { first = h.to; second = h.from; cost = cost; back = h.cost });
+    })
 
 -- the tables with a half more
 abbrev pub marked : Tables → Half → Tables

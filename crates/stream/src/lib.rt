@@ -10,7 +10,7 @@ ghost use Rattle.std.specs.Prelude.{◌≡◌};
 ghost use Rattle.stream_rules.specs.Reading.{reading_of, reading};
 
 use reader::Reader;
-pub use stream_rules::Record;
+pub use stream_rules::{Reading, Record};
 use topology_types::{Refusal, Topology};
 use unchecked::Listing;
 
@@ -28,4 +28,11 @@ pub fn read(stream: &[u8]) -> Result<Topology, Refusal>
         }
         listing.take(record).map_err(|fault| fault.at(at))?;
     }
+}
+
+// The same as one value: a refused reading returns the topology of all zeros.
+pub fn read_or_zeros(stream: &[u8]) -> Reading
+    ensures { result ≡ reading stream.now }
+{
+    Reading::of(read(stream))
 }

@@ -8,13 +8,14 @@ ghost use Rattle.stream.specs.Inner.{Placed, Roomy, cost_in, listed_fault, crowd
 use topology_types::{Fault, Half, NEIGHBOURS, Place, ROUTERS};
 
 #[derive(Clone, Copy)]
-pub(crate) struct Tables {
+pub struct Tables {
     pub costs: [u16; ROUTERS * ROUTERS],
     pub leaving: [usize; ROUTERS],
 }
 
 impl Tables {
-    pub(crate) fn new() -> Self
+    // No half.
+    pub fn new() -> Self
         ensures { result ≡ record { costs = replicate (most_routers * most_routers) 0; leaving = replicate most_routers 0 } }
     {
         Tables {

@@ -9,7 +9,7 @@ use lib.ListN.{length}
 use Rattle.network.specs.Lists.{any}
 use Rattle.topology_types.specs.declared.Half.{Half}
 use Rattle.topology_types.specs.Limits.{most_halves}
-use Rattle.stream_rules.specs.Reading.{Reading}
+use Rattle.stream_rules.specs.declared.Reading.{Reading}
 use Rattle.stream_rules.specs.Halves.{StreamListing, halves}
 use Rattle.stream_rules.specs.Reading.{refusal, repeated, crowded, unless}
 

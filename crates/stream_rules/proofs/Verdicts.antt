@@ -12,11 +12,11 @@ use lib.ListN.{length}
 use Rattle.network.specs.Lists.{member}
 use Rattle.network.proofs.Tests.{as_false}
 use Rattle.network.proofs.Lists.{member_mem, mem_member}
-use Rattle.topology_types.specs.Outcome.{Answer}
+use Rattle.topology_types.specs.declared.Answer.{Answer}
 use Rattle.topology_types.specs.Topology.{Contents, padded, no_link, held, zeros}
 use Rattle.topology_types.specs.Outcome.{answer}
 use Rattle.topology_sound.specs.Sound.{within}
-use Rattle.stream_rules.specs.Reading.{Reading}
+use Rattle.stream_rules.specs.declared.Reading.{Reading}
 use Rattle.stream_rules.specs.Halves.{StreamListing}
 use Rattle.stream_rules.specs.Reading.{refusal, accepted_reading, router_fault_lem, fault, ended}
 use Rattle.stream_rules.specs.Theorems.{RouterFaults, all_zeros, listed_in, LimitFaults, EndFaults, FaultsEach}

@@ -1,6 +1,7 @@
 -- What the inner functions of `stream` ask of what is held, and of the tables that they look halves up in.
 -- Assumes nothing.
-use Rattle.std.specs.Prelude.{ℕ, ◌+◌, ◌*◌, ◌^◌, ◌<◌, Bool, cond, List, [], ◌∷◌, Result, Ok, Err, ◌≡◌, length, get_or}
+use Rattle.std.specs.Prelude.{ℕ, ◌+◌, ◌*◌, ◌^◌, ◌<◌, Bool, cond, not, List, [], ◌∷◌, Result, Ok, Err, ◌≡◌, eqb, length, get_or}
+use Rattle.network.specs.Lists.{keep}
 use Rattle.topology_types.specs.declared.Half.{Half}
 use Rattle.topology_types.specs.declared.Topology.{Topology}
 use Rattle.topology_types.specs.Limits.{most_routers}
@@ -13,7 +14,7 @@ use Rattle.stream_rules.specs.declared.Record.TheVariants as read_as
 use Rattle.stream_rules.specs.Record.{Record}
 use Rattle.stream_rules.specs.Record as record_of
 use Rattle.stream_rules.specs.Halves.{StreamListing, halves, same_half, leaves}
-use Rattle.stream_rules.specs.Reading.{fault, added, nothing_listed}
+use Rattle.stream_rules.specs.Reading.{repeated, fault, added, nothing_listed}
 
 -- what stands in the stream, by what the code makes of it: a record, or why there is none
 abbrev pub record_seen : Result read.Record Fault → Record
@@ -28,6 +29,15 @@ record_seen (Err f) = record_of.Refused (number_of f)
 pub record WhileRead (t : Topology) : Type 0 where
   pub counted : CountsFit t
   pub whole : t ≡ held (contents t)
+
+-- what is known of the listing without going through its halves: n routers, m halves, a table that has 0 at u * 64 + v exactly
+-- where the half from u to v is not listed, and one that has at u how many halves leave u
+pub record Indexed (p : StreamListing) (n m : ℕ) (costs leaving : List ℕ) : Type 0 where
+  pub routers : n ≡ length p.contents.ids
+  pub many : m ≡ length (halves p)
+  pub listed : (h : Half) → h.from.0 < most_routers → h.to.0 < most_routers →
+      not (eqb (get_or costs (h.from.0 * most_routers + h.to.0) 0) 0) ≡ repeated p h
+  pub out : (u : ℕ) → u < most_routers → get_or leaving u 0 ≡ length (keep (leaves u) (halves p))
 
 -- what every record of bytes says fits where it is stored
 abbrev pub Fitting : Record → Type 0

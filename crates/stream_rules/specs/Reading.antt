@@ -8,18 +8,14 @@ use Rattle.topology_types.specs.declared.Link.{Link}
 use Rattle.topology_types.specs.Limits.{most_routers, most_halves, most_neighbours, most_next_hops, default_next_hops}
 use Rattle.topology_types.specs.declared.Refusal.{Refusal}
 use Rattle.topology_types.specs.declared.Topology.{Topology}
-use Rattle.topology_types.specs.Outcome.{Answer, answer, number_of}
+use Rattle.topology_types.specs.Outcome.{answer, number_of}
 use Rattle.topology_types.specs.Topology.{Contents, held, zeros}
 use Rattle.topology_sound.specs.Sound.{within}
+use Rattle.stream_rules.specs.declared.Reading.{Reading}
 use Rattle.stream_rules.specs.Record.{Record}
 use Rattle.stream_rules.specs.Record as record_of
 use Rattle.stream_rules.specs.Halves.{StreamListing, halves, same_half, leaves, opposite, link_of}
 use Rattle.stream_rules.specs.Stream.{records}
-
--- What reading answers, and the topology that it returns.
-pub record Reading : Type 0 where
-  pub answer : Answer
-  pub topology : Topology
 
 -- 01, Refusals: a refused reading returns the topology of all zeros
 unfoldable pub refusal : ℕ → ℕ → Reading

@@ -20,7 +20,7 @@ use Rattle.network.proofs.Tests.{both, and, truth, as_true, as_false}
 use Rattle.network.proofs.Order.{acceptance_exact, built_accepted, shortest_path_is_free}
 use Rattle.std.proofs.Common.{Some, None}
 use Rattle.topology_types.specs.Outcome.{answer}
-use Rattle.topology_types.specs.Outcome.{Answer}
+use Rattle.topology_types.specs.declared.Answer.{Answer}
 use Rattle.topology_types.specs.declared.Topology.{Topology}
 use Rattle.topology_types.specs.Topology.{network_of}
 use Rattle.topology_sound.specs.Sound.{sound}

@@ -17,7 +17,8 @@ use Rattle.network.specs.Order.{free, build}
 use Rattle.network.specs.Theorems.Order.{Accepted}
 use Rattle.topology_types.specs.declared.Refusal.{Refusal}
 use Rattle.topology_types.specs.declared.Topology.{Topology}
-use Rattle.topology_types.specs.Outcome.{Answer, answer, number_of, refused, tested, given, turned_away}
+use Rattle.topology_types.specs.declared.Answer.{Answer}
+use Rattle.topology_types.specs.Outcome.{answer, number_of, refused, tested, given, turned_away}
 use Rattle.topology_types.specs.Topology.{padded, network_of}
 use Rattle.topology_types.proofs.Outcome.{numbered}
 use Rattle.topology_sound.specs.Sound.{sound}
@@ -26,7 +27,8 @@ use Rattle.topology_sound.proofs.Place.{on_place_ok}
 use Rattle.topology_sound.proofs.Sound.{sound_exact}
 use Rattle.arcs.specs.declared.Arcs.{Arcs}
 use Rattle.arcs.specs.Inner.{Laid}
-use Rattle.distances.specs.Inner.{Settled}
+use Rattle.distances.specs.Inner.{LaidIn, Settled}
+use Rattle.distances.proofs.Laid.{laid_out}
 use Rattle.order_standings.specs.declared.Mode.{Mode}
 use Rattle.order_standings.specs.declared.Mode.TheVariants as mode
 use Rattle.order.specs.Calls.{mode_of, reached_count_lem, order_bytes, first_of, judging, checking}
@@ -62,6 +64,15 @@ measured_at good place laid settled = record { is-sound = good; holds = laid; pl
 -- a place that was tested, the arcs of a sound topology, and the distances to the place
 pub measured : {t : Topology} {a : Arcs} {ds : List ℕ} {d : ℕ} → answer 0 0 ≡ on_place answer t d (answer 0 0) → Laid t a → Settled (network_of t) d ds → Measured t a d ds
 measured {t} {d} e laid settled = let (good, place) = on_place_ok t d e in measured_at good place laid settled
+
+-- the same, by distances that are those of every topology that has these arcs
+pub placed_at : {t : Topology} {a : Arcs} {ds : List ℕ} {d : ℕ} → T (sound t) → d < t.routers → Laid t a →
+    ((s : Topology) → LaidIn s a t.routers → Settled (network_of s) d ds) → Measured t a d ds
+placed_at {t} good place laid settled = measured_at good place laid (settled t (laid_out good laid))
+
+pub placed : {t : Topology} {a : Arcs} {ds : List ℕ} {d : ℕ} → answer 0 0 ≡ on_place answer t d (answer 0 0) → Laid t a →
+    ((s : Topology) → LaidIn s a t.routers → Settled (network_of s) d ds) → Measured t a d ds
+placed {t} {d = d} e laid settled = measured e laid (settled t (laid_out (on_place_ok t d e).0 laid))
 
 -- a result that is an error has a number
 pub err_number : (r : Result (Unit {0}) Refusal) → is_err r ≡ true → (tested r).number ≡ 0 → ⊥

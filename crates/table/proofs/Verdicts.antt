@@ -13,7 +13,7 @@ use lib.Dec.{T}
 use lib.ListN.{length, get_or}
 use Rattle.network.specs.Network.{size}
 use Rattle.network.proofs.Tests.{truth, as_true, as_false}
-use Rattle.topology_types.specs.Outcome.{Answer}
+use Rattle.topology_types.specs.declared.Answer.{Answer}
 use Rattle.topology_types.specs.declared.Topology.{Topology}
 use Rattle.topology_types.specs.Topology.{network_of}
 use Rattle.topology_types.specs.Outcome.{answer}

@@ -4,7 +4,7 @@ use Rattle.std.specs.Prelude.{ℕ, Bool, cond, not, ◌&&◌, List, eqb, ltb, le
 use Rattle.network.specs.Lists.{below, keep, every}
 use Rattle.network.specs.Network.{Network}
 use Rattle.network.specs.Order.{Mode, free, build, accepted}
-use Rattle.topology_types.specs.Outcome.{Answer}
+use Rattle.topology_types.specs.declared.Answer.{Answer}
 use Rattle.topology_types.specs.declared.Topology.{Topology}
 use Rattle.topology_types.specs.Limits.{most_next_hops}
 use Rattle.topology_types.specs.Outcome.{answer, Outcome, turned_away, given}

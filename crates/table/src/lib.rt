@@ -18,7 +18,7 @@ pub fn fill(t: Topology, destination: Place, order: &[u8], out: &mut [u8]) -> Re
 {
     topology_sound::test_place(t, destination)?;
     let a = arcs::unchecked::of(t);
-    let ds = distances::unchecked::to(&t, &a, destination);
+    let ds = distances::unchecked::to(&a, t.routers, destination);
     order::unchecked::judge(&t, &a, &ds, destination, Mode::Free, order)?;
     let needed = NARROW.row_start(t.routers);
     if out.len() < needed {

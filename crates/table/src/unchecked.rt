@@ -18,6 +18,7 @@ use self::reading::Table;
 use super::reading as tests;
 use arcs::Arcs;
 use order::Mode;
+use table_rows::unchecked::layout;
 use table_rows::{NARROW, TABLE};
 use topology_types::{Fault, Place, ROUTERS, Refusal, Topology};
 
@@ -51,7 +52,7 @@ fn first_wrong(
     let destination = table.destination();
     let limit = table.limit();
     let reached = order::unchecked::reached_count(ds, n);
-    let mut room = [0; TABLE];
+    let mut room = layout::room_for_table();
     table_rows::unchecked::fill(t, a, ds, destination, limit, &order[..reached], &mut room);
     let right = &room[..table.bytes.len()];
     if !tests::ranks_agree(n, table, Table::of(right)) {
@@ -77,7 +78,7 @@ pub fn check(t: &Topology, a: &Arcs, table: &[u8]) -> Result<(), Refusal>
     let destination = table.destination();
     let places = order_of(n, table);
     let order = &places[..n];
-    let ds = distances::unchecked::to(t, a, destination);
+    let ds = distances::unchecked::to(a, n, destination);
     let judged = order::unchecked::judge(t, a, &ds, destination, Mode::Free, order);
     if judged.is_err() {
         return Err(Fault::TableNotAccepted.at(0));
@@ -110,11 +111,11 @@ pub fn build(t: &Topology, a: &Arcs, destination: Place, mode: Mode) -> Built
     ensures { take result.length result.bytes ≡ built_table t.now destination.0 (mode_of mode) }
 {
     let n = t.routers;
-    let ds = distances::unchecked::to(t, a, destination);
+    let ds = distances::unchecked::to(a, n, destination);
     let mut order = [0; ROUTERS];
-    order::unchecked::build(t, a, &ds, destination, mode, &mut order);
+    order::unchecked::build(a, &ds, &t.id[..n], destination, mode, &mut order);
     let reached = order::unchecked::reached_count(&ds, n);
-    let mut bytes = [0; TABLE];
+    let mut bytes = layout::room_for_table();
     table_rows::unchecked::fill(
         t,
         a,

@@ -6,11 +6,11 @@ use mathlib.Core.Logic.{◌↔◌, ◌⊎◌, inl, inr, ⊎_elim}
 use mathlib.Core.Path.{◌≡◌, refl, sym, ap, subst, ◌∙◌}
 use native.Mathlib.Omega.{arith}
 use lib.ListN.{length, drop}
-use Rattle.topology_types.specs.Outcome.{Answer}
+use Rattle.topology_types.specs.declared.Answer.{Answer}
 use Rattle.topology_types.specs.Outcome.{answer}
 use Rattle.te.specs.SubTlvs.{Refused}
 use Rattle.te.specs.declared.SubTlv.{SubTlv}
-use Rattle.te.specs.Cost.{LinkCost}
+use Rattle.te.specs.declared.CostAnswer.{CostAnswer}
 use Rattle.te.specs.SubTlvs.{sub_in}
 use Rattle.te.specs.Cost.{nothing, refused_cost, costing}
 use Rattle.te.specs.Theorems.{SubsBefore, OneUsable, CostSays, AnswersEach, CostsReturned, RefusedZero}
@@ -29,12 +29,12 @@ pub data Verdict (value : List ℕ) (a : Answer) : Type 0 where
 verdict : (value : List ℕ) → Verdict value (costing value).answer
 unfolding refused_cost
 verdict value = elim (ends value) [
-  | faulty at number subs p h e ↦ at_sub at number subs p h e (ap (λ (c : LinkCost). c.answer) (refuses number p h e))
+  | faulty at number subs p h e ↦ at_sub at number subs p h e (ap (λ (c : CostAnswer). c.answer) (refuses number p h e))
   | whole subs p ↦
       let g = gone p in
       elim (either p) [
-        | inl z ↦ at_end subs p (λ u. by_use g.kept g.ahead.kept u z) (ap (λ (c : LinkCost). c.answer) (costless p z))
-        | inr n ↦ accepted subs p (of_use g.kept g.ahead.kept n) (ap (λ (c : LinkCost). c.answer) (costly p n))
+        | inl z ↦ at_end subs p (λ u. by_use g.kept g.ahead.kept u z) (ap (λ (c : CostAnswer). c.answer) (costless p z))
+        | inr n ↦ accepted subs p (of_use g.kept g.ahead.kept n) (ap (λ (c : CostAnswer). c.answer) (costly p n))
       ]
 ]
 
@@ -64,7 +64,7 @@ module _ (value : List ℕ) (at : ℕ) where
       | at_end subs p u is ↦ absurd (omega (arith, number_of (sym is ∙ q)))
       | accepted subs p u is ↦ absurd (omega (arith, number_of (sym is ∙ q)))
     ],
-    λ (subs, p, h, e). ap (λ (c : LinkCost). c.answer) (refuses 28 p h e),
+    λ (subs, p, h, e). ap (λ (c : CostAnswer). c.answer) (refuses 28 p h e),
   )
 
   says_29 : ((costing value).answer ≡ answer 29 at) ↔
@@ -79,7 +79,7 @@ module _ (value : List ℕ) (at : ℕ) where
           (subs, subst (λ (i : ℕ). SubsBefore value i subs) end p, inr (sym end, u))
       | accepted subs p u is ↦ absurd (omega (arith, number_of (sym is ∙ q)))
     ],
-    λ (subs, p, w). ⊎_elim (λ (h, e). ap (λ (c : LinkCost). c.answer) (refuses 29 p h e)) (λ (end, u). at_the_end subs p end u) w,
+    λ (subs, p, w). ⊎_elim (λ (h, e). ap (λ (c : CostAnswer). c.answer) (refuses 29 p h e)) (λ (end, u). at_the_end subs p end u) w,
   )
     where
       at_the_end : (subs : List SubTlv) → SubsBefore value at subs → at ≡ length value → (OneUsable subs → ⊥) → (costing value).answer ≡ answer 29 at
@@ -87,7 +87,7 @@ module _ (value : List ℕ) (at : ℕ) where
           let p' : SubsBefore value (length value) subs = subst (λ (i : ℕ). SubsBefore value i subs) end p in
           let g = gone p' in
           elim (either p') [
-            | inl z ↦ ap (λ (c : LinkCost). c.answer) (costless p' z) ∙ ap (answer 29) (sym end)
+            | inl z ↦ ap (λ (c : CostAnswer). c.answer) (costless p' z) ∙ ap (answer 29) (sym end)
             | inr n ↦ absurd (u (of_use g.kept g.ahead.kept n))
           ]
 
@@ -101,7 +101,7 @@ module _ (value : List ℕ) (at : ℕ) where
     ],
     λ (none, (subs, p, u)).
         let g = gone p in
-        ap (λ (c : LinkCost). c.answer) (costly p (by_use g.kept g.ahead.kept u)) ∙ ap (answer 0) (sym none),
+        ap (λ (c : CostAnswer). c.answer) (costly p (by_use g.kept g.ahead.kept u)) ∙ ap (answer 0) (sym none),
   )
 
   pub answers_at : CostSays value at
@@ -123,12 +123,12 @@ pub costs_returned : CostsReturned
 unfolding refused_cost
 costs_returned value z = elim (ends value) [
   | faulty at number subs p h e ↦
-      let is : number ≡ 0 = sym (ap (λ (c : LinkCost). c.answer.number) (refuses number p h e)) ∙ z in
+      let is : number ≡ 0 = sym (ap (λ (c : CostAnswer). c.answer.number) (refuses number p h e)) ∙ z in
       absurd (⊎_elim (λ l. omega arith) (λ l. omega arith) (numbers (drop at value) number e))
   | whole subs p ↦
       let g = gone p in
       elim (either p) [
-        | inl free ↦ absurd (omega (arith, sym (ap (λ (c : LinkCost). c.answer.number) (costless p free)) ∙ z))
+        | inl free ↦ absurd (omega (arith, sym (ap (λ (c : CostAnswer). c.answer.number) (costless p free)) ∙ z))
         | inr n ↦ rw (costly p n) (subs, p, g.kept, cost-of g.kept g.ahead.kept n)
       ]
 ]
@@ -139,6 +139,6 @@ refused_zero value f = elim (ends value) [
   | faulty at number subs p h e ↦ rw (refuses number p h e) (record { cost = refl; link = refl })
   | whole subs p ↦ elim (either p) [
     | inl z ↦ rw (costless p z) (record { cost = refl; link = refl })
-    | inr n ↦ absurd (f (ap (λ (c : LinkCost). c.answer.number) (costly p n)))
+    | inr n ↦ absurd (f (ap (λ (c : CostAnswer). c.answer.number) (costly p n)))
   ]
 ]

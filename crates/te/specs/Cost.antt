@@ -5,13 +5,18 @@ use Rattle.std.specs.Float.{nan, inf, fin}
 use Rattle.std.specs.Float.Ieee.{up, down}
 use Rattle.std.specs.Prelude.{Option, Some, None, Result, Ok, Err}
 use Rattle.topology_types.specs.declared.Refusal.{Refusal}
-use Rattle.topology_types.specs.Outcome.{Answer, answer, number_of}
+use Rattle.topology_types.specs.Outcome.{answer, number_of}
 use Rattle.te.specs.SubTlvs.{Found, Refused, Skipped, Is}
 use Rattle.te.specs.declared.SubTlv.{SubTlv}
 use Rattle.te.specs.declared.SubTlv.TheVariants.{TeMetric, MaxBandwidth, Reservable}
 use Rattle.te.specs.declared.LinkRecord.{LinkRecord}
 use Rattle.te.specs.declared.LinkCost as code
+use Rattle.te.specs.declared.CostAnswer.{CostAnswer}
 use Rattle.te.specs.SubTlvs.{span_of, sub_in}
+
+-- what a value answers: a number and an "at", the cost and the record
+abbrev pub LinkCost : Type 0
+LinkCost = CostAnswer
 
 -- 02, #108: absent fields are 0
 unfoldable pub nothing : LinkRecord
@@ -76,18 +81,12 @@ abbrev pub some_cost : ℕ → Option ℕ
 some_cost zero = None
 some_cost (suc c) = Some (suc c)
 
--- What a value answers: a number and an "at", the cost and the record.
-pub record LinkCost : Type 0 where
-  pub answer : Answer
-  pub cost : ℕ
-  pub link : LinkRecord
-
 -- 02, #108: refused, cost and record are all 0
-unfoldable pub refused_cost : ℕ → ℕ → LinkCost
+unfoldable pub refused_cost : ℕ → ℕ → CostAnswer
 refused_cost number at = record { answer = answer number at; cost = 0; link = nothing }
 
 -- 02, #108: the answer carries the cost and the record; 29 at the end where neither 5 nor 6 can be used
-unfoldable pub concluded : ℕ → LinkRecord → LinkCost
+unfoldable pub concluded : ℕ → LinkRecord → CostAnswer
 concluded end r = cond (eqb (record_cost r) 0) (refused_cost 29 end) (record { answer = answer 0 0; cost = record_cost r; link = r })
 
 -- the number of a fault, 0 where there is none
@@ -104,7 +103,7 @@ added_sub r (Is s) = gathered r s
 
 -- 02, #108: the sub-TLVs from an offset on, in turn, with what was gathered before; the first `skipped` bytes still belong to the one before. The first
 -- fault decides, at the sub-TLV.
-unfoldable pub taken_from : ℕ → ℕ → LinkRecord → List ℕ → LinkCost
+unfoldable pub taken_from : ℕ → ℕ → LinkRecord → List ℕ → CostAnswer
 taken_from at skipped r [] = concluded at r
 taken_from at zero r (byte ∷ rest) =
     let found = sub_in (byte ∷ rest) in
@@ -112,10 +111,10 @@ taken_from at zero r (byte ∷ rest) =
 taken_from at (suc skipped) r (byte ∷ rest) = taken_from (at + 1) skipped r rest
 
 -- 02, #108: what the value of a Link TLV answers
-unfoldable pub costing : List ℕ → LinkCost
+unfoldable pub costing : List ℕ → CostAnswer
 costing value = taken_from 0 0 nothing value
 
 -- 02, #108: the answer that the call's result stands for
-abbrev pub costing_of : Result code.LinkCost Refusal → LinkCost
+abbrev pub costing_of : Result code.LinkCost Refusal → CostAnswer
 costing_of (Ok c) = record { answer = answer 0 0; cost = c.cost; link = c.link }
 costing_of (Err r) = refused_cost (number_of r.fault) r.at

@@ -7,7 +7,7 @@ use Rattle.std.specs.Float.Ieee.{up, down, of_bits, to_bits}
 use Rattle.network.specs.Lists.{every, same_numbers}
 use Rattle.stream_rules.specs.Stream.{in_bytes}
 use Rattle.te.specs.declared.LinkRecord.{LinkRecord}
-use Rattle.te.specs.Cost.{LinkCost}
+use Rattle.te.specs.declared.CostAnswer.{CostAnswer}
 use Rattle.te.specs.Cost.{costing}
 
 pub data Fact : Type 0 where
@@ -29,7 +29,7 @@ unfoldable pub fields : LinkRecord → List ℕ
 fields r =
     field r.hasmetric r.metric ++ field r.hasmaximum (to_bits binary32 r.maximum) ++ field r.hasreservable (to_bits binary32 r.reservable)
 
-unfoldable pub outcome : LinkCost → List ℕ
+unfoldable pub outcome : CostAnswer → List ℕ
 outcome c = c.answer.number ∷ c.answer.at ∷ c.cost ∷ fields c.link
 
 unfoldable pub worth_is : Float → ℕ → ℕ → Bool

@@ -13,7 +13,7 @@ use Rattle.topology_types.specs.Outcome.{answer}
 use Rattle.te.specs.SubTlvs.{Found, Refused, Skipped, Is}
 use Rattle.te.specs.declared.SubTlv.{SubTlv}
 use Rattle.te.specs.declared.SubTlv.TheVariants.{TeMetric, MaxBandwidth, Reservable}
-use Rattle.te.specs.Cost.{LinkCost}
+use Rattle.te.specs.declared.CostAnswer.{CostAnswer}
 
 -- 02, #108, 28: a bandwidth can be used if and only if it is not below 1 and finite, by the comparisons of IEEE 754 with 1 and with the infinity
 abbrev pub UsableEach : Type 0
@@ -147,7 +147,7 @@ CostsReturned = (value : List ℕ) → (costing value).answer.number ≡ 0 →
     (subs : List SubTlv) × SubsBefore value (length value) subs × RecordOf subs (costing value).link × CostOf (costing value).link (costing value).cost
 
 -- 02, #108: refused, all are 0
-pub record Zeros (c : LinkCost) : Type 0 where
+pub record Zeros (c : CostAnswer) : Type 0 where
   pub cost : c.cost ≡ 0
   pub link : c.link ≡ record {
     metric = 0;

@@ -9,7 +9,7 @@ ghost use Rattle.te.specs.Cost.{record_cost, some_cost, costing, costing_of};
 ghost use Rattle.te.specs.Cost as said;
 ghost use Rattle.te.specs.Theorems.{Kept};
 
-use topology_types::{Fault, Refusal};
+use topology_types::{Answer, Fault, Refusal};
 
 // A sub-TLV, one of three cases: bandwidths are in bytes per second. Its cases and their fields are 01's (Forms by place).
 #[derive(Clone, Copy)]
@@ -35,6 +35,43 @@ pub struct LinkRecord {
 pub struct LinkCost {
     pub cost: u16,
     pub link: LinkRecord,
+}
+
+// What a value answers as one value: refused, cost and record are all 0.
+#[derive(Clone, Copy)]
+pub struct CostAnswer {
+    pub answer: Answer,
+    pub cost: u16,
+    pub link: LinkRecord,
+}
+
+impl CostAnswer {
+    pub fn of(found: Result<LinkCost, Refusal>) -> CostAnswer
+        ensures { result ≡ costing_of found }
+    {
+        match found {
+            Ok(LinkCost { cost, link }) => CostAnswer {
+                answer: Answer { number: 0, at: 0 },
+                cost,
+                link,
+            },
+            Err(refusal) => CostAnswer::zeros(refusal),
+        }
+    }
+
+    // The answer of a refusal, and zeros.
+    #[tactic(auto, unfolding(crate::specs::Cost::refused_cost))]
+    fn zeros(refusal: Refusal) -> CostAnswer
+        ensures { result ≡ costing_of (Err refusal) }
+    {
+        let answer = refusal.answer();
+        let link = LinkRecord::nothing();
+        CostAnswer {
+            answer,
+            cost: 0,
+            link,
+        }
+    }
 }
 
 impl LinkRecord {
@@ -108,4 +145,11 @@ pub fn cost(value: &[u8]) -> Result<LinkCost, Refusal>
     }
     let cost = link.cost().ok_or(Fault::UnusableSubTlvs.at(at))?;
     Ok(LinkCost { cost, link })
+}
+
+// The same as one value.
+pub fn cost_or_zeros(value: &[u8]) -> CostAnswer
+    ensures { result ≡ costing value.now }
+{
+    CostAnswer::of(cost(value))
 }

@@ -1,20 +1,57 @@
 -- What the tests and the digits of a field of bytes say, each as a fact of the text.
 -- Assumes nothing.
-use Prim.Native.Nat.{ℕ, ◌+◌, ◌*◌, ◌/◌, ◌%◌, ◌≤◌, ◌<◌}
-use mathlib.Core.Bool.{Bool, true, false, ◌&&◌}
+use Prim.Native.Nat.{ℕ, ◌+◌, ◌-◌, ◌*◌, ◌/◌, ◌%◌, ◌≤◌, ◌<◌}
+use mathlib.Core.Bool.{Bool, true, false, ◌&&◌, ◌||◌}
 use mathlib.Core.List.{List, [], ◌∷◌}
-use mathlib.Core.Logic.{◌≢◌}
+use mathlib.Core.Logic.{◌≢◌, ◌⊎◌, inl, inr}
 use mathlib.Core.Path.{◌≡◌, refl, ap, sym, subst, ◌∙◌}
 use native.Mathlib.Omega.{arith}
-use borrow.Author.Tests.{ne_eqb, le-leb, lt-leb, eqb-true}
+use borrow.Author.Tests.{eq-eqb, ne_eqb, le-leb, lt-leb, leb-true, eqb-true}
 use lib.Dec.{T, eqb, leb}
 use lib.ListN.{length, get_or, take, drop}
 use lib.Seq.{sets, length-sets}
 use Rattle.network.specs.Lists.{every, same_numbers}
 use Rattle.std.proofs.Common.{Some, None}
+use Rattle.text.specs.Numbers.{decimal}
 use Rattle.text.specs.Hex.{none, hexadecimal, worth, bytes_of, in_hex, byte_count, bytes}
 use Rattle.text.proofs.Scan.{rest, no_rest, every_at, and_left, and_right, length_same}
-use Rattle.text.proofs.Stores.{start}
+use Rattle.text.proofs.Stores.{sets_none, start}
+use Rattle.text.proofs.Numbers.{below_digits, above_digits, among_digits, digit_fact}
+
+module _ (c : ℕ) where
+  pub below_hex : c < 48 → hexadecimal c ≡ false
+  unfolding hexadecimal
+  below_hex h = let l : leb 97 c ≡ false = lt-leb 97 c (omega arith) in rw (below_digits c h, l)
+
+  pub digit_hex : 48 ≤ c → c ≤ 57 → hexadecimal c ≡ true
+  unfolding hexadecimal
+  digit_hex h k = rw (among_digits c h k)
+
+  pub between_hex : 57 < c → c < 97 → hexadecimal c ≡ false
+  unfolding hexadecimal
+  between_hex h k = rw (above_digits c h, lt-leb 97 c k)
+
+  pub letter_hex : 57 < c → 97 ≤ c → hexadecimal c ≡ leb c 102
+  unfolding hexadecimal
+  letter_hex h k = rw (above_digits c h, le-leb 97 c k)
+
+  pub hex_fact : hexadecimal c ≡ true → ((48 ≤ c) × (c ≤ 57)) ⊎ ((97 ≤ c) × (c ≤ 102))
+  unfolding hexadecimal
+  hex_fact e = cases (decimal c) refl (leb 97 c && leb c 102) refl e
+    where
+      cases : (a : Bool) → decimal c ≡ a → (b : Bool) → (leb 97 c && leb c 102) ≡ b → (a || b) ≡ true →
+          ((48 ≤ c) × (c ≤ 57)) ⊎ ((97 ≤ c) × (c ≤ 102))
+      cases true d b l t = inl (digit_fact c d)
+      cases false d true l t = inr (leb-true 97 c (and_left (leb 97 c) (leb c 102) l), leb-true c 102 (and_right (leb 97 c) (leb c 102) l))
+      cases false d false l t = absurd (subst T (sym t) tt)
+
+  pub worth_digit : c ≤ 57 → worth c ≡ c - 48
+  unfolding worth
+  worth_digit h = rw (le-leb c 57 h)
+
+  pub worth_letter : 57 < c → worth c ≡ c - 87
+  unfolding worth
+  worth_letter h = rw (lt-leb c 57 h)
 
 module _ (s : List ℕ) where
   pub too_short : length s < 2 → in_hex s ≡ false
@@ -24,6 +61,10 @@ module _ (s : List ℕ) where
   pub odd : 2 ≤ length s → length s % 2 ≢ 0 → in_hex s ≡ false
   unfolding in_hex
   odd h e = rw (le-leb 2 (length s) h, ne_eqb (length s % 2) 0 e)
+
+  pub if_even : 2 ≤ length s → length s % 2 ≡ 0 → in_hex s ≡ every hexadecimal s
+  unfolding in_hex
+  if_even h e = rw (le-leb 2 (length s) h, eq-eqb (length s % 2) 0 e)
 
   pub even : in_hex s ≡ true → length s % 2 ≡ 0
   unfolding in_hex
@@ -96,9 +137,21 @@ counted s n e = dash (same_numbers s none) refl
         (ap length (none_bytes s d) ∙ m, omega arith)
     dash false d = digits d (in_hex s) refl
 
--- the bytes put at the start of a buffer: as many as are counted stand there
+-- a field that holds no count holds no bytes
+wrong-bytes : (s : List ℕ) → byte_count s ≡ None → bytes s ≡ []
+wrong-bytes s e = cases (same_numbers s none) refl (in_hex s) refl
+  where
+    cases : (d : Bool) → same_numbers s none ≡ d → (b : Bool) → in_hex s ≡ b → bytes s ≡ []
+    cases true d b t = none_bytes s d
+    cases false d true t = let never : ◌≡◌ {A = ℕ} 0 1 = cc (hex_count s d t) in absurd (omega arith)
+    cases false d false t = not_hex s t
+
+-- the bytes put at the start of a buffer: as many as are counted stand there, and if none are the buffer stays
 module _ (s entry exit : List ℕ) (e : exit ≡ sets entry 0 (bytes s)) where
   pub decoded : (n : ℕ) → length s ≤ 2 * length entry → byte_count s ≡ Some n → (take n exit ≡ bytes s) × (n ≤ length exit)
   decoded n h c =
       let m = counted s n c in
       (start entry (bytes s) exit n e m.0 (omega arith), omega (arith, ap length e ∙ length-sets entry 0 (bytes s)))
+
+  pub not_decoded : byte_count s ≡ None → exit ≡ entry
+  not_decoded c = e ∙ sets_none entry 0 (bytes s) (wrong-bytes s c)

@@ -1,12 +1,12 @@
 -- A text put into a buffer byte by byte: each store leaves the rest of the text to put, and texts put one behind the other are one text.
 -- Assumes nothing.
 use Prim.Native.Nat.{ℕ, suc, ◌+◌, ◌-◌, ◌≤◌}
-use mathlib.Core.List.{List, [], ◌∷◌, ◌++◌}
+use mathlib.Core.List.{List, [], ◌∷◌, ◌++◌, append-nil}
 use mathlib.Core.Path.{◌≡◌, ◌∙◌, sym, ap, refl}
 use native.Mathlib.Nat.{add-zero, zero-add, add-suc, suc-add}
 use native.Mathlib.Numerals.{add-one}
 use native.Mathlib.Omega.{arith}
-use lib.ListN.{length, set, take, drop, length-append}
+use lib.ListN.{length, set, take, drop, length-append, drop_of_length-le}
 use lib.Seq.{sets, sets-eq, take-append_seam, length-sets}
 use Rattle.std.proofs.Common.{drop-drop, append_assoc}
 use Rattle.std.specs.Borrow.{MutBor}
@@ -33,6 +33,10 @@ behind {b} {at} {s} {r} {b'} {t} p q = record {
   after = omega (arith, length-append s t);
   stored = q.stored ∙ cc (p.after, p.stored, sets_behind b at s t);
 }
+
+-- a text as long as the buffer
+pub sets_whole : (b s : List ℕ) → length b ≡ length s → sets b 0 s ≡ s
+sets_whole b s l = sets-eq s b 0 (omega arith) ∙ rw (drop_of_length-le b {i = 0 + length s} (omega arith), append-nil)
 
 -- the start of a buffer, where a text was put
 pub start : (b s b' : List ℕ) (n : ℕ) → b' ≡ sets b 0 s → length s ≡ n → n ≤ length b → take n b' ≡ s

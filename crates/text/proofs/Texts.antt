@@ -8,14 +8,29 @@ use mathlib.Core.Path.{◌≡◌, refl, sym}
 use native.Mathlib.Decide.{dec_lt}
 use native.Mathlib.Nat.{pow-suc, one-le-pow, pow-le-pow_right}
 use native.Mathlib.Omega.{arith}
-use borrow.Author.Tests.{lt-ltb, le-ltb}
+use borrow.Author.Tests.{lt-ltb, le-ltb, le-leb, lt-leb}
 use lib.Dec.{ltb}
 use lib.ListN.{length, get_or, take, length-append}
+use Rattle.std.proofs.Common.{Some, None}
 use Rattle.std.proofs.lemmas.List.{take_more}
 use Rattle.io.specs.Digits.{hex_digit_ascii, last_digits}
 use Rattle.text.specs.Numbers.{final_digits, number_text}
 use Rattle.text.specs.Hex.{none, digit, hex_of, bytes_text}
+use Rattle.text.specs.Inner.{Put, Gathered, fits, count_with, buffer_with}
 use Rattle.text.specs.Lines.{answer_text, answer_line, word_line, buffer_line, newline}
+
+module _ (buffer : List ℕ) (count : ℕ) (part : List ℕ) where
+  pub too-long : length buffer < count + length part → Gathered buffer count part None buffer
+  unfolding count_with buffer_with fits
+  too-long h =
+      let l = lt-leb (count + length part) (length buffer) h in
+      record { counted = rw (l); stored = rw (l) }
+
+  pub one_more : {r : ℕ} {exit : List ℕ} → count + length part ≤ length buffer → Put buffer count part r exit → Gathered buffer count part (Some r) exit
+  unfolding count_with buffer_with fits
+  one_more h p =
+      let l = le-leb (count + length part) (length buffer) h in
+      record { counted = rw (l, p.after); stored = rw (l) p.stored }
 
 module _ (n : ℕ) where
   pub digit_low : n < 10 → digit n ≡ 48 + n

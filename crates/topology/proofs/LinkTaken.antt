@@ -20,7 +20,7 @@ use Rattle.topology_types.specs.declared.Half.{Half}
 use Rattle.topology_types.specs.declared.Link.{Link}
 use Rattle.topology_types.specs.Topology.{seen}
 use Rattle.topology_types.proofs.Arcs.{ending, arcs_more, arcs_stay, ends_at}
-use Rattle.stream_rules.specs.Reading.{Reading}
+use Rattle.stream_rules.specs.declared.Reading.{Reading}
 use Rattle.stream_rules.specs.Record.{Record}
 use Rattle.stream_rules.specs.Record as record_of
 use Rattle.stream_rules.specs.Halves.{StreamListing, first_half, second_half, same_half, opposite, link_of}

@@ -17,7 +17,7 @@ use Rattle.topology_types.specs.declared.Topology.{Topology}
 use Rattle.topology_types.specs.Outcome.{turned_away, given}
 use Rattle.topology_types.specs.Topology.{Contents, no_link, padded, held, zeros}
 use Rattle.topology_sound.specs.Sound.{within}
-use Rattle.stream_rules.specs.Reading.{Reading}
+use Rattle.stream_rules.specs.declared.Reading.{Reading}
 use Rattle.stream_rules.specs.Record.{Record}
 use Rattle.stream_rules.specs.Record as record_of
 use Rattle.stream_rules.specs.Stream.{body_length, records}

@@ -21,7 +21,7 @@ use Rattle.topology_types.proofs.Arcs.{arcs_listed}
 use Rattle.topology_sound.specs.Sound.{sound}
 use Rattle.topology_sound.specs.Theorems.{Sound}
 use Rattle.topology_sound.proofs.Sound.{within_fact, routers_listed, links_listed, sound_exact}
-use Rattle.stream_rules.specs.Reading.{Reading}
+use Rattle.stream_rules.specs.declared.Reading.{Reading}
 use Rattle.stream_rules.specs.Stream.{in_bytes}
 use Rattle.stream_rules.specs.Halves.{first_half, second_half}
 use Rattle.stream_rules.specs.Reading.{accepted_reading, reading}

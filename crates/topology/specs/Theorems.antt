@@ -10,7 +10,7 @@ use Rattle.topology_sound.specs.Sound.{sound}
 use Rattle.stream_rules.specs.Reading.{reading, in_turn}
 use Rattle.stream_rules.specs.Theorems.{Bytes, success, refused, four_bytes, two_bytes, half_of}
 use Rattle.topology.specs.Written.{joined_over, written, writing}
-use Rattle.stream_rules.specs.Reading.{Reading}
+use Rattle.stream_rules.specs.declared.Reading.{Reading}
 use Rattle.stream_rules.specs.Record as record_of
 use Rattle.stream_rules.specs.Stream.{records}
 use Rattle.topology.specs.OldLimit.{with_old_limit_lem}

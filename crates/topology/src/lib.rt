@@ -8,11 +8,11 @@ ghost use Rattle.topology_types.specs.Outcome.{answer_of};
 ghost use Rattle.topology.specs.Written.{writing};
 ghost use Rattle.topology.specs.OldLimit.{with_old_limit_lem};
 
-pub use stream::read;
+pub use stream::{Reading, read, read_or_zeros};
 pub use topology_sound::is_sound;
 pub use topology_types::{
-    DEFAULT_NEXT_HOPS, Fault, LINKS, Link, NEIGHBOURS, NEXT_HOPS, Place, ROUTERS, Rank, Refusal,
-    Topology,
+    Answer, DEFAULT_NEXT_HOPS, Fault, LINKS, Link, NEIGHBOURS, NEXT_HOPS, Place, ROUTERS, Rank,
+    Refusal, Topology,
 };
 
 // 02, #101: the next-hop limit that a stream from before it means where it gives none.

@@ -9,7 +9,8 @@ use lib.Dec.{T, ltb, ltb→lt}
 use Rattle.network.proofs.Tests.{as_true, as_false}
 use Rattle.topology_types.specs.declared.Topology.{Topology}
 use Rattle.topology_types.specs.declared.Refusal.{Refusal}
-use Rattle.topology_types.specs.Outcome.{Answer, answer, number_of, refused}
+use Rattle.topology_types.specs.declared.Answer.{Answer}
+use Rattle.topology_types.specs.Outcome.{answer, number_of, refused}
 use Rattle.topology_types.proofs.Outcome.{numbered}
 use Rattle.topology_sound.specs.Sound.{sound}
 use Rattle.topology_sound.specs.Place.{on_place}

@@ -9,7 +9,7 @@ ghost use Rattle.topology_types.specs.Outcome.{answer, tested};
 ghost use Rattle.topology_sound.specs.Sound.{sound};
 ghost use Rattle.topology_sound.specs.Place.{on_place};
 
-use topology_types::{Fault, Place, Refusal, Topology};
+use topology_types::{Answer, Fault, Place, Refusal, Topology};
 
 // Whether reading could return this topology: if not, refusal 14.
 pub fn is_sound(t: Topology) -> bool
@@ -39,4 +39,11 @@ pub fn test_place(t: Topology, place: Place) -> Result<(), Refusal>
         return Err(Fault::NoSuchPlace.at(u));
     }
     Ok(())
+}
+
+// The same as an answer: 0 at 0 where both pass.
+pub fn refused_at(t: Topology, place: Place) -> Answer
+    ensures { result ≡ on_place answer t place.0 (answer 0 0) }
+{
+    Answer::of_test(test_place(t, place))
 }

@@ -5,7 +5,8 @@ use Rattle.topology_types.specs.declared.Fault.{Fault}
 use Rattle.topology_types.specs.declared.Fault.TheVariants.{StreamCutShort, UnknownKind, RouterListedBefore, TooManyRouters, PlaceNotListed, LinkToItself, CostZero, PairLinkedAlready, TooManyLinks, TooManyNeighbours, ByteAfterEnd, NoRouter, UnsoundTopology, NoSuchPlace, LimitOutOfRange, OrderLength, OrderEntry, FirstNotDestination, NoCandidate, TableNotAccepted, StatesLength, StateOverOne, BufferTooShort, TooManyPaths, MalformedLsa, WrongChecksum, UnusableBandwidth, UnusableSubTlvs}
 use Rattle.topology_types.specs.declared.Refusal.{Refusal}
 use Rattle.topology_types.specs.Theorems.{AnswersTell}
-use Rattle.topology_types.specs.Outcome.{Answer, number_of, refused}
+use Rattle.topology_types.specs.declared.Answer.{Answer}
+use Rattle.topology_types.specs.Outcome.{number_of, refused}
 
 pub numbered : (f : Fault) → 0 < number_of f
 numbered StreamCutShort = omega arith

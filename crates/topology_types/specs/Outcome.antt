@@ -2,15 +2,12 @@
 -- Assumes nothing.
 use Rattle.std.specs.Prelude.{ℕ, cond, List, [], ◌∷◌, ◌++◌, ltb, length, drop}
 use Rattle.std.specs.Prelude.{Result, Ok, Err}
+use Rattle.topology_types.specs.declared.Answer.{Answer}
 use Rattle.topology_types.specs.declared.Fault.{Fault}
 use Rattle.topology_types.specs.declared.Fault.TheVariants.{StreamCutShort, UnknownKind, RouterListedBefore, TooManyRouters, PlaceNotListed, LinkToItself, CostZero, PairLinkedAlready, TooManyLinks, TooManyNeighbours, ByteAfterEnd, NoRouter, UnsoundTopology, NoSuchPlace, LimitOutOfRange, OrderLength, OrderEntry, FirstNotDestination, NoCandidate, TableNotAccepted, StatesLength, StateOverOne, BufferTooShort, TooManyPaths, MalformedLsa, WrongChecksum, UnusableBandwidth, UnusableSubTlvs}
 use Rattle.topology_types.specs.declared.Refusal.{Refusal}
 
 -- 01, Refusals: an answer is a number and an "at"
-pub record Answer : Type 0 where
-  pub number : ℕ
-  pub at : ℕ
-
 abbrev pub answer : ℕ → ℕ → Answer
 answer number at = record { number = number; at = at }
 

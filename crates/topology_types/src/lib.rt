@@ -3,7 +3,7 @@
 
 ghost use Rattle.std.specs.Prelude.{◌≡◌, []};
 ghost use Rattle.topology_types.specs.Topology.{held};
-ghost use Rattle.topology_types.specs.Outcome.{number_of};
+ghost use Rattle.topology_types.specs.Outcome.{number_of, refused, answer_of, tested};
 
 // The limits of 01, Stations, links and limits. specs/Limits.antt has the same numbers: where one differs, a proof fails.
 pub const ROUTERS: usize = 64;
@@ -98,6 +98,48 @@ pub enum Fault {
 pub struct Refusal {
     pub fault: Fault,
     pub at: usize,
+}
+
+// 01, Refusals: the number, 0 for a success, and where it points: what a result comes to for those who want it as two numbers, as requests and answers in text
+// do.
+#[derive(Clone, Copy, Debug, PartialEq, Eq)]
+pub struct Answer {
+    pub number: u8,
+    pub at: usize,
+}
+
+impl Answer {
+    // That of a call that writes to a buffer.
+    pub fn of(written: Result<usize, Refusal>) -> Answer
+        ensures { result ≡ answer_of written }
+    {
+        match written {
+            Ok(at) => Answer { number: 0, at },
+            Err(refusal) => refusal.answer(),
+        }
+    }
+
+    // That of a call that writes to none.
+    pub fn of_test<T: Drop>(returned: Result<T, Refusal>) -> Answer
+        ensures { result ≡ tested returned }
+    {
+        match returned {
+            Ok(_) => Answer { number: 0, at: 0 },
+            Err(refusal) => refusal.answer(),
+        }
+    }
+}
+
+impl Refusal {
+    // Its number, and where it points.
+    pub fn answer(self) -> Answer
+        ensures { result ≡ refused self }
+    {
+        Answer {
+            number: self.fault.number(),
+            at: self.at,
+        }
+    }
 }
 
 impl Fault {

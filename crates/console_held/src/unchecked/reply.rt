@@ -1,6 +1,6 @@
 // What a line answers, before it is text.
 use forwarding::Packet;
-use topology::Refusal;
+use topology_types::Answer;
 
 // What became of a packet.
 #[derive(Clone, Copy)]
@@ -11,14 +11,14 @@ pub enum Fate {
     Dropped,
 }
 
-// That the line is no request; what a call answers that writes nothing; what one answers that is lent a buffer, and the buffer as it left it; a line but
-// for its end; what became of a packet, as it is now, or that the call refused.
+// That the line is no request; a call's answer; that of one that is lent a buffer, and the buffer as it left it; a line but for its end; or what became of a
+// packet, as it is now, or that the call refused.
 #[derive(Clone, Copy)]
 pub enum Reply<'a> {
     Error,
-    Says(Result<(), Refusal>),
-    Leaves(Result<usize, Refusal>, &'a [u8]),
+    Says(Answer),
+    Leaves(Answer, &'a [u8]),
     Line(&'a [u8]),
     Finds(Fate, Packet),
-    Refused(Refusal),
+    Refused(Answer),
 }

@@ -47,7 +47,7 @@ pub(crate) fn cover<'a>(t: Topology, buffer: &'a mut [u8]) -> Reply<'a>
             let end = figures_in(buffer, &figures);
             Reply::Line(&buffer[..end - 1])
         }
-        Err(refusal) => Reply::Says(Err(refusal)),
+        Err(refusal) => Reply::Says(refusal.answer()),
     }
 }
 

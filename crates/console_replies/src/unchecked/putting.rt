@@ -19,6 +19,13 @@ use text::unchecked::lines::Page;
 // The limit of specs/Calls.antt.
 pub const ANSWER: usize = 2 * ROOM + 64;
 
+// Room for a line that answers.
+pub fn room_for_answer() -> [u8; ANSWER]
+    ensures { most_answer ≡ length result }
+{
+    text::filled(0)
+}
+
 // Puts numbers, one space between.
 fn put_spaced(page: &mut Page<'_>, numbers: &[usize])
     requires { (1 ≤ length numbers.now) × Room page.old (21 * length numbers.now) }
@@ -78,17 +85,11 @@ fn put_text(reply: Reply, page: &mut Page<'_>)
 {
     match reply {
         Reply::Error => page.put_error(),
-        Reply::Says(Ok(())) => page.put_answer_line(0, 0),
-        Reply::Says(Err(refusal)) => page.put_answer_line(refusal.fault.number(), refusal.at),
-        Reply::Leaves(Ok(written), buffer) => page.put_buffer_line(0, written, buffer),
-        Reply::Leaves(Err(refusal), buffer) => {
-            page.put_buffer_line(refusal.fault.number(), refusal.at, buffer)
-        }
+        Reply::Says(answer) => page.put_answer_line(answer.number, answer.at),
+        Reply::Leaves(answer, buffer) => page.put_buffer_line(answer.number, answer.at, buffer),
         Reply::Line(text) => put_line(page, text),
         Reply::Finds(fate, packet) => put_found(page, fate, packet),
-        Reply::Refused(refusal) => {
-            page.put_word_line(b"refused", refusal.fault.number(), refusal.at)
-        }
+        Reply::Refused(answer) => page.put_word_line(b"refused", answer.number, answer.at),
     }
 }
 

@@ -1,9 +1,10 @@
 // The requests that leave what is held as it is.
 ghost use Rattle.std.specs.Prelude.{◌≡◌, ◌≤◌, length};
 ghost use Rattle.std.specs.Fn.{FnOnceReturnsAtMut};
+ghost use Rattle.topology_types.specs.Outcome.{answer_of};
 ghost use Rattle.forwarding_rules.specs.Calls.{walk_says};
 ghost use Rattle.console_held.specs.Questions.{most_room};
-ghost use Rattle.console_held.specs.Inner.{Replies};
+ghost use Rattle.console_held.specs.Inner.{Replies, question_in};
 ghost use Rattle.console_replies.specs.Calls.{walk_text, lent};
 ghost use Rattle.console_replies.specs.Inner.{reply_to};
 
@@ -12,6 +13,7 @@ use console_held::unchecked::query::Query;
 use console_held::unchecked::reply::{Fate, Reply};
 use forwarding::Walk;
 use topology::{Refusal, Topology};
+use topology_types::Answer;
 
 #[derive(Clone, Copy)]
 pub enum Call {
@@ -38,11 +40,11 @@ fn leaves<'a, F: FnOnce(&mut [u8]) -> Result<usize, Refusal>>(
     requires room { room ≤ most_room }
     requires filled { buffer.old ≡ lent most_room }
     requires calls { F.IsAlwaysCallable call }
-    ensures { (answer : _) × (left : _) × (result ≡ Reply.Leaves answer left) × FnOnceReturnsAtMut F.FnOnce call (lent room) answer left.now × (length left.now ≡ room) }
+    ensures { (answer : _) × (left : _) × (result ≡ Reply.Leaves (answer_of answer) left) × FnOnceReturnsAtMut F.FnOnce call (lent room) answer left.now × (length left.now ≡ room) }
 {
     let out = &mut buffer[..room];
     let answer = call(out);
-    Reply::Leaves(answer, out)
+    Reply::Leaves(Answer::of(answer), out)
 }
 
 // What a walk says.
@@ -52,7 +54,7 @@ fn walk_reply(walked: Result<Walk, Refusal>) -> Reply<'static>
     match walked {
         Ok(Walk::Delivered(p)) => Reply::Finds(Fate::Delivered, p),
         Ok(Walk::Dropped(p)) => Reply::Finds(Fate::Dropped, p),
-        Err(refusal) => Reply::Refused(refusal),
+        Err(refusal) => Reply::Refused(refusal.answer()),
     }
 }
 
@@ -65,7 +67,7 @@ pub fn reply_by<'a>(
 ) -> Reply<'a>
     requires room { q.room ≤ most_room }
     requires filled { buffer.old ≡ lent most_room }
-    ensures { Replies (reply_to call t.now table.now q.entry) result }
+    ensures { Replies (reply_to call t.now table.now (question_in q.entry)) result }
 {
     let t = *t;
     let Query {
@@ -78,9 +80,9 @@ pub fn reply_by<'a>(
     match call {
         Call::Write => leaves(room, buffer, |out| topology::write(t, out)),
         Call::Order => leaves(room, buffer, |out| order::build(t, place, mode, out)),
-        Call::CheckOrder => Reply::Says(order::check(t, place, mode, bytes)),
+        Call::CheckOrder => Reply::Says(Answer::of_test(order::check(t, place, mode, bytes))),
         Call::Fill => leaves(room, buffer, |out| table::fill(t, place, bytes, out)),
-        Call::CheckTable => Reply::Says(table::check(t, table)),
+        Call::CheckTable => Reply::Says(Answer::of_test(table::check(t, table))),
         Call::Greatest => leaves(room, buffer, |out| forwarding::greatest_hops(t, table, out)),
         Call::Walk => walk_reply(forwarding::walk(t, table, place, bytes)),
         Call::Listing => leaves(room, buffer, |out| report::listing(t, place, out)),

@@ -6,7 +6,7 @@ use Rattle.network.specs.Lists.{same_numbers}
 use Rattle.network.specs.Forwarding.{Walk, delivered_at, dropped_at, unfinished_at, start}
 use Rattle.topology_types.specs.Outcome.{Outcome}
 use Rattle.topology_types.specs.declared.Topology.{Topology}
-use Rattle.stream_rules.specs.Reading.{Reading}
+use Rattle.stream_rules.specs.declared.Reading.{Reading}
 use Rattle.stream_rules.specs.Reading.{reading}
 use Rattle.order_standings.specs.declared.Mode.{Mode}
 use Rattle.order.specs.Calls.{building}

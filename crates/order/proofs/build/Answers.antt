@@ -1,12 +1,15 @@
 -- `order::build` meets its contract: the order that is built has as many bytes as there are routers, so the tests are those of building, in turn.
 -- Assumes nothing.
-use Rattle.std.proofs.Common.{◌≡◌, [], ap, ◌∙◌, rules}
+use Rattle.std.proofs.Common.{◌≡◌, [], ap, ◌∙◌, arith, rules}
 use Rattle.std.specs.Prelude.{Err}
 use borrow.Author.Tests.{lt-ltb, le-ltb}
 use Rattle.topology_types.specs.Outcome.{answer_of, given, turned_away}
+use Rattle.topology_sound.proofs.Sound.{sound_exact}
 use Rattle.topology_sound.proofs.Place.{on_place_err, on_place_ok, on_place_next}
 use Rattle.order.specs.Calls.{building}
+use Rattle.distances.proofs.Laid.{laid_out}
 use Rattle.order.proofs.Orders.{order_long}
+use Rattle.order.proofs.Lending.{laid_by, lent, as_many, built}
 use Rattle.order.proofs.build.Goals as goal
 
 pub returns-in_err-test_place : goal.returns-in_err-test_place
@@ -28,15 +31,18 @@ of-a-requires c = (on_place_ok c.args.t c.args.destination.0 c.in_ok-test_place.
 pub distances_for-ds-requires : goal.distances_for-ds-requires
 distances_for-ds-requires c =
     let (good, place) = on_place_ok c.args.t c.args.destination.0 c.in_ok-test_place.ensures in
-    (good, c.of-a.ensures.back, place)
+    ((c.args.t, laid_out good c.of-a.ensures), place)
+
+pub shared_ref_as_front-build : goal.shared_ref_as_front-build
+shared_ref_as_front-build c = ((sound_exact c.args.t).0 (on_place_ok c.args.t c.args.destination.0 c.in_ok-test_place.ensures).0).routers_most
 
 pub build-requires : goal.build-requires
 build-requires c =
-    let (good, place) = on_place_ok c.args.t c.args.destination.0 c.in_ok-test_place.ensures in
-    (record { is-sound = good; holds = c.of-a.ensures; place = place; for_mode = c.distances_for-ds.ensures }, c.if-out-n.false)
+    let g = laid_by c.in_ok-test_place.ensures c.of-a.ensures c.distances_for-ds.ensures in
+    ((c.args.t, lent g), omega (arith, as_many g, c.if-out-n.false))
 
 pub returns : goal.returns
 unfolding building given turned_away
 returns c =
     let (good, place) = on_place_ok c.args.t c.args.destination.0 c.in_ok-test_place.ensures in
-    rw (c.build.ensures, on_place_next, order_long c.args.t good c.args.destination.0 place _ [], le-ltb _ _ c.if-out-n.false)
+    rw (built (laid_by c.in_ok-test_place.ensures c.of-a.ensures c.distances_for-ds.ensures) c.args.out.now c.build.ensures, on_place_next, order_long c.args.t good c.args.destination.0 place _ [], le-ltb _ _ c.if-out-n.false)

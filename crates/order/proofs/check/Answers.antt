@@ -4,6 +4,7 @@ use Rattle.std.proofs.Common.{◌≡◌, ◌∙◌, ap, rules}
 use Rattle.std.specs.Prelude.{Err}
 use Rattle.topology_types.specs.Outcome.{answer, tested}
 use Rattle.topology_sound.proofs.Place.{on_place_err, on_place_ok}
+use Rattle.distances.proofs.Laid.{laid_out}
 use Rattle.order.specs.Calls.{checking}
 use Rattle.order.proofs.Decided.{judged}
 use Rattle.order.proofs.check.Goals as goal
@@ -20,12 +21,12 @@ of-a-requires c = (on_place_ok c.args.t c.args.destination.0 (c.in_ok-test_place
 pub to-ds-requires : goal.to-ds-requires
 to-ds-requires c =
     let (good, place) = on_place_ok c.args.t c.args.destination.0 (c.in_ok-test_place.ensures) in
-    (good, c.of-a.ensures.back, place)
+    ((c.args.t, laid_out good c.of-a.ensures), place)
 
 pub judge-requires : goal.judge-requires
 judge-requires c =
     let (good, place) = on_place_ok c.args.t c.args.destination.0 (c.in_ok-test_place.ensures) in
-    record { is-sound = good; holds = c.of-a.ensures; place = place; settled = c.to-ds.ensures }
+    record { is-sound = good; holds = c.of-a.ensures; place = place; settled = c.to-ds.ensures c.args.t (laid_out good c.of-a.ensures) }
 
 pub returns : goal.returns
 returns c =

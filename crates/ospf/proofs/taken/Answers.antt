@@ -1,89 +1,12 @@
--- A router or a half more is taken in turn.
+-- A router that is refused refuses the whole; else the halves are taken.
 -- Assumes nothing.
-use Rattle.std.specs.Iterator.Adapters.{enumerate_source, enumerate_count}
-use Rattle.std.proofs.Common.{inl, ◌≡◌, ℕ, ◌<◌, ◌+◌, List, [], ◌∷◌, length, get_or, drop, add-one, drop-cons, Ok, Err, refl, sym, ap, ◌∙◌, rules, arith}
-use Rattle.topology_types.specs.declared.Fault.{Fault}
-use Rattle.topology_types.specs.declared.Half.{Half}
+use Rattle.std.proofs.Common.{◌≡◌, Err, rules}
 use Rattle.ospf_lsas.specs.Opened.{lsas_left}
-use Rattle.ospf.specs.Import.{router_of, halves_at, at_last}
-use Rattle.ospf.proofs.Going.{Halving, routed_first, router_off, router_on, routed_end, within_first, place_fits, few_left, ids_fit, half_off, half_on, halving_end}
+use Rattle.ospf.proofs.Going.{routers_refused}
 use Rattle.ospf.proofs.taken.Goals as goal
 
-pub loop-lsa-init : goal.loop-lsa-init
-loop-lsa-init c = (tt, tt, rw c.into_iter-lsa-iterator.ensures.into_iter_gives (routed_first c.new-listing.ensures))
-
-pub loop-lsa-preserved : goal.loop-lsa-preserved
-unfolding router_of
-loop-lsa-preserved c =
-    let w = rw c.in-Some.ensures.steps at c.loop-lsa.invariant.2 in
-    let t = rw c.advertising_router.ensures at c.take_router.ensures in
-    let passed : c.take_router.result ≡ Ok tt = search rules in
-    (tt, tt, router_on w t passed)
-
-pub returns-in_err-map_err : goal.returns-in_err-map_err
-unfolding router_of
-returns-in_err-map_err c =
-    let w = rw c.in-Some.ensures.steps at c.loop-lsa.invariant.2 in
-    let t = rw c.advertising_router.ensures at c.take_router.ensures in
-    let e : c.from_residual.result ≡ Err c.in_err-map_err.field-0.0 = search rules in
-    let (f, was, is) : (f : Fault) × (c.take_router.result ≡ Err f) × (c.in_err-map_err.field-0.0 ≡ record { fault = f; at = c.in-Some.lsa.at }) = search rules in
-    rw (e, is) (router_off w t f was)
-
--- the LSAs are gone through once more, from place 0
-module _ (c : goal.After-into_iter-place-iterator) where
-  again : lsas_left (enumerate_source c.into_iter-place-iterator.result) ≡ lsas_left c.args.lsas
-  again = rw c.into_iter-place-iterator.ensures.into_iter_gives (ap lsas_left c.enumerate-place-items.ensures.source)
-
-  first_place : enumerate_count c.into_iter-place-iterator.result ≡ 0
-  first_place = rw c.into_iter-place-iterator.ensures.into_iter_gives c.enumerate-place-items.ensures.count
-
-  halving : Halving (lsas_left c.args.lsas) c.loop-lsa.listing 0 (lsas_left c.args.lsas)
-  halving = routed_end (rw c.in-None.ensures.steps.0 at c.loop-lsa.invariant.2)
-
-pub loop-place-init-derived : goal.loop-place-init-derived
-loop-place-init-derived c =
-    ((tt, tt, inl (omega (arith, first_place c, ap length (again c), few_left (halving c)))), tt)
-
-pub loop-place-init : goal.loop-place-init
-loop-place-init c = let (can, finite) = loop-place-init-derived c in (can, finite, rw (again c, first_place c) (halving c))
-
-pub overflow_cast-place : goal.overflow_cast-place
-overflow_cast-place c =
-    let (next, at, one, more) = c.in-Some-2.ensures.steps in
-    omega (arith, at, place_fits (rw next at c.loop-place.invariant.2))
-
-pub given-given-requires : goal.given-given-requires
-given-given-requires c =
-    let w = c.loop-place.invariant.2 in
-    rw (c.ids.ensures w.listing w.lists) (ids_fit w)
-
-pub loop-half-init : goal.loop-half-init
-unfolding halves_at
-loop-half-init c =
-    let (next, at, one, more) = c.in-Some-2.ensures.steps in
-    let w = rw (next, sym at) at c.loop-place.invariant.2 in
-    within_first w _ (c.as_slice-half-items.ensures ∙ c.given-given.ensures ∙ rw (c.ids.ensures w.listing w.lists) refl)
-
--- the half at an index, and those behind it
-halves_split : (hs : List Half) (i : ℕ) → i < length hs → drop i hs ≡ get_or hs i (record { from = record { 0 = 0 }; to = record { 0 = 0 }; cost = 0 }) ∷ drop (i + 1) hs
-halves_split hs i h = rw (add-one, drop-cons hs i (record { from = record { 0 = 0 }; to = record { 0 = 0 }; cost = 0 })) refl
-
-pub returns-in_err-map_err-2 : goal.returns-in_err-map_err-2
-returns-in_err-map_err-2 c =
-    let v = rw (halves_split c.as_slice-half-items.result.now c.loop-half.half-index c.loop-half-test.true) at c.loop-half.invariant in
-    let e : c.from_residual-in_err-map_err-2.result ≡ Err c.in_err-map_err-2.field-0.0 = search rules in
-    let (f, was, is) : (f : Fault) × (c.take_half.result ≡ Err f) × (c.in_err-map_err-2.field-0.0 ≡ record { fault = f; at = c.in-Some-2.lsa.at }) = search rules in
-    rw (e, is) (half_off v c.take_half.ensures f was)
-
-pub loop-half-preserved : goal.loop-half-preserved
-loop-half-preserved c =
-    let v = rw (halves_split c.as_slice-half-items.result.now c.loop-half.half-index c.loop-half-test.true) at c.loop-half.invariant in
-    let passed : c.take_half.result ≡ Ok tt = search rules in
-    half_on v c.take_half.ensures passed
-
-pub returns : goal.returns
-unfolding at_last
-returns c =
-    let none : lsas_left (enumerate_source c.loop-place.place-iterator) ≡ [] = search rules in
-    let w = rw none at c.loop-place.invariant.2 in
-    c.ended.ensures w.listing w.lists ∙ halving_end w
+pub returns-in_err-listing : goal.returns-in_err-listing
+returns-in_err-listing c =
+    let e : c.from_residual.result ≡ Err c.in_err-listing.field-0.0 = search rules in
+    let r = c.in_err-listing.field-0.0 in
+    rw e (routers_refused (lsas_left c.args.lsas) r.fault r.at c.in_err-listing.ensures.reads)

@@ -43,7 +43,7 @@ on t table u placed judged =
     record { is-sound = good; accepted = table_passed t table good judged; place = place }
 
 pub gather-requires : goal.gather-requires
-gather-requires c = (on _ _ _ c.in_ok-test_place.ensures c.in_ok-check.ensures, omega (arith, c.filled-paths.ensures.long))
+gather-requires c = (on _ _ _ c.in_ok-test_place.ensures c.in_ok-check.ensures, omega (arith, c.room_for_paths-paths.ensures))
 
 -- the bytes of the paths that were gathered
 bytes : {t : Topology} {table : List ℕ} {u : ℕ} {b : List ℕ} {r : ℕ} {b' : List ℕ} → PathsListed t table u b r b' → length b ≡ 32768 → r ≤ 512 →
@@ -82,5 +82,5 @@ returns c =
       within c.in-Some.ensures.listed few,
       needed c.in-Some.ensures.listed few,
       le-ltb _ _ c.if-out-needed.false,
-      bytes c.in-Some.ensures.listed c.filled-paths.ensures.long few,
+      bytes c.in-Some.ensures.listed (sym c.room_for_paths-paths.ensures) few,
     ) refl

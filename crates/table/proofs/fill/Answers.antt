@@ -4,10 +4,11 @@ use Rattle.std.proofs.Common.{◌≡◌, ◌∙◌, ap, rules}
 use Rattle.std.specs.Prelude.{Err}
 use Rattle.topology_types.specs.Outcome.{answer, answer_of}
 use Rattle.topology_sound.proofs.Place.{on_place_err, on_place_ok}
+use Rattle.distances.proofs.Laid.{laid_out}
 use Rattle.order.specs.Calls.{checking}
 use Rattle.order.proofs.Decided.{judged}
 use Rattle.table_rows.proofs.Layouts.{readable}
-use Rattle.table.proofs.Filling.{measured, few, filling_refused, part_long, part_fillable, filling_short, filling_room, filling_whole}
+use Rattle.table.proofs.Filling.{placed, few, filling_refused, part_long, part_fillable, filling_short, filling_room, filling_whole}
 use Rattle.table.proofs.fill.Goals as goal
 
 pub returns-in_err-test_place : goal.returns-in_err-test_place
@@ -23,10 +24,10 @@ of-a-requires c = (on_place_ok c.args.t c.args.destination.0 c.in_ok-test_place.
 pub to-ds-requires : goal.to-ds-requires
 to-ds-requires c =
     let (good, place) = on_place_ok c.args.t c.args.destination.0 c.in_ok-test_place.ensures in
-    (good, c.of-a.ensures.back, place)
+    ((c.args.t, laid_out good c.of-a.ensures), place)
 
 pub judge-requires : goal.judge-requires
-judge-requires c = measured c.in_ok-test_place.ensures c.of-a.ensures c.to-ds.ensures
+judge-requires c = placed c.in_ok-test_place.ensures c.of-a.ensures c.to-ds.ensures
 
 pub returns-in_err-judge : goal.returns-in_err-judge
 returns-in_err-judge c =
@@ -35,29 +36,29 @@ returns-in_err-judge c =
     ap (λ r. record { answer = answer_of r; buffer = c.args.out.now }) e ∙ filling_refused _ _ _ _ _ (c.in_err-judge.ensures ∙ judged _ _ _ _ good place)
 
 pub row_start-needed-requires : goal.row_start-needed-requires
-row_start-needed-requires c = (readable, few (measured c.in_ok-test_place.ensures c.of-a.ensures c.to-ds.ensures))
+row_start-needed-requires c = (readable, few (placed c.in_ok-test_place.ensures c.of-a.ensures c.to-ds.ensures))
 
 pub returns-then-out-needed : goal.returns-then-out-needed
 returns-then-out-needed c =
-    let m = measured c.in_ok-test_place.ensures c.of-a.ensures c.to-ds.ensures in
+    let m = placed c.in_ok-test_place.ensures c.of-a.ensures c.to-ds.ensures in
     rw c.at.ensures (filling_short m _ c.in_ok-judge.ensures c.args.out.now _ c.row_start-needed.ensures c.if-out-needed.true)
 
 pub reached_count-reached-requires : goal.reached_count-reached-requires
-reached_count-reached-requires c = few (measured c.in_ok-test_place.ensures c.of-a.ensures c.to-ds.ensures)
+reached_count-reached-requires c = few (placed c.in_ok-test_place.ensures c.of-a.ensures c.to-ds.ensures)
 
 pub slice_bounds-fill-end : goal.slice_bounds-fill-end
 slice_bounds-fill-end c =
-    let m = measured c.in_ok-test_place.ensures c.of-a.ensures c.to-ds.ensures in
+    let m = placed c.in_ok-test_place.ensures c.of-a.ensures c.to-ds.ensures in
     part_long m _ c.in_ok-judge.ensures c.reached_count-reached.ensures
 
 pub fill-requires : goal.fill-requires
 fill-requires c =
-    let m = measured c.in_ok-test_place.ensures c.of-a.ensures c.to-ds.ensures in (
+    let m = placed c.in_ok-test_place.ensures c.of-a.ensures c.to-ds.ensures in (
       part_fillable m _ c.in_ok-judge.ensures c.reached_count-reached.ensures,
       filling_room m _ c.in_ok-judge.ensures c.args.out.now _ c.row_start-needed.ensures c.if-out-needed.false,
     )
 
 pub returns : goal.returns
 returns c =
-    let m = measured c.in_ok-test_place.ensures c.of-a.ensures c.to-ds.ensures in
+    let m = placed c.in_ok-test_place.ensures c.of-a.ensures c.to-ds.ensures in
     filling_whole m _ c.in_ok-judge.ensures c.args.out.now _ c.row_start-needed.ensures c.if-out-needed.false c.reached_count-reached.ensures _ c.fill.ensures

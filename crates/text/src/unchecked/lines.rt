@@ -1,12 +1,26 @@
-// The lines that answer, put into a lent slice.
+// Lines: those of the input, gathered part by part, and those that answer, put into a lent slice.
 #![tactic(auto, using(crate::proofs::Texts::lengths))]
 
 ghost use Rattle.std.specs.Prelude.{◌≡◌, ◌+◌, ◌*◌, ◌<◌, length};
 ghost use Rattle.text.specs.Hex.{hex_of, bytes_text};
 ghost use Rattle.text.specs.Hex as hex;
 ghost use Rattle.text.specs.Numbers.{number_text};
+ghost use Rattle.text.specs.Inner.{Gathered};
 ghost use Rattle.text.specs.Page.{Blank, Puts, Room};
 ghost use Rattle.text.specs.Lines.{error_line, answer_text, answer_line, word_line, buffer_line};
+
+// Of a line count bytes are in the buffer: puts a part more behind them, if it fits, and answers how many are there.
+pub fn gather(buffer: &mut [u8], count: usize, part: &[u8]) -> Option<usize>
+    ensures { Gathered buffer.old count part.now result buffer.new }
+{
+    let left = buffer.len().checked_sub(count)?;
+    if left < part.len() {
+        return None;
+    }
+    let end = count + part.len();
+    buffer[count..end].copy_from_slice(part);
+    Some(end)
+}
 
 // A lent slice, and how many of its bytes are filled: each text is put behind the one before.
 #[derive(Drop)]
@@ -57,9 +71,9 @@ impl<'a> Page<'a> {
         requires { Room self.old (2 * length bytes.now) }
         ensures { Puts self.old (hex_of bytes.now) self.new }
     {
-        for b in bytes {
-            self.put(&[digit(*b / 16), digit(*b % 16)]);
-        }
+        let past = self.filled + 2 * bytes.len();
+        encode(bytes, &mut self.bytes[self.filled..past]);
+        self.filled = past;
     }
 
     // Puts bytes as a field.
@@ -130,4 +144,16 @@ fn digit(n: u8) -> u8
     ensures { result ≡ hex.digit n }
 {
     if n < 10 { b'0' + n } else { b'a' - 10 + n }
+}
+
+// Two digits for each byte. An index loop, as in `decode` of hex: with a text put for each byte it took six times the instructions.
+fn encode(bytes: &[u8], out: &mut [u8])
+    requires { length out.old ≡ 2 * length bytes.now }
+    ensures { out.new ≡ hex_of bytes.now }
+{
+    for i in 0..bytes.len() {
+        let b = bytes[i];
+        out[2 * i] = digit(b / 16);
+        out[2 * i + 1] = digit(b % 16);
+    }
 }

@@ -2,6 +2,7 @@
 -- Assumes nothing.
 use Rattle.std.proofs.Common.{arith, ◌∙◌}
 use Rattle.text.specs.Room.{bytes_of_one}
+use Rattle.console_held.specs.Inner.{held_in}
 use Rattle.console_replies.specs.Calls.{lent}
 use Rattle.console.proofs.PutFirst.{put_first}
 use Rattle.console.proofs.answers.respond_to.Goals as goal
@@ -15,7 +16,7 @@ serve-reply-requires-clause-within c = c.asked.ensures.within
 
 pub returns : goal.returns
 returns c =
-    let s = rw (c.asked.ensures.says c.args.held.now) at c.serve-reply.ensures in
+    let s = rw (c.asked.ensures.says (held_in c.args.held.now)) at c.serve-reply.ensures in
     let p = c.put_reply.ensures in
     let first = put_first p.1 (omega (arith, p.0, c.requires.1)) in
     record { held = s.held; within = first.0; text = first.1 ∙ s.replies.says }

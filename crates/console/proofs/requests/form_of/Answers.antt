@@ -1,6 +1,7 @@
 -- The table has the forms, in their order.
 -- Assumes nothing.
-use Rattle.console_held.specs.Inner.{letter, letters, change_to}
+use Rattle.console_held.specs.Kinds.{letter}
+use Rattle.console_held.specs.Inner.{letters, change_to}
 use Rattle.console_replies.specs.Inner.{reply_to}
 use Rattle.console.specs.Answers.{forms, form}
 use Rattle.console.specs.Inner.{answer_to, form_in}

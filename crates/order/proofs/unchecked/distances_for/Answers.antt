@@ -4,7 +4,7 @@ use Rattle.order.proofs.Turn.{settled_serve, zeros_serve}
 use Rattle.order.proofs.unchecked.distances_for.Goals as goal
 
 pub returns-in-ShortestPath : goal.returns-in-ShortestPath
-returns-in-ShortestPath c = settled_serve _ c.to.ensures
+returns-in-ShortestPath c t laid = settled_serve _ (c.to.ensures t laid)
 
 pub returns-in-Free : goal.returns-in-Free
-returns-in-Free c = rw c.in-Free.is (zeros_serve _ _)
+returns-in-Free c t laid = rw c.in-Free.is (zeros_serve _ _)

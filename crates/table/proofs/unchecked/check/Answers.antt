@@ -5,14 +5,16 @@ use Rattle.std.proofs.Common.{◌≡◌, ℕ, List, Bool, true, false, length, a
 use Rattle.std.proofs.Math.Seq.{length-take-le}
 use lib.Dec.{T}
 use Rattle.network.proofs.Tests.{both}
-use Rattle.topology_types.specs.Outcome.{Answer, refused}
+use Rattle.topology_types.specs.declared.Answer.{Answer}
+use Rattle.topology_types.specs.Outcome.{refused}
 use Rattle.topology_sound.proofs.Sound.{sound_exact}
+use Rattle.distances.proofs.Laid.{laid_out}
 use Rattle.table_rows.specs.declared.Layout.{Layout}
 use Rattle.table_rows.specs.Layout.{narrow, row_start_lem, table_length}
 use Rattle.table_rows.proofs.Layouts.{readable}
 use Rattle.table.specs.Calls.{sound_header, table_judging}
 use Rattle.table.proofs.Calling.{ranks_pass, ranks_fail, begins_with, wrong_length, wrong_start, wrong_at, none_at}
-use Rattle.table.proofs.Filling.{measured_at, header_destination, err_number, ok_number}
+use Rattle.table.proofs.Filling.{placed_at, header_destination, err_number, ok_number}
 use Rattle.table.proofs.unchecked.check.Goals as goal
 
 on : {b : Bool} → true ≡ b → T b
@@ -63,12 +65,12 @@ slice_bounds-order-end c = sym (length-take-le _ _ (begins_with _ _ _ c.order_of
 pub to-ds-requires : goal.to-ds-requires
 to-ds-requires c =
     let place = header_destination _ c.requires.0 _ (on c.if-not-header_is_sound.ensures) in
-    (c.requires.0, c.requires.1.back, rw c.destination-destination.ensures place)
+    ((c.args.t.now, laid_out c.requires.0 c.requires.1), rw c.destination-destination.ensures place)
 
 pub judge-judged-requires : goal.judge-judged-requires
 judge-judged-requires c =
     let place = header_destination _ c.requires.0 _ (on c.if-not-header_is_sound.ensures) in
-    measured_at c.requires.0 (rw c.destination-destination.ensures place) c.requires.1 c.to-ds.ensures
+    placed_at c.requires.0 (rw c.destination-destination.ensures place) c.requires.1 c.to-ds.ensures
 
 pub returns-then-is_err : goal.returns-then-is_err
 returns-then-is_err c =
@@ -90,7 +92,7 @@ first_wrong-requires c =
     let passed = ok_number c.judge-judged.result (sym c.is_err.ensures.value ∙ c.if-is_err.false) in
     let (acc, are) = ranks_pass _ c.requires.0 _ place bytes refl (ap (λ (a : Answer). a.number) (sym judged) ∙ passed) in
     record {
-      measured = measured_at c.requires.0 place c.requires.1 (rw c.destination-destination.ensures at c.to-ds.ensures);
+      measured = placed_at c.requires.0 place c.requires.1 (rw c.destination-destination.ensures at c.to-ds.ensures);
       long = whole _ c.of-table.result.laid c.of-table.ensures c.row_start.ensures c.if-length-row_start.false;
       header = on c.if-not-header_is_sound.ensures;
       in_free = acc;

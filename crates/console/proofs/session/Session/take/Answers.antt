@@ -1,19 +1,28 @@
--- Each byte ends the line or is a byte more of it.
+-- Each part is a line's rest, which a newline ends, or the beginning of one that goes on.
 -- Assumes nothing.
-use Rattle.text.proofs.Scan.{no_rest}
+use Rattle.std.proofs.Common.{◌+◌, ◌∙◌, sym, arith}
+use lib.Seq.{length-take-le}
+use lib.ListN.{length-drop}
+use Rattle.text.proofs.Scan.{to_end, before_length}
+use Rattle.text.specs.Lines.{newline}
 use Rattle.console_held.specs.Questions.{most_line}
-use Rattle.console.specs.Session.{session_after}
-use Rattle.console.proofs.Growing.{then_ends, then_grows}
+use Rattle.console.proofs.Parts.{ends_at, goes_at}
 use Rattle.console.proofs.session.Session.take.Goals as goal
-use Rattle.console.proofs.session.Session.take.Goals.{then-byte-eq10, else-byte-eq10}
 
-pub loop-byte-preserved : goal.loop-byte-preserved
-loop-byte-preserved c =
-    elim c.if-byte-eq10.branch [
-      | then-byte-eq10 w ↦ rw (w.self-is, w.answer-is_written.ensures) (then_ends most_line _ _ _ _ c.loop-byte-test.true c.loop-byte.invariant w.if-byte-eq10.true)
-      | else-byte-eq10 w ↦ rw (w.self-is, w.push.ensures) (then_grows most_line _ _ _ _ c.loop-byte-test.true c.loop-byte.invariant w.if-byte-eq10.false)
-    ]
+pub slice_bounds-gather-end : goal.slice_bounds-gather-end
+slice_bounds-gather-end c =
+    let rest = c.loop-rest.rest.now in
+    sym (length-take-le c.width-n.result rest (omega (arith, c.width-n.ensures, before_length newline rest)))
 
-pub returns : goal.returns
-unfolding session_after
-returns c = rw (no_rest c.args.text.now c.loop-byte.byte-index c.loop-byte-test.false) at c.loop-byte.invariant
+pub loop-rest-preserved : goal.loop-rest-preserved
+loop-rest-preserved c =
+    let rest = c.loop-rest.rest.now in
+    let n = c.width-n.result in (
+      rw (to_end rest (n + 1), c.answer-is_written.ensures, c.gather.ensures)
+          (ends_at most_line rest c.loop-rest.self n c.width-n.ensures (omega (arith, c.if-rest-n.false)) ∙ c.loop-rest.invariant.0),
+      rw (to_end rest (n + 1)) (omega (arith, length-drop (n + 1) rest, c.loop-rest.invariant.1)),
+    )
+
+pub returns-then-rest-n : goal.returns-then-rest-n
+returns-then-rest-n c =
+    c.gather.ensures ∙ goes_at most_line c.loop-rest.rest.now c.loop-rest.self c.width-n.result c.width-n.ensures (omega (arith, c.if-rest-n.true)) ∙ c.loop-rest.invariant.0

@@ -7,4 +7,4 @@ use Rattle.console_held.proofs.unchecked.asked.number_in.Goals as goal
 
 pub returns : goal.returns
 unfolding zero_text
-returns c = c.number.ensures ∙ ap (number _) c.text_of.ensures
+returns g c = c.number.ensures ∙ ap (number _) c.text_of.ensures

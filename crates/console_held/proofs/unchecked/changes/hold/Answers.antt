@@ -1,14 +1,11 @@
--- What a refused reading returns is all zeros.
+-- The topology alone changes, and the reply is the answer.
 -- Assumes nothing.
 use Rattle.std.proofs.Common.{refl}
-use Rattle.topology_types.specs.Topology.{zeros}
-use Rattle.stream_rules.specs.Reading.{refusal}
 use Rattle.console_held.specs.Requests.{taken_answer}
-use Rattle.console_held.specs.Inner.{reply_text, room_of}
-use Rattle.console_held.proofs.Replying.{plain_reply}
+use Rattle.console_held.specs.Inner.{held_in}
+use Rattle.console_held.proofs.Replying.{answer_reply}
 use Rattle.console_held.proofs.unchecked.changes.hold.Goals as goal
 
-pub returns-in-Err : goal.returns-in-Err
-unfolding taken_answer refusal zeros reply_text room_of
-returns-in-Err c =
-    rw (← c.held.view_is, c.in-Err.is, c.empty-held-inside.ensures) (record { held = refl; replies = plain_reply refl })
+pub returns-clause-served : goal.returns-clause-served
+unfolding taken_answer held_in
+returns-clause-served c = rw c.of-reading.ensures (record { held = refl; replies = answer_reply refl })

@@ -2,10 +2,11 @@
 -- Assumes nothing.
 use Rattle.std.proofs.Common.{refl}
 use Rattle.console_held.specs.Requests.{carrying, hop_answer}
+use Rattle.console_held.specs.Inner.{held_in}
 use Rattle.console_held.proofs.unchecked.changes.hop.Goals as goal
 
-pub returns : goal.returns
-unfolding hop_answer carrying
-returns c =
-    let called = rw (c.table.ensures, ← c.held.view_is) at c.lend_to_hop-after.ensures in
-    rw (← c.held.view_is, ← called) (record { held = refl; replies = c.hop_reply.ensures })
+pub returns-clause-served : goal.returns-clause-served
+unfolding hop_answer carrying held_in
+returns-clause-served c =
+    let called = rw c.table.ensures at c.lend_to_hop-after.ensures in
+    rw (← called) (record { held = refl; replies = c.hop_reply.ensures.says })

@@ -20,7 +20,7 @@ pub returns-in-Err : goal.returns-in-Err
 unfolding coverage_line
 returns-in-Err c =
     let some = numbered c.in-Err.refusal.fault in
-    rw (← c.coverage.ensures, c.in-Err.is, ne_eqb (number_of c.in-Err.refusal.fault) 0 (λ e. omega (arith, some, e))) (answer_reply refl)
+    rw (← c.coverage.ensures, c.in-Err.is, ne_eqb (number_of c.in-Err.refusal.fault) 0 (λ e. omega (arith, some, e)), c.answer.ensures) (answer_reply refl)
 
 pub slice_bounds-result-length : goal.slice_bounds-result-length
 slice_bounds-result-length c =

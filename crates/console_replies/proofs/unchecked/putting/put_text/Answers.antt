@@ -1,7 +1,6 @@
 -- Each kind of reply has its line, which fits.
 -- Assumes nothing.
 use Rattle.std.proofs.Common.{ℕ, ◌≤◌, List, length, length-append, arith}
-use Rattle.topology_types.specs.Outcome.{number_of}
 use Rattle.text.specs.Lines.{refused_word, error_line, word_line}
 use Rattle.text.proofs.Texts.{answer_line_length, word_line_length, buffer_line_length}
 use Rattle.console_held.specs.declared.unchecked.reply.Fate.{Fate}
@@ -24,11 +23,7 @@ fate_short Dropped = omega arith
 
 pub put_buffer_line-requires : goal.put_buffer_line-requires
 unfolding room_of
-put_buffer_line-requires c = omega (arith, rw c.in-Leaves-Ok-default.is at c.requires.0, c.requires.1)
-
-pub put_buffer_line-requires-in-Leaves-Err-default : goal.put_buffer_line-requires-in-Leaves-Err-default
-unfolding room_of
-put_buffer_line-requires-in-Leaves-Err-default c = omega (arith, rw c.in-Leaves-Err-default.is at c.requires.0, c.requires.1)
+put_buffer_line-requires c = omega (arith, rw c.in-Leaves.is at c.requires.0, c.requires.1)
 
 pub put_line-requires : goal.put_line-requires
 unfolding room_of
@@ -38,37 +33,19 @@ pub returns-in-Error : goal.returns-in-Error
 unfolding reply_text error_line
 returns-in-Error c = rw c.in-Error.is (omega arith, c.put_error.ensures)
 
-pub returns-in-Says-Ok : goal.returns-in-Says-Ok
+pub returns-in-Says : goal.returns-in-Says
 unfolding reply_text answer_of
-returns-in-Says-Ok c =
-    let said = rw c.in-Says-Ok.is at c.in-Says-Ok.field-0-is in
-    rw (c.in-Says-Ok.is, said) (omega (arith, answer_line_length 0 0), c.put_answer_line.ensures)
+returns-in-Says c =
+    let a = c.in-Says.answer in
+    rw c.in-Says.is (omega (arith, answer_line_length a.number a.at), c.put_answer_line.ensures)
 
-pub returns-in-Says-Err : goal.returns-in-Says-Err
-unfolding reply_text answer_of
-returns-in-Says-Err c =
-    let r = c.in-Says-Err.refusal in
-    let said = rw c.in-Says-Err.is at c.in-Says-Err.field-0-is in
-    let put = rw c.number.ensures at c.put_answer_line-in-Says-Err.ensures in
-    rw (c.in-Says-Err.is, said) (omega (arith, answer_line_length (number_of r.fault) r.at), put)
-
-pub returns-in-Leaves-Ok-default : goal.returns-in-Leaves-Ok-default
+pub returns-in-Leaves : goal.returns-in-Leaves
 unfolding reply_text room_of
-returns-in-Leaves-Ok-default c =
-    let b = c.in-Leaves-Ok-default.buffer.now in
-    let left = rw c.in-Leaves-Ok-default.is at c.in-Leaves-Ok-default.field-0-is in
-    let short = rw c.in-Leaves-Ok-default.is at c.requires.0 in
-    rw (c.in-Leaves-Ok-default.is, left) (omega (arith, short, buffer_line_length 0 c.in-Leaves-Ok-default.written b), c.put_buffer_line.ensures)
-
-pub returns-in-Leaves-Err-default : goal.returns-in-Leaves-Err-default
-unfolding reply_text room_of
-returns-in-Leaves-Err-default c =
-    let r = c.in-Leaves-Err-default.refusal in
-    let b = c.in-Leaves-Err-default.buffer.now in
-    let left = rw c.in-Leaves-Err-default.is at c.in-Leaves-Err-default.field-0-is in
-    let short = rw c.in-Leaves-Err-default.is at c.requires.0 in
-    let put = rw c.number-in-Leaves-Err-default.ensures at c.put_buffer_line-in-Leaves-Err-default.ensures in
-    rw (c.in-Leaves-Err-default.is, left) (omega (arith, short, buffer_line_length (number_of r.fault) r.at b), put)
+returns-in-Leaves c =
+    let a = c.in-Leaves.answer in
+    let b = c.in-Leaves.buffer.now in
+    let short = rw c.in-Leaves.is at c.requires.0 in
+    rw c.in-Leaves.is (omega (arith, short, buffer_line_length a.number a.at b), c.put_buffer_line.ensures)
 
 pub returns-in-Line : goal.returns-in-Line
 unfolding reply_text room_of
@@ -82,6 +59,4 @@ returns-in-Finds c = rw c.in-Finds.is (word_fits _ _ _ (fate_short c.in-Finds.fa
 
 pub returns-in-Refused : goal.returns-in-Refused
 unfolding reply_text refused_word
-returns-in-Refused c =
-    let put = rw c.number-in-Refused.ensures at c.put_word_line.ensures in
-    rw c.in-Refused.is (word_fits _ _ _ (omega arith), put)
+returns-in-Refused c = rw c.in-Refused.is (word_fits _ _ _ (omega arith), c.put_word_line.ensures)

@@ -1,9 +1,9 @@
 -- The start of a lent buffer is a lent buffer.
 -- Assumes nothing.
-use Rattle.std.proofs.Common.{sym, ap, arith, length, take, ◌∙◌, refl, length-take-le, rules}
+use Rattle.std.proofs.Common.{sym, ap, arith, length, take, ◌∙◌, length-take-le, rules}
 use Rattle.std.specs.Fn.{FnOnceReturnsAtMut}
 use Rattle.console_held.specs.Questions.{most_room}
-use Rattle.console_replies.proofs.Lent.{lent_length, lent_start}
+use Rattle.console_replies.proofs.Lent.{lent_length, lent_start, leaves_by}
 use Rattle.console_replies.proofs.unchecked.replies.leaves.Goals as goal
 
 pub slice_bounds-out-end : goal.slice_bounds-out-end
@@ -15,4 +15,4 @@ pub returns : goal.returns
 returns g c =
     let first = ap (take c.args.room) c.requires.filled ∙ lent_start c.args.room most_room c.requires.room in
     let called : FnOnceReturnsAtMut g.F.FnOnce c.args.call (take c.args.room c.args.buffer.now) c.call-answer.result c.call-answer.new.arg2 = search rules in
-    (_, _, refl, rw first at called, c.call-answer.auto.arg2 ∙ ap length first ∙ lent_length c.args.room)
+    (_, _, leaves_by c.of.ensures, rw first at called, c.call-answer.auto.arg2 ∙ ap length first ∙ lent_length c.args.room)

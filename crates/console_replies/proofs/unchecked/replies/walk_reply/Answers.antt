@@ -21,4 +21,4 @@ returns-in-Ok-Dropped c =
 
 pub returns-in-Err : goal.returns-in-Err
 unfolding walk_text says fate_word reply_text room_of
-returns-in-Err c = rw c.in-Err.is (plain_reply refl)
+returns-in-Err c = rw (c.in-Err.is, c.answer.ensures) (plain_reply refl)

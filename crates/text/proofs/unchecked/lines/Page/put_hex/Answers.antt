@@ -1,21 +1,14 @@
--- The digits of a byte more behind those that are there.
+-- The digits of all bytes in their place.
 -- Assumes nothing.
-use Rattle.std.proofs.Common.{take, arith, length-take-le}
+use Rattle.std.proofs.Common.{refl}
 use Rattle.text.specs.Hex.{hex_of}
-use Rattle.text.proofs.Stores.{joined, nothing}
-use Rattle.text.proofs.Texts.{hex_more, hex_length}
+use Rattle.text.proofs.Stores.{in_place, placed}
+use Rattle.text.proofs.Texts.{hex_length}
 use Rattle.text.proofs.unchecked.lines.Page.put_hex.Goals as goal
 
-pub loop-b-init : goal.loop-b-init
-unfolding hex_of
-loop-b-init c = nothing _
-
-pub put-requires : goal.put-requires
-put-requires c =
+pub returns : goal.returns
+returns c =
+    let page = c.args.self.now in
     let bytes = c.args.bytes.now in
-    let i = c.loop-b.b-index in
-    omega (arith, hex_length (take i bytes), length-take-le i bytes c.loop-b.auto.b-index-end)
-
-pub loop-b-preserved : goal.loop-b-preserved
-loop-b-preserved c =
-    rw (hex_more c.args.bytes.now c.loop-b.b-index c.loop-b-test.true, ← c.digit.ensures, ← c.digit-in-loop-b.ensures) (joined c.loop-b.invariant c.put.ensures)
+    let l = hex_length bytes in
+    rw (← l) (placed page (hex_of bytes) _ refl (in_place page.bytes.now (hex_of bytes) _ page.filled (rw (l) c.requires) c.encode.ensures))
