@@ -1,14 +1,17 @@
 -- A text is taken part by part: what stands before a newline is gathered as one part, and the newline ends the line.
 -- Assumes nothing.
-use Rattle.std.proofs.Common.{ℕ, suc, ◌+◌, ◌≤◌, ◌<◌, Bool, true, false, cond, List, [], ◌∷◌, ◌++◌, ◌≡◌, ◌∙◌, ap, sym, refl, arith, length, take, drop, eqb, ltb, append_assoc, add-one}
+use Rattle.std.proofs.Common.{ℕ, suc, ◌+◌, ◌≤◌, ◌<◌, Bool, true, false, cond, List, [], ◌∷◌, ◌++◌, ◌≡◌, ◌∙◌, ap, sym, refl, arith, length, take, drop, eqb, ltb, append_assoc, add-one, leb, Some, None}
 use mathlib.Core.List.{append-nil}
-use borrow.Author.Tests.{lt-ltb, ltb-true}
+use borrow.Author.Tests.{lt-ltb, ltb-true, leb-true, leb-false}
 use lib.ListN.{length-append}
-use lib.Seq.{sets, sets-eq, length-take-le, take_at}
+use lib.Seq.{sets, sets-eq, length-sets, length-take-le, take_at}
 use Rattle.text.specs.Fields.{before}
+use Rattle.text.specs.Inner.{fits, count_with, buffer_with}
 use Rattle.text.proofs.Scan.{take_before}
 use Rattle.text.specs.Lines.{newline}
 use Rattle.console.specs.Session.{Line, some, too_long, State, longer, line_ends, line_grows, part_grows, session_after}
+use Rattle.console_held.specs.Questions.{most_line}
+use Rattle.console.specs.Inner.{line_gathered, InLine}
 
 -- a line with a part more, byte by byte
 pub with_part : ℕ → List ℕ → Line → Line
@@ -88,14 +91,35 @@ module _ (most : ℕ) where
 
   -- the line with a part more, in the buffer
   module _ (buffer part : List ℕ) (n : ℕ) (l : length buffer ≡ most) (h : n ≤ most) where
-    pub fits : n + length part ≤ most → some (take (n + length part) (sets buffer n part)) ≡ with_part most part (some (take n buffer))
-    fits k =
+    part_there : n + length part ≤ most → some (take (n + length part) (sets buffer n part)) ≡ with_part most part (some (take n buffer))
+    part_there k =
         let t : length (take n buffer) ≡ n = length-take-le n buffer (omega arith) in
         let m = length-append (take n buffer) part ∙ ap (λ (i : ℕ). i + length part) t in
         rw (sets-eq part buffer n (omega arith))
         (ap some (take_at (take n buffer ++ part) (drop (n + length part) buffer) (n + length part) m) ∙ sym (part_fits part (take n buffer) (omega arith)))
 
-    pub overflows : most < n + length part → too_long ≡ with_part most part (some (take n buffer))
-    overflows k =
+    part_over : most < n + length part → too_long ≡ with_part most part (some (take n buffer))
+    part_over k =
         let t : length (take n buffer) ≡ n = length-take-le n buffer (omega arith) in
         sym (part_too_long part (take n buffer) (omega arith) (omega arith))
+
+    -- as `gather` of `text` leaves it
+    pub line_with : line_gathered (buffer_with buffer n part) (count_with buffer n part) ≡ with_part most part (some (take n buffer))
+    unfolding buffer_with count_with fits line_gathered
+    line_with = cases (leb (n + length part) (length buffer)) refl
+      where
+        cases : (b : Bool) → leb (n + length part) (length buffer) ≡ b →
+            line_gathered (cond b (sets buffer n part) buffer) (cond b (Some (n + length part)) None) ≡ with_part most part (some (take n buffer))
+        cases true e = part_there (omega (arith, leb-true (n + length part) (length buffer) e))
+        cases false e = part_over (omega (arith, leb-false (n + length part) (length buffer) e))
+
+-- the line stays in its buffer
+pub keeps : (buffer part : List ℕ) (n : ℕ) → length buffer ≡ most_line →
+    (length (buffer_with buffer n part) ≡ most_line) × InLine (count_with buffer n part)
+unfolding buffer_with count_with fits
+keeps buffer part n l = cases (leb (n + length part) (length buffer)) refl
+  where
+    cases : (b : Bool) → leb (n + length part) (length buffer) ≡ b →
+        (length (cond b (sets buffer n part) buffer) ≡ most_line) × InLine (cond b (Some (n + length part)) None)
+    cases true e = (length-sets buffer n part ∙ l, omega (arith, leb-true (n + length part) (length buffer) e))
+    cases false e = (l, tt {0})

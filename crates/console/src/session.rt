@@ -10,7 +10,7 @@ use console_held::unchecked::holding::Holding;
 use console_replies::unchecked::putting;
 use program_io::STDOUT;
 use std::marker::Model;
-use text::unchecked::fields;
+use text::unchecked::{fields, lines};
 
 // Of the line as many bytes have come, which are the start of the buffer; none where they are too many.
 #[derive(Drop)]
@@ -73,12 +73,8 @@ impl Session {
         ensures { self.new ≡ part_grows most_line part.now self.old }
     {
         self.count = match self.count {
-            Some(n) if part.len() <= LINE - n => {
-                let end = n + part.len();
-                self.line[n..end].copy_from_slice(part);
-                Some(end)
-            }
-            _ => None,
+            Some(n) => lines::gather(&mut self.line, n, part),
+            None => None,
         };
     }
 

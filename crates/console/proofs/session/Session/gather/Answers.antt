@@ -1,14 +1,13 @@
 -- The part is behind the bytes that have come, where there is room.
 -- Assumes nothing.
-use Rattle.std.proofs.Common.{ℕ, ◌+◌, List, length, take, ap, arith, sym, ◌∙◌}
+use Rattle.std.proofs.Common.{ap, sym}
 use Rattle.console_held.specs.Questions.{most_line}
 use Rattle.console_held.specs.Inner.{held_in}
-use Rattle.console.specs.Session.{State, Line, some}
+use Rattle.console.specs.Session.{State, Line}
 use Rattle.console.specs.Inner.{line_gathered}
-use Rattle.text.proofs.Stores.{in_place}
-use Rattle.console.proofs.Parts.{part_of, stays_long, fits, overflows}
+use Rattle.console.proofs.Parts.{part_of, stays_long, line_with, keeps}
 use Rattle.console.proofs.session.Session.gather.Goals as goal
-use Rattle.console.proofs.session.Session.gather.Goals.{in-Some, in_default-2, in_default}
+use Rattle.console.proofs.session.Session.gather.Goals.{in-Some, in-None}
 
 pub returns : goal.returns
 unfolding line_gathered
@@ -19,14 +18,17 @@ returns c =
     rw (← c.self.view_is, part_of most_line part)
     (elim c.match-self.branch [
       | in-Some w ↦
-          let n = w.in-Some.n in
-          let inside = rw w.in-Some.is at c.self.invariant.1 in
-          rw (w.self-is, w.self-inside-is, w.in-Some.is)
-          (ap (λ (b : List ℕ). with_line (some (take (n + length part) b))) (in_place buffer part _ n (omega (arith, inside, w.if-part-n.true, c.self.told)) w.copy_from_slice.ensures.after)
-          ∙ ap with_line (fits most_line buffer part n c.self.told inside (omega (arith, inside, w.if-part-n.true))))
-      | in_default-2 w ↦
-          let n = w.in-Some.n in
-          let inside = rw w.in-Some.is at c.self.invariant.1 in
-          rw (w.self-is, w.self-inside-is, w.in-Some.is) (ap with_line (overflows most_line buffer part n c.self.told inside (omega (arith, w.if-part-n.false))))
-      | in_default w ↦ rw (w.self-is, w.self-inside-is, w.in_default.is) (ap with_line (sym (stays_long most_line part)))
+          let g = w.gather-self-inside.ensures in
+          rw (w.self-is, w.self-inside-is, w.in-Some.is, g.counted, g.stored)
+          (ap with_line (line_with most_line buffer part w.in-Some.n c.self.told (rw w.in-Some.is at c.self.invariant.1)))
+      | in-None w ↦ rw (w.self-is, w.self-inside-is, w.in-None.is) (ap with_line (sym (stays_long most_line part)))
     ])
+
+pub invariant_of-self : goal.invariant_of-self
+invariant_of-self c =
+    elim c.match-self.branch [
+      | in-Some w ↦
+          let g = w.gather-self-inside.ensures in
+          rw (w.self-is, w.self-inside-is, g.counted, g.stored) (keeps c.self.inside.line c.args.part.now w.in-Some.n c.self.told)
+      | in-None w ↦ rw (w.self-is, w.self-inside-is) (rw w.in-None.is at c.self.invariant)
+    ]
