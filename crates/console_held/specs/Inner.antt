@@ -1,6 +1,9 @@
 -- What the code's structs stand for, and what its functions leave.
 -- Assumes nothing.
-use Rattle.std.specs.Prelude.{ℕ, ◌≤◌, List, [], ◌∷◌, ◌++◌, ◌≡◌, length, take, map, Option, Some}
+use Rattle.std.specs.Prelude.{ℕ, ◌≤◌, List, [], ◌∷◌, ◌++◌, ◌≡◌, length, take, map, Option, Some, Result}
+use Rattle.topology_types.specs.declared.Refusal.{Refusal}
+use Rattle.topology_types.specs.Outcome as outcome
+use Rattle.topology_types.specs.Outcome.{refused, tested}
 use Rattle.text.specs.Hex.{byte_count, bytes}
 use Rattle.text.specs.Lines.{newline, refused_word, error_line, word_line, buffer_line}
 use Rattle.forwarding_rules.specs.Calls.{packet_in}
@@ -62,6 +65,15 @@ room_of (Leaves a buffer) = length buffer.now
 room_of (Line text) = length text.now
 room_of (Finds f p) = 0
 room_of (Refused a) = 0
+
+-- The answer in a reply is that of a result, a success's or a refusal's; in one that refuses it is a refusal's.
+unfoldable pub FromResult : Reply → Type 0
+FromResult Error = Unit {0}
+FromResult (Says a) = (r : Result (Unit {0}) Refusal) × (a ≡ tested r)
+FromResult (Leaves a buffer) = (r : Result ℕ Refusal) × (a ≡ outcome.answer_of r)
+FromResult (Line text) = Unit {0}
+FromResult (Finds f p) = Unit {0}
+FromResult (Refused a) = (r : Refusal) × (a ≡ refused r)
 
 -- A reply stands for this line, and has no more bytes of a buffer than ROOM can be.
 pub record Replies (text : List ℕ) (r : Reply) : Type 0 where

@@ -8,9 +8,10 @@ use mathlib.Core.Logic.{◌≢◌, ∥∥₁_elim}
 use mathlib.Core.Path.{◌≡◌, refl, sym, ap, ◌∙◌}
 use native.Mathlib.Bridge.{le_prop}
 use native.Mathlib.Omega.{arith}
-use borrow.Author.Tests.{ltb-true, lt-ltb, le-ltb, eqb-false}
+use borrow.Author.Tests.{ltb-true, lt-ltb, le-ltb, leb-false, eqb-false}
 use lib.Dec.{eqb, leb, ltb}
 use lib.ListN.{length, get_or, set}
+use lib.Seq.{get_or-set_other}
 use Rattle.std.specs.Prelude.{Ok, Err}
 use Rattle.topology_types.specs.declared.Fault.{Fault}
 use Rattle.topology_types.specs.declared.Half.{Half}
@@ -94,6 +95,13 @@ module _ (n : ℕ) (h : Half) (e : 0 ≡ ends_fault n h) where
 
   pub placed : n ≤ 64 → Placed h
   placed few = record { from_inside = omega (arith, ends_pass.0); to_inside = omega (arith, ends_pass.1) }
+
+-- a place that passes its test has room, and has it still with one half more that leaves another place
+pub room : (leaving : List ℕ) (u : ℕ) → 0 ≡ crowd_fault leaving u → get_or leaving u 0 < 16
+room leaving u e = leb-false _ _ (passed (leb 16 (get_or leaving u 0)) 9 0 (sym e)).0
+
+pub room_still : (leaving : List ℕ) (u v : ℕ) → v ≢ u → 0 ≡ crowd_fault leaving v → get_or (set leaving u (get_or leaving u 0 + 1)) v 0 < 16
+room_still leaving u v apart e = rw (get_or-set_other leaving u v (get_or leaving u 0 + 1) 0 apart) (room leaving v e)
 
 other_way : (b : Bool) → cond {A = ℕ} b 0 8 ≡ cond (not b) 8 0
 other_way true = refl

@@ -5,7 +5,7 @@ ghost use Rattle.forwarding_rules.specs.Calls.{packet_in, hop_says};
 ghost use Rattle.forwarding_rules.specs.Lent.{setting_packet, hopping_packet};
 ghost use Rattle.console_held.specs.Questions.{most_table};
 ghost use Rattle.console_held.specs.Requests.{hop_text, taken_answer, set_answer, hop_answer, read_by, import_by, load_by};
-ghost use Rattle.console_held.specs.Inner.{Replies, StepServed, held_in, question_in, room_of, change_to};
+ghost use Rattle.console_held.specs.Inner.{Replies, StepServed, FromResult, held_in, question_in, room_of, change_to};
 
 use super::holding::Holding;
 use super::query::Query;
@@ -30,6 +30,7 @@ pub enum Change {
 fn hold(held: &mut Holding, read: Result<Topology, Refusal>) -> Reply<'static>
     ensures served { StepServed (taken_answer (held_in held.old) (reading_of read)) (held_in held.new) result }
     ensures plain { room_of result ≡ 0 }
+    ensures returned { FromResult result }
 {
     let reading = Reading::of(read);
     held.topology = reading.topology;
@@ -40,6 +41,7 @@ fn hold(held: &mut Holding, read: Result<Topology, Refusal>) -> Reply<'static>
 pub fn read(held: &mut Holding, q: Query) -> Reply<'static>
     ensures served { StepServed (read_by (held_in held.old) (question_in q.entry)) (held_in held.new) result }
     ensures plain { room_of result ≡ 0 }
+    ensures returned { FromResult result }
 {
     hold(held, topology::read(q.bytes))
 }
@@ -48,6 +50,7 @@ pub fn read(held: &mut Holding, q: Query) -> Reply<'static>
 pub fn import(held: &mut Holding, q: Query) -> Reply<'static>
     ensures served { StepServed (import_by (held_in held.old) (question_in q.entry)) (held_in held.new) result }
     ensures plain { room_of result ≡ 0 }
+    ensures returned { FromResult result }
 {
     hold(held, ospf::import(q.bytes))
 }
@@ -58,16 +61,18 @@ pub fn load_table(held: &mut Holding, q: Query) -> Reply<'static>
     requires { length q.bytes.now ≤ most_table }
     ensures served { StepServed (load_by (held_in held.old) (question_in q.entry)) (held_in held.new) result }
     ensures plain { room_of result ≡ 0 }
+    ensures returned { FromResult result }
 {
     held.load(q.bytes);
     Reply::Says(Answer { number: 0, at: 0 })
 }
 
 // The packet is lent to the call, and held from then on as the call left it.
-#[tactic(auto, unfolding(crate::specs::Inner::room_of))]
+#[tactic(auto, unfolding(crate::specs::Inner::room_of, crate::specs::Inner::FromResult))]
 fn set(held: &mut Holding, start: Place) -> Reply<'static>
     ensures served { StepServed (set_answer (held_in held.old) (setting_packet held.old.topology start.0 (packet_in held.old.packet))) (held_in held.new) result }
     ensures plain { room_of result ≡ 0 }
+    ensures returned { FromResult result }
 {
     let after = forwarding::lend_to_set(held.packet, held.topology, start);
     held.packet = after.packet;
@@ -78,10 +83,11 @@ fn set(held: &mut Holding, start: Place) -> Reply<'static>
 }
 
 // What a hop says, with the packet as it is then.
-#[tactic(auto, unfolding(crate::specs::Inner::room_of))]
+#[tactic(auto, unfolding(crate::specs::Inner::room_of, crate::specs::Inner::FromResult))]
 fn hop_reply(answer: Result<Hop, Refusal>, packet: Packet) -> Reply<'static>
     ensures says { Replies (hop_text (hop_says answer) (packet_in packet)) result }
     ensures plain { room_of result ≡ 0 }
+    ensures returned { FromResult result }
 {
     match answer {
         Ok(Hop::Delivered) => Reply::Finds(Fate::Delivered, packet),
@@ -94,6 +100,7 @@ fn hop_reply(answer: Result<Hop, Refusal>, packet: Packet) -> Reply<'static>
 fn hop(held: &mut Holding, states: &[u8]) -> Reply<'static>
     ensures served { StepServed (hop_answer (held_in held.old) (hopping_packet held.old.topology (held_in held.old).table states.now (packet_in held.old.packet))) (held_in held.new) result }
     ensures plain { room_of result ≡ 0 }
+    ensures returned { FromResult result }
 {
     let after = forwarding::lend_to_hop(held.packet, held.topology, held.table(), states);
     held.packet = after.packet;
@@ -105,6 +112,7 @@ pub fn change_by(change: Change, held: &mut Holding, q: Query) -> Reply<'static>
     requires { length q.bytes.now ≤ most_table }
     ensures served { StepServed (change_to change (held_in held.old) (question_in q.entry)) (held_in held.new) result }
     ensures plain { room_of result ≡ 0 }
+    ensures returned { FromResult result }
 {
     match change {
         Change::Topology => read(held, q),

@@ -32,7 +32,8 @@ impl Table {
     ghost use Rattle.console_held.specs.Questions.{most_table};
 
     fn bytes(&self) -> &[u8]
-        ensures { result.now ≡ take self.now.0 self.now.1 }
+        ensures held { result.now ≡ take self.now.0 self.now.1 }
+        ensures few { length result.now ≤ most_table }
     {
         &self.buffer[..self.size]
     }
@@ -80,7 +81,8 @@ impl Holding {
 
     #[tactic(auto, unfolding(crate::specs::Inner::held_in))]
     pub fn table(&self) -> &[u8]
-        ensures { result.now ≡ (held_in self.now).table }
+        ensures held { result.now ≡ (held_in self.now).table }
+        ensures few { length (held_in self.now).table ≤ most_table }
     {
         self.held.bytes()
     }

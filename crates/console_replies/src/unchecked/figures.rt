@@ -8,7 +8,7 @@ ghost use Rattle.coverage_rules.specs.Inner.{most_text};
 ghost use Rattle.coverage_rules.specs.Printed.{fractions_text};
 ghost use Rattle.te.specs.Cost.{costing};
 ghost use Rattle.console_held.specs.Questions.{most_room};
-ghost use Rattle.console_held.specs.Inner.{Replies};
+ghost use Rattle.console_held.specs.Inner.{Replies, FromResult};
 ghost use Rattle.console_replies.specs.Calls.{lent, coverage_line, cost_line};
 ghost use Rattle.console_replies.specs.Inner.{zeros_text};
 
@@ -38,9 +38,11 @@ fn figures_in(out: &mut [u8], figures: &Coverage) -> usize
 }
 
 // `coverage`: the last space is left out.
+#[tactic(auto, unfolding(console_held::specs::Inner::FromResult))]
 pub(crate) fn cover<'a>(t: Topology, buffer: &'a mut [u8]) -> Reply<'a>
     requires { buffer.old ≡ lent most_room }
-    ensures { Replies (coverage_line (coverage t)) result }
+    ensures says { Replies (coverage_line (coverage t)) result }
+    ensures returned { FromResult result }
 {
     match report::coverage(t) {
         Ok(figures) => {
@@ -52,9 +54,11 @@ pub(crate) fn cover<'a>(t: Topology, buffer: &'a mut [u8]) -> Reply<'a>
 }
 
 // `te VALUE`
+#[tactic(auto, unfolding(console_held::specs::Inner::FromResult))]
 pub(crate) fn link_cost<'a>(value: &[u8], buffer: &'a mut [u8]) -> Reply<'a>
     requires { buffer.old ≡ lent most_room }
-    ensures { Replies (cost_line (costing value.now)) result }
+    ensures says { Replies (cost_line (costing value.now)) result }
+    ensures returned { FromResult result }
 {
     let numbers = costs::numbers_of(te::cost(value));
     let end = putting::put_numbers(buffer, &numbers);

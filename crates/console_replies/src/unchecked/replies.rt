@@ -4,7 +4,7 @@ ghost use Rattle.std.specs.Fn.{FnOnceReturnsAtMut};
 ghost use Rattle.topology_types.specs.Outcome.{answer_of};
 ghost use Rattle.forwarding_rules.specs.Calls.{walk_says};
 ghost use Rattle.console_held.specs.Questions.{most_room};
-ghost use Rattle.console_held.specs.Inner.{Replies, question_in};
+ghost use Rattle.console_held.specs.Inner.{Replies, FromResult, question_in};
 ghost use Rattle.console_replies.specs.Calls.{walk_text, lent};
 ghost use Rattle.console_replies.specs.Inner.{reply_to};
 
@@ -32,6 +32,7 @@ pub enum Call {
 }
 
 // Lends the first ROOM bytes of the buffer to a call: what it answers, and these bytes as it leaves them.
+#[tactic(auto, unfolding(console_held::specs::Inner::FromResult))]
 fn leaves<'a, F: FnOnce(&mut [u8]) -> Result<usize, Refusal>>(
     room: usize,
     buffer: &'a mut [u8],
@@ -40,7 +41,8 @@ fn leaves<'a, F: FnOnce(&mut [u8]) -> Result<usize, Refusal>>(
     requires room { room ≤ most_room }
     requires filled { buffer.old ≡ lent most_room }
     requires calls { F.IsAlwaysCallable call }
-    ensures { (answer : _) × (left : _) × (result ≡ Reply.Leaves (answer_of answer) left) × FnOnceReturnsAtMut F.FnOnce call (lent room) answer left.now × (length left.now ≡ room) }
+    ensures left { (answer : _) × (left : _) × (result ≡ Reply.Leaves (answer_of answer) left) × FnOnceReturnsAtMut F.FnOnce call (lent room) answer left.now × (length left.now ≡ room) }
+    ensures returned { FromResult result }
 {
     let out = &mut buffer[..room];
     let answer = call(out);
@@ -48,8 +50,10 @@ fn leaves<'a, F: FnOnce(&mut [u8]) -> Result<usize, Refusal>>(
 }
 
 // What a walk says.
+#[tactic(auto, unfolding(console_held::specs::Inner::FromResult))]
 fn walk_reply(walked: Result<Walk, Refusal>) -> Reply<'static>
-    ensures { Replies (walk_text (walk_says walked)) result }
+    ensures says { Replies (walk_text (walk_says walked)) result }
+    ensures returned { FromResult result }
 {
     match walked {
         Ok(Walk::Delivered(p)) => Reply::Finds(Fate::Delivered, p),
@@ -58,6 +62,7 @@ fn walk_reply(walked: Result<Walk, Refusal>) -> Reply<'static>
     }
 }
 
+#[tactic(auto, unfolding(console_held::specs::Inner::FromResult))]
 pub fn reply_by<'a>(
     call: Call,
     t: &Topology,
@@ -67,7 +72,8 @@ pub fn reply_by<'a>(
 ) -> Reply<'a>
     requires room { q.room ≤ most_room }
     requires filled { buffer.old ≡ lent most_room }
-    ensures { Replies (reply_to call t.now table.now (question_in q.entry)) result }
+    ensures says { Replies (reply_to call t.now table.now (question_in q.entry)) result }
+    ensures returned { FromResult result }
 {
     let t = *t;
     let Query {

@@ -17,7 +17,7 @@ returns-in-Some-Changes-default c =
 pub returns-in-Some-Replies-default : goal.returns-in-Some-Replies-default
 unfolding asked_answer answer_to leaving unchanged held_in
 returns-in-Some-Replies-default c =
-    let called = rw c.table.ensures at c.reply_by.ensures in
+    let called = rw c.table.ensures.held at c.reply_by.ensures.says in
     let e = rw c.in-Some-Replies-default.is at c.in-Some-Replies-default.field-0-0-is in
     rw (c.in-Some-Replies-default.is, e) (record { held = refl; replies = called })
 

@@ -4,7 +4,7 @@ use Rattle.std.proofs.Common.{refl}
 use Rattle.forwarding_rules.specs.Calls.{packet_in}
 use Rattle.console_held.specs.Requests.{carrying, answer_of, load_packet_by, setting_by, hop_by_lem}
 use Rattle.console_held.specs.Inner.{held_in, question_in, change_to}
-use Rattle.console_held.proofs.Replying.{answer_reply}
+use Rattle.console_held.proofs.Replying.{answer_reply, success_returned}
 use Rattle.console_held.proofs.unchecked.changes.change_by.Goals as goal
 
 pub returns-in-Topology-clause-served : goal.returns-in-Topology-clause-served
@@ -30,3 +30,6 @@ returns-in-Set-clause-served c = rw c.in-Set.is c.set.ensures.served
 pub returns-in-Hop-clause-served : goal.returns-in-Hop-clause-served
 unfolding change_to hop_by_lem held_in question_in
 returns-in-Hop-clause-served c = rw c.in-Hop.is c.hop.ensures.served
+
+pub returns-in-LoadPacket-clause-returned : goal.returns-in-LoadPacket-clause-returned
+returns-in-LoadPacket-clause-returned c = success_returned

@@ -8,5 +8,5 @@ use Rattle.console_held.proofs.unchecked.changes.hop.Goals as goal
 pub returns-clause-served : goal.returns-clause-served
 unfolding hop_answer carrying held_in
 returns-clause-served c =
-    let called = rw c.table.ensures at c.lend_to_hop-after.ensures in
+    let called = rw c.table.ensures.held at c.lend_to_hop-after.ensures in
     rw (← called) (record { held = refl; replies = c.hop_reply.ensures.says })

@@ -30,9 +30,9 @@ slice_bounds-result-end c =
     let line = numbers_line c.numbers_of-numbers.result c.put_numbers-end.ensures (omega (arith, size, whole)) in
     sym (length-take-le c.put_numbers-end.result c.put_numbers-end.new.out line.1)
 
-pub returns : goal.returns
+pub returns-clause-says : goal.returns-clause-says
 unfolding cost_line reply_text room_of
-returns c =
+returns-clause-says c =
     let whole = ap length c.requires ∙ lent_length most_room in
     let size = ap length c.numbers_of-numbers.ensures ∙ nine (costing_of c.cost.result) in
     let line = numbers_line c.numbers_of-numbers.result c.put_numbers-end.ensures (omega (arith, size, whole)) in

@@ -11,8 +11,8 @@ slice_bounds-out-end g c =
     let whole = ap length c.requires.filled ∙ lent_length most_room in
     sym (length-take-le _ _ (omega (arith, whole, c.requires.room)))
 
-pub returns : goal.returns
-returns g c =
+pub returns-clause-left : goal.returns-clause-left
+returns-clause-left g c =
     let first = ap (take c.args.room) c.requires.filled ∙ lent_start c.args.room most_room c.requires.room in
     let called : FnOnceReturnsAtMut g.F.FnOnce c.args.call (take c.args.room c.args.buffer.now) c.call-answer.result c.call-answer.new.arg2 = search rules in
     (_, _, leaves_by c.of.ensures, rw first at called, c.call-answer.auto.arg2 ∙ ap length first ∙ lent_length c.args.room)
