@@ -24,7 +24,7 @@ returns-in-Err-clause-says c =
 
 pub returns-in-Err-clause-returned : goal.returns-in-Err-clause-returned
 unfolding FromResult
-returns-in-Err-clause-returned c = (Err c.in-Err.refusal, c.answer.ensures)
+returns-in-Err-clause-returned c = (Err c.in-Err.refusal, rw c.answer.ensures refl)
 
 pub slice_bounds-result-length : goal.slice_bounds-result-length
 slice_bounds-result-length c =
